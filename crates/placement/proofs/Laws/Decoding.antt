@@ -1,0 +1,176 @@
+-- Bytes that are a block's are those of the block read back from them. Assumes nothing.
+use mathlib.Core.Path.{_≡_, refl, sym, ap, _∙_, subst}
+use mathlib.Core.Logic.{_≢_}
+use mathlib.Core.Bool.{Bool, cond, true≢false}
+use mathlib.Core.List.{List, [], _∷_, _++_, map}
+use Prim.Native.Nat.{ℕ, zero, suc, _+_, _*_, _-_, _≤_, _<_}
+use native.Mathlib.Nat.{suc-mul, add-comm, zero-mul}
+use native.Mathlib.Omega.{arith}
+use lib.Dec.{eqb}
+use lib.ListN.{length, getD, take, drop, replicate, length-drop, length-map, take-append-drop}
+use borrow.Author.Tests.{eq-eqb, ne-eqb}
+use lib.Seq.{drop-drop, length-take-le}
+use Rattle.placement.specs.Numbers.{big, field}
+use Rattle.placement.specs.Decode.{node-in, nodes-from, chunk-of, block-of, cut, blocks-in}
+use Rattle.placement.specs.Chunks.{node-bytes, nodes-bytes, block-bytes, all-bytes, Chunk}
+use Rattle.placement.specs.Header.{block-long}
+use Rattle.placement.specs.Parts.{block-in}
+use Rattle.placement.specs.Blocks.{empty, holds}
+use Rattle.placement.specs.declared.Sizes.{Sizes}
+use Rattle.placement.proofs.Laws.Bridge.{Good, free, held, All-good, good-none, good-more, all-join}
+use Rattle.placement.proofs.Laws.Cells.{join, cut-length, as-table}
+use Rattle.placement.specs.Numbers.{rows-in}
+use Rattle.placement.specs.Numbers.{rows}
+use Rattle.placement.proofs.Laws.Numbers.{Bytes, bytes-take, bytes-drop, take-more, field-again, field-less}
+use Rattle.placement.specs.Maps.{Fines}
+
+pub node-again : (xs : List ℕ) → 12 ≤ length xs → Bytes xs → node-bytes (node-in xs) ≡ take 12 xs
+unfolding node-bytes node-in
+node-again xs h b =
+    rw (field-again 0 4 xs (omega arith) b, field-again 4 4 xs (omega arith) b, field-again 8 4 xs (omega arith) b, take-more 4 4 xs, take-more 8 4 xs)
+
+pub nodes-again : (k : ℕ) (xs : List ℕ) → 12 * k ≤ length xs → Bytes xs → nodes-bytes (nodes-from k xs) ≡ take (12 * k) xs
+unfolding rows rows-in
+nodes-again zero xs h b = refl
+nodes-again (suc k) xs h b =
+    let e : 12 * suc k ≡ 12 + 12 * k = omega arith in
+    rw (e, node-again xs (omega arith) b, nodes-again k (drop 12 xs) (simp length-drop (omega arith)) (bytes-drop 12 xs b)) (take-more 12 (12 * k) xs)
+
+-- nodes read from bytes are of numbers of four bytes
+fine-read : (k : ℕ) (xs : List ℕ) → 12 * k ≤ length xs → Bytes xs → Fines (nodes-from k xs)
+unfolding rows-in node-in
+fine-read zero xs h b = tt
+fine-read (suc k) xs h b = (
+  record { key = field-less 0 4 xs (omega arith) b; total = field-less 4 4 xs (omega arith) b; displayed = field-less 8 4 xs (omega arith) b },
+  fine-read k (drop 12 xs) (simp length-drop (omega arith)) (bytes-drop 12 xs b),
+)
+
+pub nodes-count : (k : ℕ) (xs : List ℕ) → length (nodes-from k xs) ≡ k
+unfolding rows-in
+nodes-count zero xs = refl
+nodes-count (suc k) xs = ap suc (nodes-count k (drop 12 xs))
+
+-- what is asked of the bytes of one block: all zero, or a label, nodes and zeros
+pub data Clean (s : Sizes) (x : List ℕ) : Type 0 where
+  zeros : getD x 0 0 ≡ 0 → x ≡ replicate (block-long s) 0 → Clean s x
+  filled : 0 < getD x 0 0 → 0 < getD x 1 0 → getD x 1 0 ≤ s .nodes → drop (8 + 12 * getD x 1 0) x ≡ replicate (12 * (s .nodes - getD x 1 0)) 0 → Clean s x
+
+front-two : (x : List ℕ) → 2 ≤ length x → getD x 0 0 ∷ getD x 1 0 ∷ [] ≡ take 2 x
+front-two [] h = absurd (omega arith)
+front-two (a ∷ []) h = absurd (omega arith)
+front-two (a ∷ b ∷ x) h = refl
+
+five-parts : (k : ℕ) (a b c n z x : List ℕ) → a ≡ take 2 x → b ≡ take 2 (drop 2 x) → c ≡ take 4 (drop 4 x) → n ≡ take k (drop 8 x) → z ≡ drop (8 + k) x → a ++ b ++ c ++ n ++ z ≡ x
+five-parts k a b c n z x ea eb ec en ez = rw (ea, eb, ec, en, ez, take-more 2 2 x, take-more 4 4 x, take-more 8 k x) (take-append-drop (8 + k) x)
+
+chunk-again : (s : Sizes) (x : List ℕ) → length x ≡ 8 + 12 * s .nodes → Bytes x → getD x 1 0 ≤ s .nodes → drop (8 + 12 * getD x 1 0) x ≡ replicate (12 * (s .nodes - getD x 1 0)) 0
+    → block-bytes s (holds (chunk-of x)) ≡ x
+unfolding block-bytes chunk-of
+chunk-again s x long b few rest =
+    let n : length (nodes-from (getD x 1 0) (drop 8 x)) ≡ getD x 1 0 = nodes-count (getD x 1 0) (drop 8 x) in
+    let d : length (drop 8 x) ≡ 12 * s .nodes = simp length-drop (omega arith) in
+    five-parts (12 * getD x 1 0) (getD x 0 0 ∷ length (nodes-from (getD x 1 0) (drop 8 x)) ∷ []) (big 2 (field 2 2 x)) (big 4 (field 4 4 x))
+    (nodes-bytes (nodes-from (getD x 1 0) (drop 8 x))) (replicate (12 * (s .nodes - length (nodes-from (getD x 1 0) (drop 8 x)))) 0) x
+    (ap (λ (k : ℕ). getD x 0 0 ∷ k ∷ []) n ∙ front-two x (omega arith)) (field-again 2 2 x (omega arith) b) (field-again 4 4 x (omega arith) b)
+    (nodes-again (getD x 1 0) (drop 8 x) (omega arith) (bytes-drop 8 x b)) (ap (λ (k : ℕ). replicate (12 * (s .nodes - k)) 0) n ∙ sym rest)
+
+empty-again : (s : Sizes) → block-bytes s empty ≡ replicate (block-long s) 0
+unfolding block-bytes
+empty-again s = refl
+
+-- BYTES OF A BLOCK are those of the block read back
+pub block-again : (s : Sizes) (x : List ℕ) → length x ≡ block-long s → Bytes x → Clean s x → block-bytes s (block-of x) ≡ x
+unfolding block-of block-long
+block-again s x long b (zeros z e) = ap (λ (t : Bool). block-bytes s (cond t empty (holds (chunk-of x)))) (eq-eqb (getD x 0 0) 0 z) ∙ empty-again s ∙ sym e
+block-again s x long b (filled l one few rest) = rw (ne-eqb (getD x 0 0) 0 (omega arith)) (chunk-again s x long b few rest)
+
+-- .. and that block is one that bytes can hold
+pub block-holdable : (s : Sizes) (x : List ℕ) → length x ≡ block-long s → Bytes x → Clean s x → Good s (block-of x)
+unfolding block-of block-long chunk-of
+block-holdable s x long b (zeros z e) = rw (eq-eqb (getD x 0 0) 0 z) free
+block-holdable s x long b (filled l one few rest) =
+    rw (ne-eqb (getD x 0 0) 0 (omega arith))
+    (held {c = chunk-of x} (record {
+      level = l;
+      first = field-less 4 4 x (omega arith) b;
+      number = field-less 2 2 x (omega arith) b;
+      fine = fine-read (getD x 1 0) (drop 8 x) (simp length-drop (omega arith)) (bytes-drop 8 x b);
+      nodes = rw nodes-count few;
+    }))
+
+-- .. and its chunk has nodes
+some-nodes : (k : ℕ) (xs : List ℕ) → 0 < k → nodes-from k xs ≢ []
+unfolding rows-in
+some-nodes zero xs h e = omega arith
+some-nodes (suc k) xs h e = true≢false cc
+
+pub block-full : (s : Sizes) (x : List ℕ) → Clean s x → (c : Chunk) → block-of x ≡ holds c → c .nodes ≢ []
+unfolding block-of chunk-of
+block-full s x (zeros z e) c h =
+    let f : cond (eqb (getD x 0 0) 0) empty (holds (chunk-of x)) ≡ empty = rw (eq-eqb (getD x 0 0) 0 z) in
+    absurd (true≢false (cc (f, h)))
+block-full s x (filled l one few rest) c h =
+    let f : cond (eqb (getD x 0 0) 0) empty (holds (chunk-of x)) ≡ holds (chunk-of x) = rw (ne-eqb (getD x 0 0) 0 (omega arith)) in
+    let g : chunk-of x ≡ c = cc (f, h) in
+    subst (λ (d : Chunk). d .nodes ≢ []) g (some-nodes (getD x 1 0) (drop 8 x) one)
+
+-- ALL BLOCKS
+module _ (s : Sizes) where
+  abbrev Cut-clean : (m : ℕ) → List ℕ → Type 0
+  Cut-clean m l = (i : ℕ) → i < m → Clean s (take (block-long s) (drop (i * block-long s) l))
+
+  first-clean : (m : ℕ) (l : List ℕ) → Cut-clean (suc m) l → Clean s (take (block-long s) l)
+  first-clean m l c = subst (λ (z : List ℕ). Clean s (take (block-long s) z)) (ap (λ (k : ℕ). drop k l) (zero-mul (block-long s))) (c 0 (omega arith))
+
+  rest-clean : (m : ℕ) (l : List ℕ) → Cut-clean (suc m) l → Cut-clean m (drop (block-long s) l)
+  rest-clean m l c i h =
+      let e : suc i * block-long s ≡ block-long s + i * block-long s = suc-mul i (block-long s) ∙ add-comm _ _ in
+      rw drop-drop (subst (λ (k : ℕ). Clean s (take (block-long s) (drop k l))) e (c (suc i) (omega arith)))
+
+  cut-again : (m : ℕ) (l : List ℕ) → length l ≡ m * block-long s → Bytes l → Cut-clean m l → map (block-bytes s) (map block-of (cut (block-long s) m l)) ≡ cut (block-long s) m l
+  unfolding rows-in
+  cut-again zero l e b c = refl
+  cut-again (suc m) l e b c =
+      let x = block-again s (take (block-long s) l) (length-take-le (block-long s) l (omega (arith, suc-mul m (block-long s)))) (bytes-take (block-long s) l b) (first-clean m l c) in
+      let xs = cut-again m (drop (block-long s) l) (simp length-drop (omega (arith, suc-mul m (block-long s)))) (bytes-drop (block-long s) l b) (rest-clean m l c) in
+      λ i. x i ∷ xs i
+
+  cut-good : (m : ℕ) (l : List ℕ) → length l ≡ m * block-long s → Bytes l → Cut-clean m l → All-good s (map block-of (cut (block-long s) m l))
+  unfolding rows-in
+  cut-good zero l e b c = good-none
+  cut-good (suc m) l e b c =
+      good-more (block-holdable s (take (block-long s) l) (length-take-le (block-long s) l (omega (arith, suc-mul m (block-long s)))) (bytes-take (block-long s) l b) (first-clean m l c))
+      (cut-good m (drop (block-long s) l) (simp length-drop (omega (arith, suc-mul m (block-long s)))) (bytes-drop (block-long s) l b) (rest-clean m l c))
+
+  cut-full : (m : ℕ) (l : List ℕ) → Cut-clean m l → (i : ℕ) (c : Chunk) → getD (map block-of (cut (block-long s) m l)) i empty ≡ holds c → c .nodes ≢ []
+  unfolding rows-in
+  cut-full zero l k i c e = absurd (true≢false cc)
+  cut-full (suc m) l k zero c e = block-full s (take (block-long s) l) (first-clean m l k) c e
+  cut-full (suc m) l k (suc i) c e = cut-full m (drop (block-long s) l) (rest-clean m l k) i c e
+
+  module _ (bs : List ℕ) (long : length bs ≡ 53 + s .blocks * block-long s) (bytes : Bytes bs) (clean : (i : ℕ) → i < s .blocks → Clean s (block-in (block-long s) bs i)) where
+    cuts : Cut-clean (s .blocks) (drop 53 bs)
+    unfolding block-in
+    cuts i h = rw drop-drop (clean i h)
+
+    body : length (drop 53 bs) ≡ s .blocks * block-long s
+    body = simp length-drop (omega arith)
+
+    -- THE BYTES are a header and the blocks read back, which bytes can hold
+    pub table-again : bs ≡ take 53 bs ++ all-bytes s (blocks-in s bs)
+    unfolding blocks-in
+    table-again =
+        sym (as-table (block-long s) (s .blocks) bs long)
+        ∙ ap (λ (x : List ℕ). take 53 bs ++ x) (ap join (sym (cut-again (s .blocks) (drop 53 bs) body (bytes-drop 53 bs bytes) cuts)) ∙ sym (all-join s (map block-of (cut (block-long s) (s .blocks) (drop 53 bs)))))
+
+    pub blocks-good : All-good s (blocks-in s bs)
+    unfolding blocks-in
+    blocks-good = cut-good (s .blocks) (drop 53 bs) body (bytes-drop 53 bs bytes) cuts
+
+    pub blocks-many : length (blocks-in s bs) ≡ s .blocks
+    unfolding blocks-in
+    blocks-many = length-map (cut (block-long s) (s .blocks) (drop 53 bs)) block-of ∙ cut-length (block-long s) (s .blocks) (drop 53 bs)
+
+    pub blocks-full : (i : ℕ) (c : Chunk) → getD (blocks-in s bs) i empty ≡ holds c → c .nodes ≢ []
+    unfolding blocks-in
+    blocks-full i c e = cut-full (s .blocks) (drop 53 bs) cuts i c e

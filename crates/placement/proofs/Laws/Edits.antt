@@ -1,0 +1,156 @@
+-- Search, removal, insertion and change by the code, on a header and blocks as bytes, are those of the theory on the blocks. Assumes nothing.
+use mathlib.Core.Path.{_≡_, refl, sym, ap, _∙_}
+use mathlib.Core.Logic.{_≢_}
+use mathlib.Core.Bool.{false}
+use mathlib.Core.List.{List, [], _++_, map}
+use Prim.Native.Nat.{ℕ, _+_, _*_, _-_, _%_, _≤_, _<_}
+use native.Mathlib.Nat.{mod-lt, add-zero}
+use native.Mathlib.Omega.{arith}
+use lib.ListN.{length, getD, set, length-map, length-set}
+use Rattle.placement.specs.Blocks.{Block, empty, holds, around, is-free}
+use Rattle.placement.specs.declared.Sizes.{Sizes}
+use Rattle.placement.specs.declared.Order.{Order}
+use Rattle.placement.specs.Chunks.{Chunk, home, label-before, block-bytes, all-bytes, nodes-bytes}
+use Rattle.placement.specs.Header.{block-long}
+use Rattle.placement.specs.Parts.{block-in, put-block}
+use Rattle.placement.specs.Place.{label-in, probe, search-in, distance-of, bytes, pull, settle, free-in, head-bytes, block-with, inserted, home-of}
+use Rattle.placement.specs.Maps.{Map, at, Keeps, Holdable, labelled, nodes-of}
+use Rattle.placement.specs.declared.Label.{Label}
+use Rattle.placement.specs.declared.Found.{Found}
+use Rattle.placement.specs.declared.Found.the-variants.{At, Nothing}
+use Rattle.placement.proofs.Laws.Maps.{absent-other}
+use Rattle.placement.proofs.Laws.Round.{steps-to}
+use Rattle.placement.proofs.Laws.Placed.{gap}
+use Rattle.placement.proofs.Laws.Removal.{removed-at}
+use Rattle.placement.proofs.Laws.Insertion.{insert-from, Carry}
+use Rattle.placement.proofs.Laws.Labels.{labels-strict, labels-chain, home-tied, home-inside}
+use Rattle.placement.proofs.Laws.Cells.{join, table-block, table-put}
+use Rattle.placement.proofs.Laws.Bridge.{Good, held, All-good, label-of, good-at, good-set, all-join, even-all, map-set, bytes-at, length-block, pull-blocks, settle-blocks, label-blocks, probe-blocks}
+use Rattle.placement.proofs.Laws.Pulling.{pull-removed, distance-steps}
+use Rattle.placement.proofs.Laws.Settling.{Ahead, settle-theory, First-free, free-first, free-found}
+use Rattle.placement.specs.Hash.{level}
+
+-- a block that holds nothing, by its label
+free-label : (s : Sizes) (b : Block Chunk) → Good s b → label-of b .level ≡ 0 → b ≡ empty
+unfolding label-of
+free-label s empty q e = refl
+free-label s (holds c) (held q) e = absurd (omega (arith, q .level))
+
+full-label : (s : Sizes) (b : Block Chunk) → Good s b → label-of b .level ≢ 0 → is-free b ≡ false
+unfolding label-of
+full-label s empty q n = absurd (n refl)
+full-label s (holds c) q n = refl
+
+empty-label : (b : Block Chunk) → b ≡ empty → label-of b .level ≡ 0
+unfolding label-of
+empty-label b e = rw e
+
+-- the bytes of a chunk's block, as the code writes them
+pub block-written : (s : Sizes) (w : Label) (ns : List Order) → length ns ≤ s .nodes
+    → block-with (block-long s) w (length ns) (nodes-bytes ns) ≡ block-bytes s (holds (labelled w ns))
+unfolding block-with head-bytes block-bytes block-long
+block-written s w ns h =
+    let e : 8 + 12 * s .nodes - 8 - 12 * length ns ≡ 12 * (s .nodes - length ns) = omega arith in
+    rw e
+
+-- the home of a label
+pub home-labelled : (s : Sizes) (w : Label) (ns : List Order) → home-of s w ≡ home s (labelled w ns)
+unfolding home-of home
+home-labelled s w ns = refl
+
+-- a table of sizes s: a header and blocks
+module _ (s : Sizes) (some : 0 < s .blocks) (hd : List ℕ) (eh : length hd ≡ 53) (bl : List (Block Chunk)) (v : All-good s bl) (long : length bl ≡ s .blocks) where
+  -- a block of the bytes, and one written
+  cells-long : length (map (block-bytes s) bl) ≡ s .blocks
+  cells-long = length-map bl (block-bytes s) ∙ long
+
+  pub block-bytes-at : (i : ℕ) → i < s .blocks → block-in (block-long s) (hd ++ all-bytes s bl) i ≡ block-bytes s (getD bl i empty)
+  block-bytes-at i h =
+      rw all-join
+      (table-block (block-long s) hd eh (even-all s v) i (omega (arith, cells-long)) ∙ bytes-at s bl i (s .blocks) h long)
+
+  pub block-put : (i : ℕ) (b : Block Chunk) → i < s .blocks → Good s b → put-block (block-long s) (hd ++ all-bytes s bl) i (block-bytes s b) ≡ hd ++ all-bytes s (set bl i b)
+  block-put i b h q =
+      rw (all-join s bl)
+      (table-put (block-long s) hd eh (even-all s v) i (omega (arith, cells-long)) (block-bytes s b) (length-block s q)
+      ∙ ap (λ (x : List ℕ). hd ++ x) (ap join (sym (map-set s bl i b)) ∙ sym (all-join s (set bl i b))))
+
+  pub search-blocks : (w : Label) → search-in s (hd ++ all-bytes s bl) w ≡ probe (λ j. label-of (getD bl j empty)) (s .blocks) w (s .blocks) (home s (labelled w []))
+  unfolding search-in
+  search-blocks w = rw (home-labelled s w []) (probe-blocks s (s .blocks) some hd eh bl v long w (s .blocks) (home s (labelled w [])))
+
+  pub pull-at : (i : ℕ) → i < s .blocks → pull (bytes (block-long s)) (home-of s) (s .blocks) (s .blocks - 1) i (i + 1) (hd ++ all-bytes s bl) ≡ hd ++ all-bytes s (removed-at (home s) (s .blocks) i bl)
+  pull-at i h =
+      pull-blocks s (s .blocks) some hd eh bl v long (home-of s) (s .blocks - 1) i (i + 1) h
+      ∙ ap (λ (x : List (Block Chunk)). hd ++ all-bytes s x) (pull-removed s some i bl v h)
+
+  -- INSERTION
+  module _ (F : Map) (n : ℕ) (k : Keeps s bl F n) (w : Label) (ns : List Order) (q : Holdable s (labelled w ns)) (gone : nodes-of F w ≡ []) (room : n < s .blocks) where
+    abbrev start : ℕ
+    start = home s (labelled w ns)
+
+    look-at : (j : ℕ) → label-in (block-long s) (hd ++ all-bytes s bl) (j % s .blocks) ≡ label-of (around (s .blocks) bl j)
+    unfolding around
+    look-at j = label-blocks s (s .blocks) some hd eh bl v long (j % s .blocks) (mod-lt j some)
+
+    good-around : (j : ℕ) → Good s (around (s .blocks) bl j)
+    unfolding around
+    good-around j = good-at s v (j % s .blocks)
+
+    -- some block is empty
+    not-nothing : free-in (label-in (block-long s) (hd ++ all-bytes s bl)) (s .blocks) (s .blocks) start ≢ Nothing
+    unfolding around
+    not-nothing =
+        let z = gap bl (omega (arith, k .count)) in
+        let t = steps-to (s .blocks) start (home-inside s some (labelled w ns)) (z .at) (omega (arith, z .inside)) in
+        free-found (label-in (block-long s) (hd ++ all-bytes s bl)) (s .blocks) (s .blocks) start (t .steps) (t .few)
+        (ap (λ (l : Label). l .level) (look-at (start + t .steps)) ∙ empty-label (around (s .blocks) bl (start + t .steps)) (rw (t .there) (z .is)))
+
+    module _ (e : ℕ) (r : First-free (label-in (block-long s) (hd ++ all-bytes s bl)) (s .blocks) (s .blocks) start e) where
+      inside : e < s .blocks
+      inside = rw (← r .there) (mod-lt (start + r .steps) some)
+
+      around-free : around (s .blocks) bl (start + r .steps) ≡ empty
+      around-free =
+          free-label s (around (s .blocks) bl (start + r .steps)) (good-around (start + r .steps))
+          (ap (λ (l : Label). l .level) (sym (look-at (start + r .steps))) ∙ ap (λ (j : ℕ). label-in (block-long s) (hd ++ all-bytes s bl) j .level) (r .there) ∙ r .free)
+
+      around-full : (l : ℕ) → l < r .steps → is-free (around (s .blocks) bl (start + l)) ≡ false
+      around-full l h =
+          full-label s (around (s .blocks) bl (start + l)) (good-around (start + l))
+          (λ z. r .full l h (ap (λ (l : Label). l .level) (look-at (start + l)) ∙ z))
+
+      ahead : Ahead s some (r .steps) start e bl
+      unfolding around
+      ahead = record { long = long; there = r .there; free = ap (λ (j : ℕ). getD bl j empty) (sym (r .there)) ∙ around-free; full = around-full }
+
+      carry : Carry (home s) label-before (s .blocks) labels-strict labels-chain (home-tied s) (home-inside s some) (s .blocks) start (labelled w ns) bl
+      carry = record {
+        long = long;
+        rule-3 = k .rule-3;
+        other = absent-other s some bl F (labelled w ns) (k .map) gone;
+        steps = 0;
+        there = ap (λ (x : ℕ). x % s .blocks) (add-zero start);
+        smaller = λ l h. absurd (omega arith);
+        gap = r .steps;
+        near = r .few;
+        free = around-free;
+      }
+
+      steps-is : distance-of (s .blocks) start e ≡ r .steps
+      steps-is = distance-steps (s .blocks) start e (r .steps) (home-inside s some (labelled w ns)) inside (r .few) (r .there)
+
+      insert-here : settle (bytes (block-long s)) (s .blocks) (r .steps) e start (put-block (block-long s) (hd ++ all-bytes s bl) e (block-bytes s (holds (labelled w ns))))
+          ≡ hd ++ all-bytes s (insert-from label-before (s .blocks) start (s .blocks) (labelled w ns) bl)
+      insert-here =
+          rw (block-put e (holds (labelled w ns)) inside (held q))
+          (settle-blocks s (s .blocks) some hd eh (set bl e (holds (labelled w ns))) (good-set s v e (held q)) (length-set bl e _ ∙ long) (r .steps) e start inside
+          ∙ ap (λ (x : List (Block Chunk)). hd ++ all-bytes s x) (settle-theory s some e inside (r .steps) (s .blocks) start (labelled w ns) bl carry ahead))
+
+    pub insert-at : (r : Found) → r ≡ free-in (label-in (block-long s) (hd ++ all-bytes s bl)) (s .blocks) (s .blocks) start
+        → inserted s r w (length ns) (nodes-bytes ns) (hd ++ all-bytes s bl) ≡ hd ++ all-bytes s (insert-from label-before (s .blocks) start (s .blocks) (labelled w ns) bl)
+    unfolding inserted
+    insert-at (At e) h =
+        let r = free-first (label-in (block-long s) (hd ++ all-bytes s bl)) (s .blocks) (s .blocks) start e (sym h) in
+        rw (block-written s w ns (q .nodes), home-labelled s w ns, steps-is e r) (insert-here e r)
+    insert-at Nothing h = absurd (not-nothing (sym h))

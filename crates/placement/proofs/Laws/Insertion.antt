@@ -1,0 +1,276 @@
+-- Insertion by ordered probes: walk from home, change the carried chunk for the first larger label, stop at an empty block. Assumes nothing.
+use mathlib.Core.Path.{_≡_, refl, sym, ap, _∙_}
+use mathlib.Core.Logic.{_⊎_, inl, inr}
+use mathlib.Core.Bool.{Bool, true, false, cond, true≢false, false≢true}
+use mathlib.Core.List.{List}
+use Prim.Native.Nat.{ℕ, zero, suc, _+_, _%_, _<_}
+use native.Mathlib.Nat.{add-zero, mod-lt, suc-mod}
+use native.Mathlib.Decide.{decLt, ℕ-discrete}
+use native.Mathlib.Omega.{arith}
+use lib.ListN.{length}
+use Rattle.placement.specs.Blocks.{Block, empty, holds, around, stored, holds-smaller, Stands, Smaller-to, Rule-3, how-many}
+use Rattle.placement.proofs.Laws.Round.{steps-to, steps-same, Which, which, less, same, more}
+use Rattle.placement.proofs.Laws.Blocks.{around-mod, stored-there, stored-elsewhere, stored-mod, stored-long, Far, far}
+use Rattle.placement.proofs.Laws.Store.{after-store, before-store, stored-stands, store-keeps}
+use Rattle.placement.proofs.Laws.Placed.{gap, store-count}
+
+abbrev pub insert-step : {A : Type 0} → (A → A → Bool) → A → Block A → (put-here go-on : List (Block A)) → (swap : A → List (Block A)) → List (Block A)
+insert-step before c empty x y z = x
+insert-step before c (holds d) x y z = cond (before d c) y (z d)
+
+unfoldable pub insert-from : {A : Type 0} → (A → A → Bool) → (fuel i : ℕ) → (m : ℕ) → A → List (Block A) → List (Block A)
+insert-from before zero i m c bs = bs
+insert-from before (suc f) i m c bs =
+    insert-step before c (around m bs i) (stored m bs i (holds c)) (insert-from before f (suc i) m c bs)
+    (λ d. insert-from before f (suc i) m d (stored m bs i (holds c)))
+
+-- what the joining of c to bs leaves
+pub record Joined {A : Type 0} (home : A → ℕ) (before : A → A → Bool) (m : ℕ) (c : A) (bs now : List (Block A)) : Type 0 where
+  pub long : length now ≡ m
+  pub rule-3 : Rule-3 home before m now
+  pub stays : (x : A) → Stands m bs x → Stands m now x
+  pub comes : Stands m now c
+  pub only : (x : A) → Stands m now x → (x ≡ c) ⊎ Stands m bs x
+  pub count : how-many now ≡ suc (how-many bs)
+
+-- the label of c is another than those that stand
+abbrev pub Other : {A : Type 0} → (A → A → Bool) → (m : ℕ) → A → List (Block A) → Type 0
+Other {A} before m c bs = (x : A) → Stands m bs x → before x c ≡ false → before c x ≡ true
+
+pub suc-mod-same : (m i j : ℕ) → i % m ≡ j % m → suc i % m ≡ suc j % m
+suc-mod-same m i j e = suc-mod i m ∙ ap (λ (x : ℕ). suc x % m) e ∙ sym (suc-mod j m)
+
+module _ {A : Type 0} (home : A → ℕ) (before : A → A → Bool) (m : ℕ)
+    (strict : (c : A) → before c c ≡ false)
+    (chain : (c d e : A) → before c d ≡ true → before d e ≡ true → before c e ≡ true)
+    (tied : (c d : A) → before c d ≡ false → before d c ≡ false → home c ≡ home d)
+    (homes : (c : A) → home c < m) where
+  -- one label stands in one block
+  pub one-label : (bs : List (Block A)) → Rule-3 home before m bs → (c d : A) (i j : ℕ) → around m bs i ≡ holds c → around m bs j ≡ holds d
+      → before c d ≡ false → before d c ≡ false → i % m ≡ j % m
+  one-label bs r c d i j e f p q = go (far home m homes bs c i e) (far home m homes bs d j f)
+    where
+      go : Far home m bs c i → Far home m bs d j → i % m ≡ j % m
+      go x y = by (which (x .steps) (y .steps))
+        where
+          t : home c ≡ home d
+          t = tied c d p q
+
+          by : Which (x .steps) (y .steps) → i % m ≡ j % m
+          by (less h) =
+              let z : holds-smaller before d (around m bs (home d + x .steps)) ≡ true = r d (y .steps) (y .few) (y .is) (x .steps) h in
+              let w : around m bs (home d + x .steps) ≡ holds c = rw (← t) (x .is) in
+              absurd (true≢false (cc))
+          by (same h) = sym (x .there) ∙ ap (λ (n : ℕ). (home c + n) % m) h ∙ ap (λ (n : ℕ). (n + y .steps) % m) t ∙ y .there
+          by (more h) =
+              let z : holds-smaller before c (around m bs (home c + y .steps)) ≡ true = r c (x .steps) (x .few) (x .is) (y .steps) h in
+              let w : around m bs (home c + y .steps) ≡ holds d = rw t (y .is) in
+              absurd (true≢false (cc))
+
+  -- a walk over smaller labels does not come round to an empty block
+  pub room : (bs : List (Block A)) (c : A) (k g : ℕ) → around m bs g ≡ empty → Smaller-to home before m bs c k → k < m
+  room bs c k g e s = go (decLt k m)
+    where
+      go : Dec (k < m) → k < m
+      go (yes h) = h
+      go (no h) =
+          let t = steps-to m (home c) (homes c) (g % m) (mod-lt g (omega (arith, homes c))) in
+          let z = s (t .steps) (omega (arith, t .few)) in
+          let w = around-mod m bs (home c + t .steps) g (t .there) in
+          absurd (false≢true (cc (z, w)))
+
+  smaller-on : (bs : List (Block A)) (c : A) (k : ℕ) → Smaller-to home before m bs c k → holds-smaller before c (around m bs (home c + k)) ≡ true → Smaller-to home before m bs c (suc k)
+  smaller-on bs c k s h l w = go (which l k)
+    where
+      go : Which l k → holds-smaller before c (around m bs (home c + l)) ≡ true
+      go (less v) = s l v
+      go (same v) = rw v h
+      go (more v) = absurd (omega arith)
+
+  -- the carried chunk c comes to the block i, k steps from its home
+  module _ (bs : List (Block A)) (c : A) (i k : ℕ) (p : length bs ≡ m) (r : Rule-3 home before m bs) (q : (home c + k) % m ≡ i % m)
+      (s : Smaller-to home before m bs c k) where
+    now : List (Block A)
+    now = stored m bs i (holds c)
+
+    store-rule : k < m → ((e : A) → holds-smaller before e (around m bs i) ≡ true → before c e ≡ true) → Rule-3 home before m now
+    unfolding now
+    store-rule g over =
+        rw (stored-mod m bs i (home c + k) (holds c) (sym q))
+        (store-keeps home before m homes bs c k p g r s (λ e h. over e (rw (around-mod m bs (home c + k) i q) at h)))
+
+    -- the block is empty
+    join-here : around m bs i ≡ empty → Joined home before m c bs now
+    unfolding now
+    join-here e = record {
+      long = stored-long m bs i (holds c) p;
+      rule-3 = store-rule (room bs c k i e s) (λ d h. absurd (false≢true (cc)));
+      stays = λ x t. stay x (before-store m bs i p (omega (arith, homes c)) (holds c) x t);
+      comes = stored-stands m bs i p (omega (arith, homes c)) c;
+      only = λ x t. after-store m bs i p (omega (arith, homes c)) c x t;
+      count = omega (arith, store-count m bs i empty (holds c) p (omega (arith, homes c)) e);
+    }
+      where
+        stay : (x : A) → (around m bs i ≡ holds x) ⊎ Stands m now x → Stands m now x
+        stay x (inl f) = absurd (true≢false (cc))
+        stay x (inr t) = t
+
+    -- the block holds d, and c goes before d: c takes the block, and d is carried on
+    module _ (d : A) (e : around m bs i ≡ holds d) (h : before d c ≡ false) (g : before c d ≡ true) (v : k < m) where
+      swap-rule : Rule-3 home before m now
+      swap-rule = store-rule v (λ x w. chain c d x g (let u : holds-smaller before x (holds d) ≡ true = rw e at w in u))
+
+      swap-other : Other before m d now
+      unfolding now
+      swap-other x t n = go (ℕ-discrete (t .at % m) (i % m))
+        where
+          by : around m bs (t .at) ≡ holds x → ((t .at % m ≡ i % m) → ⊥) → (b : Bool) → before d x ≡ b → before d x ≡ true
+          by y w true z = z
+          by y w false z = absurd (w (sym (one-label bs r d x i (t .at) e y z n)))
+
+          go : Dec (t .at % m ≡ i % m) → before d x ≡ true
+          go (yes w) = let u = stored-there m bs i (t .at) (holds c) (omega arith) p w in let y : x ≡ c = cc (t .is, u) in absurd (true≢false (cc))
+          go (no w) = by (sym (stored-elsewhere m bs i (t .at) (holds c) w) ∙ t .is) w (before d x) refl
+
+      swap-smaller : (x : Far home m bs d i) → Smaller-to home before m now d (suc (x .steps))
+      unfolding now
+      swap-smaller x =
+          smaller-on now d (x .steps)
+          (λ l w.
+          rw (stored-elsewhere m bs i (home d + l) (holds c) (λ u. omega (arith, steps-same m (home d) (homes d) l (x .steps) (omega (arith, x .few)) (x .few) (u ∙ sym (x .there)))))
+          (r d (x .steps) (x .few) (x .is) l w))
+          (rw (stored-there m bs i (home d + x .steps) (holds c) (omega arith) p (x .there)) g)
+
+      swap-joined : (end : List (Block A)) → Joined home before m d now end → Joined home before m c bs end
+      unfolding now
+      swap-joined end j = record {
+        long = j .long;
+        rule-3 = j .rule-3;
+        stays = λ x t. stay x (before-store m bs i p (omega (arith, homes c)) (holds c) x t);
+        comes = j .stays c (stored-stands m bs i p (omega (arith, homes c)) c);
+        only = λ x t. only x (j .only x t);
+        count = omega (arith, j .count, store-count m bs i (holds d) (holds c) p (omega (arith, homes c)) e);
+      }
+        where
+          stay : (x : A) → (around m bs i ≡ holds x) ⊎ Stands m now x → Stands m end x
+          stay x (inl f) = let z : x ≡ d = cc in rw z (j .comes)
+          stay x (inr t) = j .stays x t
+
+          only : (x : A) → (x ≡ d) ⊎ Stands m now x → (x ≡ c) ⊎ Stands m bs x
+          only x (inl f) = inr (record { at = i; is = rw f e })
+          only x (inr t) = after-store m bs i p (omega (arith, homes c)) c x t
+
+  -- c is carried to the block i: every block from its home on held a smaller label, and an empty block is near
+  pub record Carry (fuel i : ℕ) (c : A) (bs : List (Block A)) : Type 0 where
+    pub long : length bs ≡ m
+    pub rule-3 : Rule-3 home before m bs
+    pub other : Other before m c bs
+    pub steps : ℕ
+    pub there : (home c + steps) % m ≡ i % m
+    pub smaller : Smaller-to home before m bs c steps
+    pub gap : ℕ
+    pub near : gap < fuel
+    pub free : around m bs (i + gap) ≡ empty
+
+  -- past a full block the empty one is one step nearer
+  pub record Nearer (f i : ℕ) (bs : List (Block A)) : Type 0 where
+    pub gap : ℕ
+    pub near : gap < f
+    pub free : around m bs (suc i + gap) ≡ empty
+
+  nearer : (f i g : ℕ) (bs : List (Block A)) (d : A) → around m bs i ≡ holds d → g < suc f → around m bs (i + g) ≡ empty → Nearer f i bs
+  nearer f i zero bs d e w h = absurd (true≢false (cc (add-zero i)))
+  nearer f i (suc g) bs d e w h = record { gap = g; near = omega arith; free = ap (λ (x : ℕ). around m bs x) (omega arith) ∙ h }
+
+  on-mod : (h k i : ℕ) → (h + k) % m ≡ i % m → (h + suc k) % m ≡ suc i % m
+  on-mod h k i e = ap (λ (x : ℕ). x % m) (omega arith) ∙ suc-mod-same m (h + k) i e
+
+  pub carry-on : (f i : ℕ) (c d : A) (bs : List (Block A)) → Carry (suc f) i c bs → around m bs i ≡ holds d → before d c ≡ true → Carry f (suc i) c bs
+  carry-on f i c d bs y e h =
+      let n = nearer f i (y .gap) bs d e (y .near) (y .free) in
+      record {
+        long = y .long;
+        rule-3 = y .rule-3;
+        other = y .other;
+        steps = suc (y .steps);
+        there = on-mod (home c) (y .steps) i (y .there);
+        smaller = smaller-on bs c (y .steps) (y .smaller) (rw (around-mod m bs (home c + y .steps) i (y .there), e) h);
+        gap = n .gap;
+        near = n .near;
+        free = n .free;
+      }
+
+  module _ (f i : ℕ) (c d : A) (bs : List (Block A)) (y : Carry (suc f) i c bs) (e : around m bs i ≡ holds d) (h : before d c ≡ false) where
+    swap-before : before c d ≡ true
+    swap-before = y .other d (record { at = i; is = e }) h
+
+    swap-room : y .steps < m
+    swap-room = room bs c (y .steps) (i + y .gap) (y .free) (y .smaller)
+
+    pub carry-swap : Carry f (suc i) d (stored m bs i (holds c))
+    unfolding now
+    carry-swap =
+        let x = far home m homes bs d i e in
+        let n = nearer f i (y .gap) bs d e (y .near) (y .free) in
+        record {
+          long = stored-long m bs i (holds c) (y .long);
+          rule-3 = swap-rule bs c i (y .steps) (y .long) (y .rule-3) (y .there) (y .smaller) d e h swap-before swap-room;
+          other = swap-other bs c i (y .steps) (y .long) (y .rule-3) (y .there) (y .smaller) d e h swap-before swap-room;
+          steps = suc (x .steps);
+          there = on-mod (home d) (x .steps) i (x .there);
+          smaller = swap-smaller bs c i (y .steps) (y .long) (y .rule-3) (y .there) (y .smaller) d e h swap-before swap-room x;
+          gap = n .gap;
+          near = n .near;
+          free = stored-elsewhere m bs i (suc i + n .gap) (holds c)
+              (λ u. true≢false (cc (around-mod m bs (suc i + n .gap) i u, n .free))) ∙ n .free;
+        }
+
+    swapped-joined : (end : List (Block A)) → Joined home before m d (stored m bs i (holds c)) end → Joined home before m c bs end
+    unfolding now
+    swapped-joined end j = swap-joined bs c i (y .steps) (y .long) (y .rule-3) (y .there) (y .smaller) d e h swap-before swap-room end j
+
+  -- THE WALK joins the carried chunk to the table
+  pub insert-keeps : (fuel i : ℕ) (c : A) (bs : List (Block A)) → Carry fuel i c bs → Joined home before m c bs (insert-from before fuel i m c bs)
+  unfolding insert-from now
+  insert-keeps zero i c bs y = absurd (omega (arith, y .near))
+  insert-keeps (suc f) i c bs y =
+      go (around m bs i) refl (λ x. insert-keeps f (suc i) c bs x) (λ d x. insert-keeps f (suc i) d (stored m bs i (holds c)) x)
+    where
+      next : List (Block A)
+      next = stored m bs i (holds c)
+
+      end : Block A → List (Block A)
+      end b = insert-step before c b next (insert-from before f (suc i) m c bs) (λ d. insert-from before f (suc i) m d next)
+
+      test : (d : A) (t : Bool) → around m bs i ≡ holds d → before d c ≡ t
+          → (Carry f (suc i) c bs → Joined home before m c bs (insert-from before f (suc i) m c bs))
+          → ((d : A) → Carry f (suc i) d next → Joined home before m d next (insert-from before f (suc i) m d next))
+          → Joined home before m c bs (cond t (insert-from before f (suc i) m c bs) (insert-from before f (suc i) m d next))
+      test d true e h on swap = on (carry-on f i c d bs y e h)
+      test d false e h on swap = swapped-joined f i c d bs y e h (insert-from before f (suc i) m d next) (swap d (carry-swap f i c d bs y e h))
+
+      go : (b : Block A) → around m bs i ≡ b
+          → (Carry f (suc i) c bs → Joined home before m c bs (insert-from before f (suc i) m c bs))
+          → ((d : A) → Carry f (suc i) d next → Joined home before m d next (insert-from before f (suc i) m d next))
+          → Joined home before m c bs (end b)
+      go empty e on swap = join-here bs c i (y .steps) (y .long) (y .rule-3) (y .there) (y .smaller) e
+      go (holds d) e on swap = test d (before d c) e refl on swap
+
+  -- THE INSERTION of a chunk whose label is absent, where some block is empty
+  pub inserted : (c : A) (bs : List (Block A)) → length bs ≡ m → Rule-3 home before m bs → Other before m c bs → how-many bs < m
+      → Joined home before m c bs (insert-from before m (home c) m c bs)
+  unfolding around
+  inserted c bs p r o n =
+      let z = gap bs (omega arith) in
+      let s = steps-to m (home c) (homes c) (z .at) (omega (arith, z .inside)) in
+      insert-keeps m (home c) c bs (record {
+        long = p;
+        rule-3 = r;
+        other = o;
+        steps = 0;
+        there = ap (λ (x : ℕ). x % m) (add-zero (home c));
+        smaller = λ l w. absurd (omega arith);
+        gap = s .steps;
+        near = s .few;
+        free = rw (s .there) (z .is);
+      })

@@ -1,0 +1,348 @@
+-- What the loops of this crate keep, and their turns. Assumes nothing.
+use mathlib.Core.Path.{_≡_, refl, sym, _∙_}
+use mathlib.Core.List.{List, [], _∷_, _++_}
+use mathlib.Core.Bool.{Bool, true, false, cond}
+use Prim.Native.Nat.{ℕ, zero, suc, _+_, _*_, _-_, _/_, _%_, _≤_, _<_}
+use native.Mathlib.Nat.{le-refl, add-zero, sub-zero, pos-of-ne-zero, mod-lt, lt-of-lt-of-le}
+use native.Mathlib.Omega.{arith}
+use native.Mathlib.Numerals.{towards-suc}
+use lib.Dec.{leb, eqb}
+use lib.ListN.{length, getD, replicate, length-append}
+use lib.Seq.{sets}
+use borrow.Author.Tests.{eq-eqb, ne-eqb, le-ltb, lt-ltb}
+use mir.Val.{Fits}
+use mir.Syntax.{w32}
+use Rattle.placement.specs.Numbers.{field, big}
+use Rattle.placement.specs.Header.{block-long}
+use Rattle.placement.specs.Parts.{put-block, clear-in, copy-in, swap-in}
+use Rattle.placement.specs.declared.Sizes.{Sizes}
+use Rattle.placement.specs.declared.Label.{Label}
+use Rattle.placement.specs.declared.Found.{Found}
+use Rattle.placement.specs.declared.Found.the-variants.{At, Nothing}
+use Rattle.placement.specs.Place.{Shaped, label-in, before-label, same-label, passes-label, probe, search-in, distance-of, stays-at, bytes, Pulled, pull, settle, found-at, taken-out, free-in, head-bytes, block-with, inserted}
+use Rattle.placement.proofs.Laws.Parts.{sets-append}
+use Rattle.placement.specs.Place.{home-of}
+use Rattle.placement.specs.Hash.{hash-from, g}
+
+-- what the loop of `find` keeps: the search from its start goes on from the block that is k further
+pub record Probing (look : ℕ → Label) (m : ℕ) (w : Label) (home start k : ℕ) : Type 0 where
+  pub within : k ≤ m
+  pub rest : probe look m w m home ≡ probe look m w (m - k) (start + k)
+
+module _ (look : ℕ → Label) (m : ℕ) (w : Label) (home start : ℕ) where
+  pub probing-start : start ≡ home → Probing look m w home start 0
+  probing-start e = record { within = omega arith; rest = rw (e, add-zero, sub-zero) }
+
+  module _ (k : ℕ) (i : Probing look m w home start k) where
+    pub probing-end : m ≤ k → Nothing ≡ probe look m w m home
+    unfolding probe
+    probing-end l =
+        let f : m - k ≡ 0 = omega arith in
+        rw (i .rest, f)
+
+    module _ (l : Label) (s : Bool) (at : l ≡ look ((start + k) % m)) (es : s ≡ passes-label l w) (lt : k < m) where
+      pub probing-more : s ≡ true → Probing look m w home start (k + 1)
+      unfolding probe
+      probing-more e =
+          let f : m - k ≡ suc (m - (k + 1)) = omega arith in
+          let n : start + (k + 1) ≡ suc (start + k) = omega arith in
+          let p : passes-label (look ((start + k) % m)) w ≡ true = rw (← at, ← es, e) in
+          record { within = omega arith; rest = i .rest ∙ rw (f, p, n) }
+
+      module _ (e : s ≡ false) (t : Bool) (et : t ≡ same-label l w) where
+        stopped : probe look m w m home ≡ cond t (At ((start + k) % m)) Nothing
+        unfolding probe
+        stopped =
+            let f : m - k ≡ suc (m - (k + 1)) = omega arith in
+            let p : passes-label (look ((start + k) % m)) w ≡ false = rw (← at, ← es, e) in
+            i .rest ∙ rw (f, p, et, at)
+
+        pub probing-same : t ≡ true → At ((start + k) % m) ≡ probe look m w m home
+        probing-same h = sym (stopped ∙ rw h)
+
+        pub probing-other : t ≡ false → Nothing ≡ probe look m w m home
+        probing-other h = sym (stopped ∙ rw h)
+
+-- a block that the search finds is one of the table
+below : Found → (m : ℕ) → Type 0
+below (At i) m = i < m
+below Nothing m = Unit
+
+cond-below : (t : Bool) (a b : Found) (m : ℕ) → below a m → below b m → below (cond t a b) m
+cond-below true a b m p q = p
+cond-below false a b m p q = q
+
+probe-below : (look : ℕ → Label) (m : ℕ) (w : Label) (k i : ℕ) → 0 < m → below (probe look m w k i) m
+unfolding probe below
+probe-below look m w zero i pos = tt
+probe-below look m w (suc k) i pos =
+    cond-below (passes-label (look (i % m)) w) _ _ m (probe-below look m w k (suc i) pos)
+    (cond-below (same-label (look (i % m)) w) (At (i % m)) Nothing m (mod-lt i pos) tt)
+
+-- as `remove` asks, of what the search gave
+pub out-none : (g : Sizes) (bs : List ℕ) (w : Label) (r : Found) → r ≡ Nothing → r ≡ search-in g bs w → bs ≡ taken-out g (search-in g bs w) bs
+unfolding taken-out
+out-none g bs w r e q = rw (← q, e)
+
+pub out-at : (g : Sizes) (bs bs′ : List ℕ) (w : Label) (r : Found) (i : ℕ) → r ≡ At i → r ≡ search-in g bs w → bs′ ≡ pull (bytes (block-long g)) (home-of g) (g .blocks) (g .blocks - 1) i (i + 1) bs
+    → bs′ ≡ taken-out g (search-in g bs w) bs
+unfolding taken-out
+out-at g bs bs′ w r i e q p = rw (← q, e) p
+
+pub found-none : (g : Sizes) (bs : List ℕ) (w : Label) (r : Found) → r ≡ Nothing → r ≡ search-in g bs w → false ≡ found-at (search-in g bs w)
+unfolding found-at
+found-none g bs w r e q = rw (← q, e)
+
+pub found-some : (g : Sizes) (bs : List ℕ) (w : Label) (r : Found) (i : ℕ) → r ≡ At i → r ≡ search-in g bs w → true ≡ found-at (search-in g bs w)
+unfolding found-at
+found-some g bs w r i e q = rw (← q, e)
+
+pub search-below : (g : Sizes) (bs : List ℕ) (w : Label) (r : Found) (i : ℕ) → r ≡ At i → r ≡ search-in g bs w → Shaped g bs → i < g .blocks
+unfolding search-in below
+search-below g bs w r i e q s = rw (sym q ∙ e) at (probe-below (label-in (block-long g) bs) (g .blocks) w (g .blocks) (home-of g w) (s .some))
+
+pub passes-empty : (l w : Label) → l .level ≡ 0 → false ≡ passes-label l w
+unfolding passes-label
+passes-empty l w e = rw e
+
+pub passes-held : (l w : Label) (t : Bool) → t ≡ before-label l w → (l .level ≡ 0 → ⊥) → t ≡ passes-label l w
+unfolding passes-label
+passes-held l w t e ne = let h : 0 < l .level = pos-of-ne-zero ne in e ∙ rw (lt-ltb 0 (l .level) h)
+
+cond-less : (t : Bool) (a b m : ℕ) → a < m → b < m → cond t a b < m
+cond-less true a b m p q = p
+cond-less false a b m p q = q
+
+-- what the loop of `pull_back` keeps: the removal goes on from the block that is k further, on the bytes as they are
+pub record Pulling (g : Sizes) (at : ℕ) (bs₀ bs : List ℕ) (hole k : ℕ) : Type 0 where
+  pub shaped : Shaped g bs
+  pub first : 1 ≤ k
+  pub within : k ≤ g .blocks
+  pub spot : hole < g .blocks
+  pub same : length bs ≡ length bs₀
+  pub rest : pull (bytes (block-long g)) (home-of g) (g .blocks) (g .blocks - 1) at (at + 1) bs₀ ≡ pull (bytes (block-long g)) (home-of g) (g .blocks) (g .blocks - k) hole (at + k) bs
+
+pub shaped-same : (g : Sizes) (bs₀ bs : List ℕ) → Shaped g bs₀ → length bs ≡ length bs₀ → Shaped g bs
+shaped-same g bs₀ bs s e =
+    record { long = e ∙ s .long; width = s .width; few = s .few; some = s .some; most = s .most; seeds = s .seeds }
+
+module _ (g : Sizes) (at : ℕ) (bs₀ : List ℕ) where
+  pub pulling-start : Shaped g bs₀ → at < g .blocks → Pulling g at bs₀ bs₀ at 1
+  pulling-start s h = record { shaped = s; first = omega arith; within = omega arith; spot = h; same = refl; rest = refl }
+
+  module _ (bs : List ℕ) (e k : ℕ) (p : Pulling g at bs₀ bs e k) where
+    pub pulling-end : g .blocks ≤ k → clear-in (block-long g) bs e ≡ pull (bytes (block-long g)) (home-of g) (g .blocks) (g .blocks - 1) at (at + 1) bs₀
+    unfolding pull
+    pulling-end h =
+        let f : g .blocks - k ≡ 0 = omega arith in
+        rw (p .rest, f)
+
+    module _ (lt : k < g .blocks) (l : Label) (el : l ≡ label-in (block-long g) bs ((at + k) % g .blocks)) where
+      f : g .blocks - k ≡ suc (g .blocks - (k + 1))
+      f = omega arith
+
+      n : at + (k + 1) ≡ suc (at + k)
+      n = omega arith
+
+      pub pulling-empty : l .level ≡ 0 → clear-in (block-long g) bs e ≡ pull (bytes (block-long g)) (home-of g) (g .blocks) (g .blocks - 1) at (at + 1) bs₀
+      unfolding pull
+      pulling-empty z =
+          let z′ : eqb (label-in (block-long g) bs ((at + k) % g .blocks) .level) 0 ≡ true = rw (← el) (eq-eqb _ _ z) in
+          rw (p .rest, f, z′)
+
+      pub pulling-next : (h : ℕ) (bs′ : List ℕ) (e′ : ℕ) → (l .level ≡ 0 → ⊥) → h ≡ home-of g l
+          → Pulled g e ((at + k) % g .blocks) h bs bs′ e′ → length bs′ ≡ length bs → Pulling g at bs₀ bs′ e′ (k + 1)
+      unfolding pull
+      pulling-next h bs′ e′ ne eh q ln =
+          let held : eqb (label-in (block-long g) bs ((at + k) % g .blocks) .level) 0 ≡ false = rw (← el) (ne-eqb _ _ ne) in
+          let t : Bool = stays-at (g .blocks) e ((at + k) % g .blocks) h in
+          let test : stays-at (g .blocks) e ((at + k) % g .blocks) (home-of g (label-in (block-long g) bs ((at + k) % g .blocks))) ≡ t = sym (rw (eh, el)) in
+          record {
+            shaped = shaped-same g bs bs′ (p .shaped) ln;
+            first = omega arith;
+            within = omega arith;
+            spot = rw (q .hole) (cond-less t e _ (g .blocks) (p .spot) (mod-lt _ (omega arith)));
+            same = ln ∙ p .same;
+            rest = p .rest ∙ rw (f, held, test, n, q .hole, q .table);
+          }
+
+-- as `pull_one` asks
+pub pulled-stay : (g : Sizes) (e j h : ℕ) (bs : List ℕ) (t : Bool) → t ≡ stays-at (g .blocks) e j h → t ≡ true → Pulled g e j h bs bs e
+pulled-stay g e j h bs t et s = record { hole = rw (← et, s); table = rw (← et, s) }
+
+pub pulled-move : (g : Sizes) (e j h : ℕ) (bs bs′ : List ℕ) (t : Bool) → t ≡ stays-at (g .blocks) e j h → t ≡ false → bs′ ≡ copy-in (block-long g) bs j e → Pulled g e j h bs bs′ j
+pulled-move g e j h bs bs′ t et s eb = record { hole = rw (← et, s); table = rw (← et, s) eb }
+
+pub pulling-clear : (g : Sizes) (bs bs′ bs₀ : List ℕ) (e : ℕ) (y : List ℕ) → bs′ ≡ clear-in (block-long g) bs e → clear-in (block-long g) bs e ≡ y → bs′ ≡ y
+pulling-clear g bs bs′ bs₀ e y p q = p ∙ q
+
+-- as `label_at` and `home` ask
+pub label-made : (w : ℕ) (bs : List ℕ) (i a l n f : ℕ) → a ≡ 53 + i * w → l ≡ getD bs a 0 → n ≡ field (a + 2) 2 bs → f ≡ field (a + 4) 4 bs
+    → _≡_ {A = Label} (record { level = l; first = f; number = n }) (label-in w bs i)
+unfolding label-in
+label-made w bs i a l n f ea el en ef = rw (el, en, ef, ea)
+
+pub home-made : (s : Sizes) (w : Label) (h : ℕ) → h ≡ hash-from 5 5 (s .seed) (w .first) → (h + 65536 * w .level + w .number) % 2147483647 % s .blocks ≡ home-of s w
+unfolding home-of g
+home-made s w h e = rw e
+
+pub mod-fits : (a m : ℕ) → 0 < m → m ≤ 65535 → Fits w32 (a % m)
+mod-fits a m p h = record { fits = lt-of-lt-of-le (mod-lt a p) (omega arith) }
+
+pub stays-none : (m e j h d : ℕ) → d ≡ distance-of m e h → d ≡ 0 → false ≡ stays-at m e j h
+unfolding stays-at
+stays-none m e j h d ed z = rw (← ed, z)
+
+pub stays-some : (m e j h d d′ : ℕ) → d ≡ distance-of m e h → d′ ≡ distance-of m e j → (d ≡ 0 → ⊥) → leb d d′ ≡ stays-at m e j h
+unfolding stays-at
+stays-some m e j h d d′ ed ed′ ne = rw (← ed, ← ed′, ne-eqb _ _ ne)
+
+-- what the loop of `settle_in` keeps
+pub record Settling (g : Sizes) (e start n : ℕ) (bs₀ bs : List ℕ) (k : ℕ) : Type 0 where
+  pub shaped : Shaped g bs
+  pub within : k ≤ n
+  pub same : length bs ≡ length bs₀
+  pub rest : settle (bytes (block-long g)) (g .blocks) n e start bs₀ ≡ settle (bytes (block-long g)) (g .blocks) (n - k) e (start + k) bs
+
+module _ (g : Sizes) (e start n : ℕ) (bs₀ : List ℕ) where
+  pub settling-start : Shaped g bs₀ → Settling g e start n bs₀ bs₀ 0
+  settling-start s = record { shaped = s; within = omega arith; same = refl; rest = rw (add-zero, sub-zero) }
+
+  module _ (bs : List ℕ) (k : ℕ) (p : Settling g e start n bs₀ bs k) where
+    pub settling-more : k < n → (bs′ : List ℕ) → length bs′ ≡ length bs
+        → bs′ ≡ cond (before-label (label-in (block-long g) bs e) (label-in (block-long g) bs ((start + k) % g .blocks))) (swap-in (block-long g) bs ((start + k) % g .blocks) e) bs
+        → Settling g e start n bs₀ bs′ (k + 1)
+    unfolding settle
+    settling-more h bs′ l q =
+        let f : n - k ≡ suc (n - (k + 1)) = omega arith in
+        let m : start + (k + 1) ≡ suc (start + k) = omega arith in
+        record { shaped = shaped-same g bs bs′ (p .shaped) l; within = omega arith; same = l ∙ p .same; rest = p .rest ∙ rw (f, m, q) }
+
+    pub settling-end : n ≤ k → bs ≡ settle (bytes (block-long g)) (g .blocks) n e start bs₀
+    unfolding settle
+    settling-end h =
+        let f : n - k ≡ 0 = omega arith in
+        rw (p .rest, f)
+
+before-irrefl : (a : Label) → before-label a a ≡ false
+unfolding before-label
+before-irrefl a = simp (le-ltb _ _ (le-refl (a .level)), le-ltb _ _ (le-refl (a .first)), le-ltb _ _ (le-refl (a .number)), eq-eqb (a .level) _ refl, eq-eqb (a .first) _ refl)
+
+-- what a comparison of the labels of two blocks picks; and where it holds neither block is the other
+module _ (w : ℕ) (bs : List ℕ) (i j : ℕ) (x y : Label) (t : Bool) (ex : x ≡ label-in w bs i) (ey : y ≡ label-in w bs j) (et : t ≡ before-label x y) where
+  compares : before-label (label-in w bs i) (label-in w bs j) ≡ t
+  compares = sym (rw (et, ex, ey))
+
+  pub picks-first : (z a b : List ℕ) → t ≡ true → z ≡ a → z ≡ cond (before-label (label-in w bs i) (label-in w bs j)) a b
+  picks-first z a b h e = rw (compares, h) e
+
+  pub picks-second : (a b : List ℕ) → t ≡ false → b ≡ cond (before-label (label-in w bs i) (label-in w bs j)) a b
+  picks-second a b h = rw (compares, h)
+
+  pub before-differs : t ≡ true → j ≡ i → ⊥
+  before-differs h q =
+      let z : false ≡ true = sym (before-irrefl (label-in w bs i)) ∙ (rw q at (compares ∙ h)) in
+      let n : _≡_ {A = ℕ} 0 1 = cc in
+      omega arith
+
+-- what the loop of `free` keeps
+pub record Freeing (look : ℕ → Label) (m start k : ℕ) : Type 0 where
+  pub within : k ≤ m
+  pub rest : free-in look m m start ≡ free-in look m (m - k) (start + k)
+
+module _ (look : ℕ → Label) (m start : ℕ) where
+  pub freeing-start : Freeing look m start 0
+  freeing-start = record { within = omega arith; rest = rw (add-zero, sub-zero) }
+
+  module _ (k : ℕ) (p : Freeing look m start k) where
+    pub freeing-end : m ≤ k → Nothing ≡ free-in look m m start
+    unfolding free-in
+    freeing-end h =
+        let f : m - k ≡ 0 = omega arith in
+        rw (p .rest, f)
+
+    module _ (lt : k < m) (l : Label) (el : l ≡ look ((start + k) % m)) where
+      pub freeing-at : l .level ≡ 0 → At ((start + k) % m) ≡ free-in look m m start
+      unfolding free-in
+      freeing-at z =
+          let f : m - k ≡ suc (m - (k + 1)) = omega arith in
+          let t : eqb (look ((start + k) % m) .level) 0 ≡ true = rw (← el) (eq-eqb _ _ z) in
+          rw (p .rest, f, t)
+
+      pub freeing-more : (l .level ≡ 0 → ⊥) → Freeing look m start (k + 1)
+      unfolding free-in
+      freeing-more ne =
+          let f : m - k ≡ suc (m - (k + 1)) = omega arith in
+          let n : start + (k + 1) ≡ suc (start + k) = omega arith in
+          let t : eqb (look ((start + k) % m) .level) 0 ≡ false = rw (← el) (ne-eqb _ _ ne) in
+          record { within = omega arith; rest = p .rest ∙ rw (f, t, n) }
+
+-- as `write_head` asks
+head-two : (v n : ℕ) → v < 256 → n < 256 → big 2 (256 * v + n) ≡ v ∷ n ∷ []
+unfolding big
+head-two v n h k =
+    let p : (256 * v + n) / 256 % 256 ≡ v = omega arith in
+    let q : (256 * v + n) / 1 % 256 ≡ n = omega arith in
+    rw (p, q)
+
+head-written : (bs : List ℕ) (a v k n f : ℕ) → sets (sets (sets bs a (v ∷ k ∷ [])) (a + 2) (big 2 n)) (a + 4) (big 4 f) ≡ sets bs a (v ∷ k ∷ (big 2 n ++ big 4 f))
+unfolding big
+head-written bs a v k n f = simp towards-suc
+
+pub head-made : (bs s₁ s₂ s₃ : List ℕ) (a : ℕ) (l : Label) (n : ℕ) → s₁ ≡ sets bs a (big 2 (256 * l .level + n)) → s₂ ≡ sets s₁ (a + 2) (big 2 (l .number))
+    → s₃ ≡ sets s₂ (a + 4) (big 4 (l .first)) → l .level < 256 → n < 256 → s₃ ≡ sets bs a (head-bytes l n)
+unfolding head-bytes
+head-made bs s₁ s₂ s₃ a l n e₁ e₂ e₃ h k = e₃ ∙ rw (e₂, e₁, head-two (l .level) n h k) (head-written bs a (l .level) n (l .number) (l .first))
+
+-- as `write_block` asks
+pub length-head : (l : Label) (n : ℕ) → length (head-bytes l n) ≡ 8
+unfolding head-bytes big
+length-head l n = refl
+
+pub block-made : (w v : ℕ) (bs s₁ s₂ s₃ : List ℕ) (e a : ℕ) (l : Label) (n u : ℕ) (xs : List ℕ) → s₁ ≡ sets bs a (head-bytes l n) → s₂ ≡ sets s₁ (a + 8) xs
+    → s₃ ≡ sets s₂ (a + 8 + u) (replicate (v - 8 - u) 0) → a ≡ 53 + e * w → v ≡ w → u ≡ 12 * n → length xs ≡ u → s₃ ≡ put-block w bs e (block-with w l n xs)
+unfolding put-block block-with
+block-made w v bs s₁ s₂ s₃ e a l n u xs e₁ e₂ e₃ ea ev eu el =
+    let k : length (head-bytes l n ++ xs) ≡ 8 + u = length-append (head-bytes l n) xs ∙ rw (length-head l n, el) in
+    let f : a + (8 + u) ≡ a + 8 + u = omega arith in
+    e₃ ∙ rw (ev, ← ea, ← eu, sets-append bs a (head-bytes l n ++ xs), k, sets-append bs a (head-bytes l n), length-head l n, f, e₂, e₁)
+
+pub mod-below : (a m x : ℕ) → x < m → a % m < m
+mod-below a m x h = mod-lt a (omega arith)
+
+pub distance-made : (m a b : ℕ) → (b + m - a) % m ≡ distance-of m a b
+unfolding distance-of
+distance-made m a b = refl
+
+-- as `insert` asks, of what `free` gave
+free-below : (look : ℕ → Label) (m k i : ℕ) → 0 < m → below (free-in look m k i) m
+unfolding free-in below
+free-below look m zero i pos = tt
+free-below look m (suc k) i pos = cond-below (eqb (look (i % m) .level) 0) (At (i % m)) _ m (mod-lt i pos) (free-below look m k (suc i) pos)
+
+pub free-at : (look : ℕ → Label) (m k i : ℕ) (r : Found) (e : ℕ) → r ≡ At e → r ≡ free-in look m k i → 0 < m → e < m
+unfolding below
+free-at look m k i r e er q pos = rw (sym q ∙ er) at (free-below look m k i pos)
+
+module _ (g : Sizes) (bs : List ℕ) (l : Label) (start : ℕ) (r : Found) (es : start ≡ home-of g l) (er : r ≡ free-in (label-in (block-long g) bs) (g .blocks) (g .blocks) start) where
+  pub inserted-none : r ≡ Nothing → Nothing ≡ free-in (label-in (block-long g) bs) (g .blocks) (g .blocks) (home-of g l)
+  inserted-none q = sym q ∙ er ∙ rw es
+
+  pub inserted-found : (e : ℕ) → r ≡ At e → At e ≡ free-in (label-in (block-long g) bs) (g .blocks) (g .blocks) (home-of g l)
+  inserted-found e q = sym q ∙ er ∙ rw es
+
+  pub inserted-made : (e k n : ℕ) (xs s₁ s₂ : List ℕ) → s₁ ≡ put-block (block-long g) bs e (block-with (block-long g) l n xs) → k ≡ distance-of (g .blocks) start e
+      → s₂ ≡ settle (bytes (block-long g)) (g .blocks) k e start s₁ → s₂ ≡ inserted g (At e) l n xs bs
+  unfolding inserted
+  inserted-made e k n xs s₁ s₂ e₁ ek e₂ = e₂ ∙ rw (ek, es, e₁)
+
+pub inserted-same : (g : Sizes) (l : Label) (n : ℕ) (xs bs : List ℕ) → bs ≡ inserted g Nothing l n xs bs
+unfolding inserted
+inserted-same g l n xs bs = refl
+
+-- as the functions that read ask
+pub byte-at : (bs : List ℕ) (r a b : ℕ) → r ≡ getD bs (a + 1) 0 → a ≡ b → r ≡ getD bs (b + 1) 0
+byte-at bs r a b e h = e ∙ rw h
+
+pub field-at : (bs : List ℕ) (r a b c : ℕ) → r ≡ field (a + c) 4 bs → a ≡ b → r ≡ field (b + c) 4 bs
+field-at bs r a b c e h = e ∙ rw h

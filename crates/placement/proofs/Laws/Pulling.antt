@@ -1,0 +1,147 @@
+-- The removal by the code, on a list of blocks, is the removal of the theory. Assumes nothing.
+use mathlib.Core.Path.{_≡_, refl, sym, ap, _∙_}
+use mathlib.Core.Bool.{Bool, true, false, _&&_, not, cond}
+use mathlib.Core.List.{List}
+use Prim.Native.Nat.{ℕ, zero, suc, _+_, _-_, _%_, _≤_, _<_}
+use native.Mathlib.Nat.{mod-lt, mod-eq-of-lt, add-zero, mod-add-mod, add-mod-right}
+use native.Mathlib.Omega.{arith}
+use lib.Dec.{leb, eqb}
+use lib.ListN.{getD, set}
+use lib.Seq.{set-set}
+use borrow.Author.Tests.{le-leb, lt-leb, ne-eqb}
+use Rattle.placement.specs.Blocks.{Block, empty, holds, around, stored}
+use Rattle.placement.specs.declared.Sizes.{Sizes}
+use Rattle.placement.specs.Chunks.{Chunk, home}
+use Rattle.placement.specs.Place.{pull, stays-at, distance-of}
+use Rattle.placement.proofs.Laws.Round.{Turn, turn, first, second, Which, which, less, same, more, steps-to, steps-apart}
+use Rattle.placement.proofs.Laws.Blocks.{stored-elsewhere}
+use Rattle.placement.proofs.Laws.Insertion.{suc-mod-same}
+use Rattle.placement.proofs.Laws.Removal.{pull-from, removed-at, distance, distance-is}
+use Rattle.placement.proofs.Laws.Walks.{pull-stop, pull-move, pull-pass}
+use Rattle.placement.proofs.Laws.Labels.{home-inside}
+use Rattle.placement.proofs.Laws.Bridge.{Good, held, All-good, places, label-of, good-at, good-set}
+use Rattle.placement.specs.Place.{home-of}
+use Rattle.placement.specs.Hash.{level}
+
+-- how far the code finds it from a on to b
+pub distance-steps : (m a b k : ℕ) → a < m → b < m → k < m → (a + k) % m ≡ b → distance-of m a b ≡ k
+unfolding distance-of
+distance-steps m a b k p q r e = go (turn m (a + k) (omega arith)) (turn m (b + m - a) (omega arith))
+  where
+    go : Turn m (a + k) → Turn m (b + m - a) → (b + m - a) % m ≡ k
+    go (first u v) (first w x) = omega arith
+    go (first u v) (second w x) = omega arith
+    go (second u v) (first w x) = omega arith
+    go (second u v) (second w x) = omega arith
+
+-- a chunk t steps past the hole e stays exactly where its way from home q does not cross the hole
+module _ (m e t j q : ℕ) (he : e < m) (hq : q < m) (pos : 0 < t) (few : t < m) (there : (e + t) % m ≡ j) where
+  inside : j < m
+  inside = rw (← there) (mod-lt (e + t) (omega arith))
+
+  from-home : (a k : ℕ) → (e + a) % m ≡ q → a + k ≡ t → (q + k) % m ≡ j
+  from-home a k u w = rw (← u) (mod-add-mod (e + a) m k ∙ ap (λ (x : ℕ). x % m) (omega arith) ∙ there)
+
+  round-home : (a k : ℕ) → (e + a) % m ≡ q → a + k ≡ t + m → (q + k) % m ≡ j
+  round-home a k u w =
+      rw (← u) (mod-add-mod (e + a) m k ∙ ap (λ (x : ℕ). x % m) (omega arith) ∙ add-mod-right (e + t) m ∙ there)
+
+  pub stays-crosses : stays-at m e j q ≡ not (leb t (distance m q j))
+  unfolding stays-at
+  stays-crosses = go (steps-to m e he q hq .steps) (steps-to m e he q hq .few) (steps-to m e he q hq .there)
+    where
+      go : (a : ℕ) → a < m → (e + a) % m ≡ q → (not (eqb (distance-of m e q) 0) && leb (distance-of m e q) (distance-of m e j)) ≡ not (leb t (distance m q j))
+      go a w u = rw (distance-steps m e q a he hq w u, distance-steps m e j t he inside few there) (by a w u (which a t))
+        where
+          some : (a : ℕ) → a < m → (e + a) % m ≡ q → a ≤ t → (not (eqb a 0) && leb a t) ≡ not (leb t (distance m q j))
+          some zero w u h =
+              rw (distance-is m q j t hq inside few (from-home 0 t u (omega arith)), le-leb t t (omega arith))
+          some (suc a) w u h =
+              rw (distance-is m q j (t - suc a) hq inside (omega arith) (from-home (suc a) (t - suc a) u (omega arith)), ne-eqb (suc a) 0 (omega arith), le-leb (suc a) t h, lt-leb t (t - suc a) (omega arith))
+
+          by : (a : ℕ) → a < m → (e + a) % m ≡ q → Which a t → (not (eqb a 0) && leb a t) ≡ not (leb t (distance m q j))
+          by a w u (less h) = some a w u (omega arith)
+          by a w u (same h) = some a w u (omega arith)
+          by a w u (more h) =
+              rw (distance-is m q j (t + m - a) hq inside (omega arith) (round-home a (t + m - a) u (omega arith)), ne-eqb a 0 (omega arith), lt-leb a t h, le-leb t (t + m - a) (omega arith))
+
+-- the home of a chunk's label is the chunk's
+pub home-label : (s : Sizes) (d : Chunk) → home-of s (label-of (holds d)) ≡ home s d
+unfolding label-of home-of home
+home-label s d = refl
+
+module _ (s : Sizes) (some : 0 < s .blocks) where
+  -- the steps of the code
+  code-stop : (k e i : ℕ) (x : List (Block Chunk)) → getD x (i % s .blocks) empty ≡ empty → pull places (home-of s) (s .blocks) (suc k) e i x ≡ set x e empty
+  unfolding pull label-of
+  code-stop k e i x z = rw z
+
+  full-level : (d : Chunk) → 0 < d .level → eqb (label-of (holds d) .level) 0 ≡ false
+  unfolding label-of
+  full-level d l = ne-eqb (d .level) 0 (omega arith)
+
+  code-next : (k e i : ℕ) (x : List (Block Chunk)) (d : Chunk) (b : Bool) → getD x (i % s .blocks) empty ≡ holds d → 0 < d .level → stays-at (s .blocks) e (i % s .blocks) (home s d) ≡ b
+      → pull places (home-of s) (s .blocks) (suc k) e i x ≡ pull places (home-of s) (s .blocks) k (cond b e (i % s .blocks)) (suc i) (cond b x (set x e (holds d)))
+  unfolding pull
+  code-next k e i x d b z l eb = rw (z, full-level d l, home-label s d, eb)
+
+  past-hole : (h t i : ℕ) (x : List (Block Chunk)) → 0 < t → t < s .blocks → i % s .blocks ≡ (h + t) % s .blocks → around (s .blocks) (stored (s .blocks) x h empty) (h + t) ≡ getD x (i % s .blocks) empty
+  unfolding around
+  past-hole h t i x pos few ei =
+      stored-elsewhere (s .blocks) x h (h + t) empty
+      (λ u. omega (arith, steps-apart (s .blocks) h t 0 few (omega arith) (u ∙ ap (λ (z : ℕ). z % s .blocks) (sym (add-zero h)))))
+      ∙ ap (λ (z : ℕ). getD x z empty) (sym ei)
+
+  moved : (h t e : ℕ) (x : List (Block Chunk)) (b : Block Chunk) → e ≡ h % s .blocks
+      → stored (s .blocks) (set x e b) (h + t) empty ≡ stored (s .blocks) (stored (s .blocks) (stored (s .blocks) x h empty) h b) (h + t) empty
+  unfolding stored
+  moved h t e x b ee = rw (ee, set-set x (h % s .blocks) empty b)
+
+  test : (h t e i : ℕ) (d : Chunk) → e ≡ h % s .blocks → i % s .blocks ≡ (h + t) % s .blocks → 0 < t → t < s .blocks
+      → stays-at (s .blocks) e (i % s .blocks) (home s d) ≡ not (leb t (distance (s .blocks) (home s d) ((h + t) % s .blocks)))
+  test h t e i d ee ei pos few =
+      rw (ei, ee)
+      (stays-crosses (s .blocks) (h % s .blocks) t ((h + t) % s .blocks) (home s d) (mod-lt h some) (home-inside s some d) pos few (mod-add-mod h (s .blocks) t))
+
+  cleared : (h e : ℕ) (x : List (Block Chunk)) → e ≡ h % s .blocks → set x e empty ≡ stored (s .blocks) x h empty
+  unfolding stored
+  cleared h e x ee = ap (λ (z : ℕ). set x z empty) ee
+
+  nothing-left : (h t e i : ℕ) (x : List (Block Chunk)) → e ≡ h % s .blocks
+      → pull places (home-of s) (s .blocks) zero e i x ≡ pull-from (home s) zero h t (s .blocks) (stored (s .blocks) x h empty)
+  unfolding pull pull-from
+  nothing-left h t e i x ee = cleared h e x ee
+
+  -- the code keeps in the hole what it has moved, and the theory empties it
+  pub pull-theory : (k h t e i : ℕ) (x : List (Block Chunk)) → All-good s x → e ≡ h % s .blocks → i % s .blocks ≡ (h + t) % s .blocks → 0 < t → t + k ≤ s .blocks
+      → pull places (home-of s) (s .blocks) k e i x ≡ pull-from (home s) k h t (s .blocks) (stored (s .blocks) x h empty)
+  pull-theory zero h t e i x v ee ei pos few = nothing-left h t e i x ee
+  pull-theory (suc k) h t e i x v ee ei pos few =
+      go (getD x (i % s .blocks) empty) refl (good-at s v (i % s .blocks))
+      (pull-theory k h (suc t) e (suc i) x v ee (suc-mod-same (s .blocks) i (h + t) ei ∙ ap (λ (z : ℕ). z % s .blocks) (omega arith)) (omega arith) (omega arith))
+      (λ b g. pull-theory k (h + t) 1 (i % s .blocks) (suc i) (set x e b) (good-set s v e g) ei (suc-mod-same (s .blocks) i (h + t) ei ∙ ap (λ (z : ℕ). z % s .blocks) (omega arith)) (omega arith) (omega arith))
+    where
+      go : (b : Block Chunk) → getD x (i % s .blocks) empty ≡ b → Good s b
+          → pull places (home-of s) (s .blocks) k e (suc i) x ≡ pull-from (home s) k h (suc t) (s .blocks) (stored (s .blocks) x h empty)
+          → ((b : Block Chunk) → Good s b → pull places (home-of s) (s .blocks) k (i % s .blocks) (suc i) (set x e b) ≡ pull-from (home s) k (h + t) 1 (s .blocks) (stored (s .blocks) (set x e b) (h + t) empty))
+          → pull places (home-of s) (s .blocks) (suc k) e i x ≡ pull-from (home s) (suc k) h t (s .blocks) (stored (s .blocks) x h empty)
+      go empty z g stay move =
+          code-stop k e i x z ∙ cleared h e x ee ∙ sym (pull-stop (home s) k h t (s .blocks) (stored (s .blocks) x h empty) (past-hole h t i x pos (omega arith) ei ∙ z))
+      go (holds d) z (held q) stay move = by (leb t (distance (s .blocks) (home s d) ((h + t) % s .blocks))) refl
+        where
+          by : (b : Bool) → leb t (distance (s .blocks) (home s d) ((h + t) % s .blocks)) ≡ b
+              → pull places (home-of s) (s .blocks) (suc k) e i x ≡ pull-from (home s) (suc k) h t (s .blocks) (stored (s .blocks) x h empty)
+          by true f =
+              code-next k e i x d false z (q .level) (test h t e i d ee ei pos (omega arith) ∙ ap not f)
+              ∙ move (holds d) (held q)
+              ∙ ap (λ (y : List (Block Chunk)). pull-from (home s) k (h + t) 1 (s .blocks) y) (moved h t e x (holds d) ee)
+              ∙ sym (pull-move (home s) k h t (s .blocks) (stored (s .blocks) x h empty) d (past-hole h t i x pos (omega arith) ei ∙ z) f)
+          by false f =
+              code-next k e i x d true z (q .level) (test h t e i d ee ei pos (omega arith) ∙ ap not f)
+              ∙ stay
+              ∙ sym (pull-pass (home s) k h t (s .blocks) (stored (s .blocks) x h empty) d (past-hole h t i x pos (omega arith) ei ∙ z) f)
+
+  -- THE REMOVAL by the code from the block i
+  pub pull-removed : (i : ℕ) (x : List (Block Chunk)) → All-good s x → i < s .blocks → pull places (home-of s) (s .blocks) (s .blocks - 1) i (i + 1) x ≡ removed-at (home s) (s .blocks) i x
+  unfolding removed-at
+  pull-removed i x v h = pull-theory (s .blocks - 1) i 1 i (i + 1) x v (sym (mod-eq-of-lt h)) refl (omega arith) (omega arith)

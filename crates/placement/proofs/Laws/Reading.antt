@@ -1,0 +1,96 @@
+-- What stands in the bytes of a block that a search found: the number of nodes, and each node. Assumes nothing.
+use mathlib.Core.Path.{_≡_, refl, sym, ap, _∙_}
+use mathlib.Core.List.{List, [], _∷_, _++_, append-assoc, append-nil}
+use Prim.Native.Nat.{ℕ, zero, suc, _+_, _*_, _-_, _≤_, _<_}
+use native.Mathlib.Nat.{add-zero}
+use native.Mathlib.Omega.{arith}
+use lib.ListN.{length, getD, drop, replicate, length-append}
+use lib.Seq.{getD-take, getD-drop}
+use Rattle.placement.specs.Blocks.{holds}
+use Rattle.placement.specs.declared.Sizes.{Sizes}
+use Rattle.placement.specs.declared.Order.{Order}
+use Rattle.placement.specs.Numbers.{big, field}
+use Rattle.placement.specs.Header.{block-long}
+use Rattle.placement.specs.Chunks.{block-bytes, node-bytes, nodes-bytes}
+use Rattle.placement.specs.Parts.{block-in}
+use Rattle.placement.specs.Place.{head-bytes}
+use Rattle.placement.specs.Maps.{labelled, Fine, Fines}
+use Rattle.placement.specs.declared.Label.{Label}
+use Rattle.placement.specs.Numbers.{rows}
+use Rattle.placement.proofs.Laws.Numbers.{length-big, field-big, field-past, field-part, field-head}
+
+abbrev pub node-at : List Order → ℕ → Order
+node-at ns j = getD ns j (record { key = 0; total = 0; displayed = 0 })
+
+node-long : (o : Order) → length (node-bytes o) ≡ 12
+unfolding node-bytes big
+node-long o = refl
+
+-- a field of node j
+pub node-field : (ns : List Order) (r : List ℕ) (j a n : ℕ) → j < length ns → a + n ≤ 12 → field (12 * j + a) n (nodes-bytes ns ++ r) ≡ field a n (node-bytes (node-at ns j))
+unfolding rows
+node-field [] r j a n h k = absurd (omega arith)
+node-field (o ∷ ns) r zero a n h k =
+    let e : 12 * 0 + a ≡ a = omega arith in
+    rw (e, append-assoc) (field-head a n (node-bytes o) (nodes-bytes ns ++ r) (omega (arith, node-long o)))
+node-field (o ∷ ns) r (suc j) a n h k =
+    let e : 12 * suc j + a ≡ length (node-bytes o) + (12 * j + a) = omega (arith, node-long o) in
+    rw (e, append-assoc, field-past (node-bytes o) (nodes-bytes ns ++ r) (12 * j + a) n) (node-field ns r j a n (omega arith) k)
+
+-- a number behind some bytes
+number-past : (x : List ℕ) (v : ℕ) (y : List ℕ) (a : ℕ) → length x ≡ a → v < 4294967296 → field a 4 (x ++ big 4 v ++ y) ≡ v
+number-past x v y a e h = rw append-assoc (ap (λ (k : ℕ). field k 4 (x ++ (big 4 v ++ y))) (sym e ∙ sym (add-zero (length x))) ∙ field-past x (big 4 v ++ y) 0 4 ∙ field-big 4 v y (omega arith))
+
+fine-at : (ns : List Order) (j : ℕ) → Fines ns → Fine (node-at ns j)
+fine-at [] j f = record { key = omega arith; total = omega arith; displayed = omega arith }
+fine-at (o ∷ ns) zero f = f .0
+fine-at (o ∷ ns) (suc j) f = fine-at ns j (f .1)
+
+module _ (o : Order) (f : Fine o) where
+  key-field : field 0 4 (node-bytes o) ≡ o .key
+  unfolding node-bytes
+  key-field = rw append-assoc (field-big 4 (o .key) _ (f .key))
+
+  total-field : field 4 4 (node-bytes o) ≡ o .total
+  unfolding node-bytes
+  total-field = number-past (big 4 (o .key)) (o .total) (big 4 (o .displayed)) 4 (length-big 4 (o .key)) (f .total)
+
+  displayed-field : field 8 4 (node-bytes o) ≡ o .displayed
+  unfolding node-bytes
+  displayed-field =
+      ap (field 8 4) (sym (append-nil (big 4 (o .key) ++ big 4 (o .total) ++ big 4 (o .displayed))))
+      ∙ number-past (big 4 (o .key) ++ big 4 (o .total)) (o .displayed) [] 8 (length-append (big 4 (o .key)) (big 4 (o .total)) ∙ rw (length-big 4 (o .key), length-big 4 (o .total))) (f .displayed)
+
+-- the block i has the nodes ns under the label w
+module _ (s : Sizes) (bs : List ℕ) (i : ℕ) (w : Label) (ns : List Order) (is : block-in (block-long s) bs i ≡ block-bytes s (holds (labelled w ns))) (few : length ns ≤ s .nodes) (fine : Fines ns) where
+  -- THE NUMBER of its nodes
+  pub count-read : getD bs (53 + i * block-long s + 1) 0 ≡ length ns
+  unfolding block-in block-bytes block-long
+  count-read =
+      let h : 1 < 8 + 12 * s .nodes = omega arith in
+      sym (getD-take (block-long s) (drop (53 + i * block-long s) bs) 1 0 h ∙ getD-drop (53 + i * block-long s) bs 1 0) ∙ ap (λ (x : List ℕ). getD x 1 0) is
+
+  in-nodes : (a n : ℕ) → field (8 + a) n (block-bytes s (holds (labelled w ns))) ≡ field a n (nodes-bytes ns ++ replicate (12 * (s .nodes - length ns)) 0)
+  unfolding block-bytes head-bytes big
+  in-nodes a n = field-past (head-bytes w (length ns)) (nodes-bytes ns ++ replicate (12 * (s .nodes - length ns)) 0) a n
+
+  within : (j a n : ℕ) → j < length ns → a + n ≤ 12 → 8 + (12 * j + a) + n ≤ block-long s
+  unfolding block-long
+  within j a n h k = omega arith
+
+  read : (j a n : ℕ) → j < length ns → a + n ≤ 12 → field (53 + i * block-long s + (8 + (12 * j + a))) n bs ≡ field a n (node-bytes (node-at ns j))
+  unfolding block-in
+  read j a n h k =
+      sym (field-part (8 + (12 * j + a)) n (block-long s) (53 + i * block-long s) bs (within j a n h k))
+      ∙ ap (field (8 + (12 * j + a)) n) is ∙ in-nodes (12 * j + a) n ∙ node-field ns _ j a n h k
+
+  -- A NODE: its key and quantities
+  module _ (j : ℕ) (h : j < length ns) where
+    pub key-read : field (53 + i * block-long s + (8 + (12 * j + 0))) 4 bs ≡ node-at ns j .key
+    key-read = read j 0 4 h (omega arith) ∙ key-field (node-at ns j) (fine-at ns j fine)
+
+    pub total-read : field (53 + i * block-long s + (8 + (12 * j + 4))) 4 bs ≡ node-at ns j .total
+    total-read = read j 4 4 h (omega arith) ∙ total-field (node-at ns j) (fine-at ns j fine)
+
+    pub displayed-read : field (53 + i * block-long s + (8 + (12 * j + 8))) 4 bs ≡ node-at ns j .displayed
+    displayed-read = read j 8 4 h (omega arith) ∙ displayed-field (node-at ns j) (fine-at ns j fine)

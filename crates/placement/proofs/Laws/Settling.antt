@@ -1,0 +1,199 @@
+-- The insertion by the code, on a list of blocks, is the insertion of the theory. Assumes nothing.
+use mathlib.Core.Path.{_≡_, refl, sym, ap, _∙_}
+use mathlib.Core.Logic.{_≢_}
+use mathlib.Core.Bool.{Bool, true, false, cond, true≢false}
+use mathlib.Core.List.{List}
+use Prim.Native.Nat.{ℕ, zero, suc, _+_, _%_, _<_}
+use native.Mathlib.Nat.{add-zero}
+use native.Mathlib.Decide.{ℕ-discrete}
+use native.Mathlib.Omega.{arith}
+use lib.Dec.{eqb}
+use lib.ListN.{length, getD, set, length-set}
+use lib.Seq.{set-set, set-comm, getD-set-same, getD-set-other}
+use borrow.Author.Tests.{eqb-true, eqb-false}
+use Rattle.placement.specs.Blocks.{Block, empty, holds, around, stored, is-free}
+use Rattle.placement.specs.declared.Sizes.{Sizes}
+use Rattle.placement.specs.Chunks.{Chunk, home, label-before}
+use Rattle.placement.specs.Place.{settle, free-in}
+use Rattle.placement.specs.declared.Label.{Label}
+use Rattle.placement.specs.declared.Found.the-variants.{At, Nothing}
+use Rattle.placement.proofs.Laws.Blocks.{stored-there, stored-elsewhere}
+use Rattle.placement.proofs.Laws.Insertion.{insert-from, Carry, carry-on, carry-swap}
+use Rattle.placement.proofs.Laws.Walks.{insert-stop, insert-on, insert-swap}
+use Rattle.placement.proofs.Laws.Labels.{labels-strict, labels-chain, home-tied, home-inside}
+use Rattle.placement.proofs.Laws.Bridge.{places, before-chunk}
+use Rattle.placement.specs.Hash.{level}
+
+module _ (s : Sizes) (some : 0 < s .blocks) where
+  -- c is carried, k steps before the empty block e
+  pub record Ahead (k i e : ℕ) (bs : List (Block Chunk)) : Type 0 where
+    pub long : length bs ≡ s .blocks
+    pub there : (i + k) % s .blocks ≡ e
+    pub free : getD bs e empty ≡ empty
+    pub full : (l : ℕ) → l < k → is-free (around (s .blocks) bs (i + l)) ≡ false
+
+  abbrev Carried : (fuel i : ℕ) → Chunk → List (Block Chunk) → Type 0
+  Carried f i c bs = Carry (home s) label-before (s .blocks) labels-strict labels-chain (home-tied s) (home-inside s some) f i c bs
+
+  code-step : (k e i : ℕ) (x : List (Block Chunk)) (c d : Chunk) (b : Bool) → getD x e empty ≡ holds c → getD x (i % s .blocks) empty ≡ holds d → label-before c d ≡ b
+      → settle places (s .blocks) (suc k) e i x ≡ settle places (s .blocks) k e (suc i) (cond b (set (set x (i % s .blocks) (holds c)) e (holds d)) x)
+  unfolding settle
+  code-step k e i x c d b ze zi eb = rw (ze, zi, before-chunk c d, eb)
+
+  code-done : (e i : ℕ) (x : List (Block Chunk)) → settle places (s .blocks) zero e i x ≡ x
+  unfolding settle
+  code-done e i x = refl
+
+  module _ (e : ℕ) (inside : e < s .blocks) where
+    swapped : (bs : List (Block Chunk)) (j : ℕ) (c d : Chunk) → j ≢ e → set (set (set bs e (holds c)) j (holds c)) e (holds d) ≡ set (set bs j (holds c)) e (holds d)
+    swapped bs j c d ne = rw (set-comm bs e j (holds c) (holds c) (λ u. ne (sym u)), set-set (set bs j (holds c)) e (holds c) (holds d))
+
+    not-e : (bs : List (Block Chunk)) (j : ℕ) (d : Chunk) → getD bs e empty ≡ empty → getD bs j empty ≡ holds d → j ≢ e
+    not-e bs j d u w q = true≢false cc
+
+    full-after : (k i : ℕ) (bs : List (Block Chunk)) (b : Block Chunk) → is-free b ≡ false → length bs ≡ s .blocks
+        → ((l : ℕ) → l < suc k → is-free (around (s .blocks) bs (i + l)) ≡ false) → (l : ℕ) → l < k → is-free (around (s .blocks) (stored (s .blocks) bs i b) (suc i + l)) ≡ false
+    full-after k i bs b fb long full l w = go (ℕ-discrete ((suc i + l) % s .blocks) (i % s .blocks))
+      where
+        go : Dec ((suc i + l) % s .blocks ≡ i % s .blocks) → is-free (around (s .blocks) (stored (s .blocks) bs i b) (suc i + l)) ≡ false
+        go (yes u) = rw (stored-there (s .blocks) bs i (suc i + l) b some long u) fb
+        go (no u) = rw (stored-elsewhere (s .blocks) bs i (suc i + l) b u) (ap (λ (n : ℕ). is-free (around (s .blocks) bs n)) (omega arith) ∙ full (suc l) (omega arith))
+
+    ahead-on : (k i : ℕ) (bs : List (Block Chunk)) → Ahead (suc k) i e bs → Ahead k (suc i) e bs
+    ahead-on k i bs a = record {
+      long = a .long;
+      there = ap (λ (n : ℕ). n % s .blocks) (omega arith) ∙ a .there;
+      free = a .free;
+      full = λ l w. ap (λ (n : ℕ). is-free (around (s .blocks) bs n)) (omega arith) ∙ a .full (suc l) (omega arith);
+    }
+
+    ahead-swap : (k i : ℕ) (bs : List (Block Chunk)) (c : Chunk) → i % s .blocks ≢ e → Ahead (suc k) i e bs → Ahead k (suc i) e (stored (s .blocks) bs i (holds c))
+    unfolding stored
+    ahead-swap k i bs c ne a = record {
+      long = length-set bs (i % s .blocks) (holds c) ∙ a .long;
+      there = ap (λ (n : ℕ). n % s .blocks) (omega arith) ∙ a .there;
+      free = getD-set-other bs (i % s .blocks) e (holds c) empty (λ u. ne (sym u)) ∙ a .free;
+      full = full-after k i bs (holds c) refl (a .long) (a .full);
+    }
+
+    -- the block at i is full
+    pub record Full (i : ℕ) (bs : List (Block Chunk)) : Type 0 where
+      pub chunk : Chunk
+      pub is : around (s .blocks) bs i ≡ holds chunk
+
+    is-full : (b : Block Chunk) (i : ℕ) (bs : List (Block Chunk)) → around (s .blocks) bs i ≡ b → is-free b ≡ false → Full i bs
+    is-full empty i bs z h = absurd (true≢false h)
+    is-full (holds d) i bs z h = record { chunk = d; is = z }
+
+    first-full : (k i : ℕ) (bs : List (Block Chunk)) → Ahead (suc k) i e bs → Full i bs
+    first-full k i bs a = is-full (around (s .blocks) bs i) i bs refl (ap (λ (n : ℕ). is-free (around (s .blocks) bs n)) (sym (add-zero i)) ∙ a .full 0 (omega arith))
+
+    landed : (i : ℕ) (bs : List (Block Chunk)) → Ahead 0 i e bs → i % s .blocks ≡ e
+    landed i bs a = ap (λ (n : ℕ). n % s .blocks) (sym (add-zero i)) ∙ a .there
+
+    lands-free : (i : ℕ) (bs : List (Block Chunk)) → Ahead 0 i e bs → around (s .blocks) bs i ≡ empty
+    unfolding around
+    lands-free i bs a = ap (λ (n : ℕ). getD bs n empty) (landed i bs a) ∙ a .free
+
+    lands-in : (i : ℕ) (bs : List (Block Chunk)) (b : Block Chunk) → Ahead 0 i e bs → set bs e b ≡ stored (s .blocks) bs i b
+    unfolding stored
+    lands-in i bs b a = ap (λ (n : ℕ). set bs n b) (sym (landed i bs a))
+
+    carried-at : (bs : List (Block Chunk)) (c : Chunk) → length bs ≡ s .blocks → getD (set bs e (holds c)) e empty ≡ holds c
+    carried-at bs c l = getD-set-same bs e (holds c) empty (omega arith)
+
+    block-at : (i : ℕ) (bs : List (Block Chunk)) (d : Chunk) → around (s .blocks) bs i ≡ holds d → getD bs (i % s .blocks) empty ≡ holds d
+    unfolding around
+    block-at i bs d z = z
+
+    other-at : (j : ℕ) (bs : List (Block Chunk)) (c d : Chunk) → j ≢ e → getD bs j empty ≡ holds d → getD (set bs e (holds c)) j empty ≡ holds d
+    other-at j bs c d ne z = getD-set-other bs e j (holds c) empty ne ∙ z
+
+    swapped-in : (i : ℕ) (bs : List (Block Chunk)) (c d : Chunk) → i % s .blocks ≢ e
+        → set (set (set bs e (holds c)) (i % s .blocks) (holds c)) e (holds d) ≡ set (stored (s .blocks) bs i (holds c)) e (holds d)
+    unfolding stored
+    swapped-in i bs c d ne = swapped bs (i % s .blocks) c d ne
+
+    not-both : (c d : Chunk) → label-before d c ≡ true → label-before c d ≡ false
+    not-both c d h = go (label-before c d) refl
+      where
+        go : (b : Bool) → label-before c d ≡ b → label-before c d ≡ false
+        go false z = z
+        go true z = absurd (true≢false (sym (labels-chain c d c z h) ∙ labels-strict c))
+
+    -- the code keeps the carried chunk in the empty block
+    pub settle-theory : (k f i : ℕ) (c : Chunk) (bs : List (Block Chunk)) → Carried f i c bs → Ahead k i e bs
+        → settle places (s .blocks) k e i (set bs e (holds c)) ≡ insert-from label-before f i (s .blocks) c bs
+    settle-theory k zero i c bs y a = absurd (omega (arith, y .near))
+    settle-theory zero (suc f) i c bs y a =
+        code-done e i (set bs e (holds c)) ∙ lands-in i bs (holds c) a ∙ sym (insert-stop label-before f i (s .blocks) c bs (lands-free i bs a))
+    settle-theory (suc k) (suc f) i c bs y a =
+        go (first-full k i bs a) (λ u. settle-theory k f (suc i) c bs u (ahead-on k i bs a))
+        (λ d u n. settle-theory k f (suc i) d (stored (s .blocks) bs i (holds c)) u (ahead-swap k i bs c n a))
+      where
+        go : Full i bs
+            → (Carried f (suc i) c bs → settle places (s .blocks) k e (suc i) (set bs e (holds c)) ≡ insert-from label-before f (suc i) (s .blocks) c bs)
+            → ((d : Chunk) → Carried f (suc i) d (stored (s .blocks) bs i (holds c)) → i % s .blocks ≢ e
+            → settle places (s .blocks) k e (suc i) (set (stored (s .blocks) bs i (holds c)) e (holds d)) ≡ insert-from label-before f (suc i) (s .blocks) d (stored (s .blocks) bs i (holds c)))
+            → settle places (s .blocks) (suc k) e i (set bs e (holds c)) ≡ insert-from label-before (suc f) i (s .blocks) c bs
+        go w on swap = by (label-before (w .chunk) c) refl
+          where
+            z : getD bs (i % s .blocks) empty ≡ holds (w .chunk)
+            z = block-at i bs (w .chunk) (w .is)
+
+            ne : i % s .blocks ≢ e
+            ne = not-e bs (i % s .blocks) (w .chunk) (a .free) z
+
+            by : (b : Bool) → label-before (w .chunk) c ≡ b → settle places (s .blocks) (suc k) e i (set bs e (holds c)) ≡ insert-from label-before (suc f) i (s .blocks) c bs
+            by true h =
+                code-step k e i (set bs e (holds c)) c (w .chunk) false (carried-at bs c (a .long)) (other-at (i % s .blocks) bs c (w .chunk) ne z) (not-both c (w .chunk) h)
+                ∙ on (carry-on (home s) label-before (s .blocks) labels-strict labels-chain (home-tied s) (home-inside s some) f i c (w .chunk) bs y (w .is) h)
+                ∙ sym (insert-on label-before f i (s .blocks) c bs (w .chunk) (w .is) h)
+            by false h =
+                code-step k e i (set bs e (holds c)) c (w .chunk) true (carried-at bs c (a .long)) (other-at (i % s .blocks) bs c (w .chunk) ne z) (y .other (w .chunk) (record { at = i; is = w .is }) h)
+                ∙ ap (λ (x : List (Block Chunk)). settle places (s .blocks) k e (suc i) x) (swapped-in i bs c (w .chunk) ne)
+                ∙ swap (w .chunk) (carry-swap (home s) label-before (s .blocks) labels-strict labels-chain (home-tied s) (home-inside s some) f i c (w .chunk) bs y (w .is) h) ne
+                ∙ sym (insert-swap label-before f i (s .blocks) c bs (w .chunk) (w .is) h)
+
+-- the first empty block from i on, k steps on
+pub record First-free (look : ℕ → Label) (m fuel i e : ℕ) : Type 0 where
+  pub steps : ℕ
+  pub few : steps < fuel
+  pub there : (i + steps) % m ≡ e
+  pub free : look e .level ≡ 0
+  pub full : (l : ℕ) → l < steps → look ((i + l) % m) .level ≢ 0
+
+module _ (look : ℕ → Label) (m : ℕ) where
+  same-at : (a b : ℕ) → At a ≡ At b → a ≡ b
+  same-at a b e = cc
+
+  pub free-first : (fuel i e : ℕ) → free-in look m fuel i ≡ At e → First-free look m fuel i e
+  unfolding free-in
+  free-first zero i e h = absurd (true≢false cc)
+  free-first (suc f) i e h = go (eqb (look (i % m) .level) 0) refl h (λ u. free-first f (suc i) e u)
+    where
+      go : (b : Bool) → eqb (look (i % m) .level) 0 ≡ b → cond b (At (i % m)) (free-in look m f (suc i)) ≡ At e
+          → (free-in look m f (suc i) ≡ At e → First-free look m f (suc i) e) → First-free look m (suc f) i e
+      go true t q rest =
+          let u : i % m ≡ e = same-at (i % m) e q in
+          record { steps = 0; few = omega arith; there = ap (λ (n : ℕ). n % m) (add-zero i) ∙ u; free = rw (← u) (eqb-true _ _ t); full = λ l w. absurd (omega arith) }
+      go false t q rest = later (rest q)
+        where
+          later : First-free look m f (suc i) e → First-free look m (suc f) i e
+          later r = record { steps = suc (r .steps); few = omega (arith, r .few); there = ap (λ (n : ℕ). n % m) (omega arith) ∙ r .there; free = r .free; full = full }
+            where
+              full : (l : ℕ) → l < suc (r .steps) → look ((i + l) % m) .level ≢ 0
+              full zero w u = eqb-false _ _ t (ap (λ (n : ℕ). look (n % m) .level) (sym (add-zero i)) ∙ u)
+              full (suc l) w u = r .full l (omega arith) (ap (λ (n : ℕ). look (n % m) .level) (omega arith) ∙ u)
+
+  -- where a block is empty the search for one does not fail
+  pub free-found : (fuel i k : ℕ) → k < fuel → look ((i + k) % m) .level ≡ 0 → free-in look m fuel i ≡ Nothing → ⊥
+  unfolding free-in
+  free-found zero i k w z h = omega arith
+  free-found (suc f) i k w z h = go (eqb (look (i % m) .level) 0) refl h (λ k w z u. free-found f (suc i) k w z u) k w z
+    where
+      go : (b : Bool) → eqb (look (i % m) .level) 0 ≡ b → cond b (At (i % m)) (free-in look m f (suc i)) ≡ Nothing
+          → ((k : ℕ) → k < f → look ((suc i + k) % m) .level ≡ 0 → free-in look m f (suc i) ≡ Nothing → ⊥) → (k : ℕ) → k < suc f → look ((i + k) % m) .level ≡ 0 → ⊥
+      go true t q rest k w z = true≢false cc
+      go false t q rest zero w z = eqb-false _ _ t (ap (λ (n : ℕ). look (n % m) .level) (sym (add-zero i)) ∙ z)
+      go false t q rest (suc k) w z = rest k (omega arith) (ap (λ (n : ℕ). look (n % m) .level) (omega arith) ∙ z) q

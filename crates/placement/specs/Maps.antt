@@ -1,0 +1,106 @@
+-- What placement promises the layer above: a table told as a map from labels to nodes, [] for a label that is absent, and the bytes that keep one. Assumes nothing: these are definitions.
+use mathlib.Core.Path.{_≡_}
+use mathlib.Core.Logic.{_≢_}
+use mathlib.Core.Bool.{Bool, true, _&&_, cond}
+use mathlib.Core.List.{List, [], _∷_, _++_}
+use Prim.Native.Nat.{ℕ, _<_, _≤_}
+use lib.Dec.{eqb}
+use lib.ListN.{length}
+use Rattle.placement.specs.Blocks.{Block, holds, Stands, Rule-3, how-many}
+use Rattle.placement.specs.Sizes.{made}
+use Rattle.placement.specs.Header.{sizes-in, block-long}
+use Rattle.placement.specs.Chunks.{Chunk, home, label-before, block-bytes, all-bytes}
+use Rattle.placement.specs.Parts.{block-in}
+use Rattle.placement.specs.declared.Sizes.{Sizes}
+use Rattle.placement.specs.declared.Order.{Order}
+use Rattle.placement.specs.declared.Label.{Label}
+use Rattle.placement.specs.declared.Found.{Found}
+use Rattle.placement.specs.declared.Found.the-variants.{At, Nothing}
+
+abbrev pub Map : Type 0
+Map = (level first number : ℕ) → List Order
+
+abbrev pub at : Map → Chunk → List Order
+at F c = F (c .level) (c .first) (c .number)
+
+abbrev pub chunk : Map → (level first number : ℕ) → Chunk
+chunk F l f i = record { level = l; first = f; number = i; nodes = F l f i }
+
+-- the table holds what the map tells
+pub record Holds (m : ℕ) (bs : List (Block Chunk)) (F : Map) : Type 0 where
+  pub told : (c : Chunk) → Stands m bs c → at F c ≡ c .nodes
+  pub full : (c : Chunk) → Stands m bs c → c .nodes ≢ []
+  pub all : (l f i : ℕ) → F l f i ≢ [] → Stands m bs (chunk F l f i)
+
+-- the map with a chunk put in, and with a label taken out
+unfoldable pub is-label : Chunk → (level first number : ℕ) → Bool
+is-label c l f i = eqb (c .level) l && (eqb (c .first) f && eqb (c .number) i)
+
+unfoldable pub with-chunk : Chunk → Map → Map
+with-chunk c F l f i = cond (is-label c l f i) (c .nodes) (F l f i)
+
+unfoldable pub without-label : Chunk → Map → Map
+without-label c F l f i = cond (is-label c l f i) [] (F l f i)
+
+-- a table of sizes s that keeps rule 3 and holds the map F in n blocks
+pub record Keeps (s : Sizes) (bs : List (Block Chunk)) (F : Map) (n : ℕ) : Type 0 where
+  pub long : length bs ≡ s .blocks
+  pub rule-3 : Rule-3 (home s) label-before (s .blocks) bs
+  pub map : Holds (s .blocks) bs F
+  pub count : how-many bs ≡ n
+
+-- the map of some chunks
+unfoldable pub map-of : List Chunk → Map
+map-of [] l f i = []
+map-of (c ∷ cs) l f i = cond (is-label c l f i) (c .nodes) (map-of cs l f i)
+
+-- a node of numbers of four bytes
+pub record Fine (o : Order) : Type 0 where
+  pub key : o .key < 4294967296
+  pub total : o .total < 4294967296
+  pub displayed : o .displayed < 4294967296
+
+abbrev pub Fines : List Order → Type 0
+Fines [] = Unit {0}
+Fines (o ∷ os) = Fine o × Fines os
+
+-- a chunk that the bytes of a block can hold
+pub record Holdable (s : Sizes) (c : Chunk) : Type 0 where
+  pub level : 0 < c .level
+  pub first : c .first < 4294967296
+  pub number : c .number < 65536
+  pub fine : Fines (c .nodes)
+  pub nodes : length (c .nodes) ≤ s .nodes
+
+-- every chunk of the map is one that a block can hold
+abbrev pub Sound : Sizes → Map → Type 0
+Sound s F = (l f i : ℕ) → F l f i ≢ [] → Holdable s (chunk F l f i)
+
+-- a label with nodes
+abbrev pub labelled : Label → List Order → Chunk
+labelled w ns = record { level = w .level; first = w .first; number = w .number; nodes = ns }
+
+abbrev pub nodes-of : Map → Label → List Order
+nodes-of F w = F (w .level) (w .first) (w .number)
+
+-- the map with nodes under a label, and with the label cleared
+abbrev pub with-nodes : Label → List Order → Map → Map
+with-nodes w ns F = with-chunk (labelled w ns) F
+
+abbrev pub cleared : Label → Map → Map
+cleared w F = without-label (labelled w []) F
+
+-- BYTES OF A TABLE: a header of 53 bytes that has the sizes s, and blocks that keep the map F, n of them full
+pub record Table (s : Sizes) (F : Map) (n : ℕ) (hd bs : List ℕ) : Type 0 where
+  pub good : made s ≡ true
+  pub head : length hd ≡ 53
+  pub sizes : sizes-in hd ≡ s
+  pub sound : Sound s F
+  pub blocks : List (Block Chunk)
+  pub is : bs ≡ hd ++ all-bytes s blocks
+  pub keeps : Keeps s blocks F n
+
+-- WHAT A SEARCH FINDS: the block with the label and its nodes, or nothing where the map has nothing
+pub data Finds (s : Sizes) (F : Map) (w : Label) (bs : List ℕ) : Found → Type 0 where
+  is-at : {i : ℕ} → i < s .blocks → nodes-of F w ≢ [] → block-in (block-long s) bs i ≡ block-bytes s (holds (labelled w (nodes-of F w))) → Finds s F w bs (At i)
+  is-none : nodes-of F w ≡ [] → Finds s F w bs Nothing

@@ -1,0 +1,117 @@
+-- Labels in the bytes of a table: the search for one, the removal and the insertion of a chunk. Document 01, "When bytes are an image". Assumes nothing: these are definitions.
+use mathlib.Core.Path.{_≡_}
+use mathlib.Core.List.{List, _∷_, _++_}
+use mathlib.Core.Bool.{Bool, true, false, _&&_, _||_, not, cond}
+use Prim.Native.Nat.{ℕ, zero, suc, _+_, _*_, _-_, _%_, _≤_, _<_}
+use lib.Dec.{ltb, leb, eqb}
+use lib.ListN.{length, getD, replicate}
+use Rattle.placement.specs.Numbers.{field, big}
+use Rattle.placement.specs.Sizes.{prime, seed-good}
+use Rattle.placement.specs.Hash.{g}
+use Rattle.placement.specs.Header.{block-long}
+use Rattle.placement.specs.Parts.{put-block, clear-in, copy-in, swap-in}
+use Rattle.placement.specs.declared.Sizes.{Sizes}
+use Rattle.placement.specs.declared.Label.{Label}
+use Rattle.placement.specs.declared.Found.{Found}
+use Rattle.placement.specs.declared.Found.the-variants.{At, Nothing}
+
+-- the bytes are as long as those of a table of sizes s, and the sizes and seed are small enough to compute with
+pub record Shaped (s : Sizes) (bs : List ℕ) : Type 0 where
+  pub long : length bs ≡ 53 + s .blocks * block-long s
+  pub width : block-long s ≡ 8 + 12 * s .nodes
+  pub few : s .nodes ≤ 32
+  pub some : 0 < s .blocks
+  pub most : s .blocks ≤ 65535
+  pub seeds : seed-good (s .seed) ≡ true
+
+-- the label of block i
+unfoldable pub label-in : (long : ℕ) → List ℕ → (i : ℕ) → Label
+label-in w bs i = record { level = getD bs (53 + i * w) 0; first = field (53 + i * w + 4) 4 bs; number = field (53 + i * w + 2) 2 bs }
+
+unfoldable pub before-label : Label → Label → Bool
+before-label a b =
+    ltb (a .level) (b .level) || (eqb (a .level) (b .level) && (ltb (a .first) (b .first) || (eqb (a .first) (b .first) && ltb (a .number) (b .number))))
+
+unfoldable pub same-label : Label → Label → Bool
+same-label a b = eqb (a .level) (b .level) && (eqb (a .first) (b .first) && eqb (a .number) (b .number))
+
+-- a search goes past a block that holds a smaller label
+unfoldable pub passes-label : Label → Label → Bool
+passes-label l w = ltb 0 (l .level) && before-label l w
+
+-- the block where the search for a label starts
+unfoldable pub home-of : Sizes → Label → ℕ
+home-of s w = (g s (w .first) + 65536 * w .level + w .number) % prime % s .blocks
+
+-- THE SEARCH over the labels of blocks, from block i % m on
+unfoldable pub probe : (look : ℕ → Label) → (m : ℕ) → (want : Label) → (fuel i : ℕ) → Found
+probe look m w zero i = Nothing
+probe look m w (suc k) i =
+    cond (passes-label (look (i % m)) w) (probe look m w k (suc i)) (cond (same-label (look (i % m)) w) (At (i % m)) Nothing)
+
+-- the search for a label in the bytes of a table
+unfoldable pub search-in : Sizes → List ℕ → Label → Found
+search-in s bs w = probe (label-in (block-long s) bs) (s .blocks) w (s .blocks) (home-of s w)
+
+-- REMOVAL: how far it is from block a on to block b; a chunk stays if its home lies past the hole, up to its block
+unfoldable pub distance-of : (m a b : ℕ) → ℕ
+distance-of m a b = (b + m - a) % m
+
+unfoldable pub stays-at : (m hole j home : ℕ) → Bool
+stays-at m e j h = not (eqb (distance-of m e h) 0) && leb (distance-of m e h) (distance-of m e j)
+
+-- what an edit may do to a table of blocks. The bytes have it, and so has a list of blocks: an edit is defined once, over either
+pub record Store (S : Type 0) : Type 0 where
+  pub look : S → (i : ℕ) → Label
+  pub copy : S → (from to : ℕ) → S
+  pub swap : S → (a b : ℕ) → S
+  pub clear : S → (i : ℕ) → S
+
+abbrev pub bytes : (w : ℕ) → Store (List ℕ)
+bytes w = record { look = label-in w; copy = copy-in w; swap = swap-in w; clear = clear-in w }
+
+-- one block of a removal: where the hole is then, and the table
+pub record Pulled (s : Sizes) (e j home : ℕ) (x x′ : List ℕ) (r : ℕ) : Type 0 where
+  pub hole : r ≡ cond (stays-at (s .blocks) e j home) e j
+  pub table : x′ ≡ cond (stays-at (s .blocks) e j home) x (copy-in (block-long s) x j e)
+
+-- the table with the hole filled from later blocks, from block i % m on, and then empty
+unfoldable pub pull : {S : Type 0} → Store S → (home : Label → ℕ) → (m : ℕ) → (fuel hole i : ℕ) → S → S
+pull st home m zero e i x = st .clear x e
+pull st home m (suc k) e i x =
+    cond (eqb (st .look x (i % m) .level) 0) (st .clear x e)
+    (pull st home m k (cond (stays-at m e (i % m) (home (st .look x (i % m)))) e (i % m)) (suc i)
+    (cond (stays-at m e (i % m) (home (st .look x (i % m)))) x (st .copy x (i % m) e)))
+
+-- INSERTION: a chunk that stands in the block e, past the others, changes places with each larger one from its home on
+unfoldable pub settle : {S : Type 0} → Store S → (m : ℕ) → (fuel e i : ℕ) → S → S
+settle st m zero e i x = x
+settle st m (suc k) e i x =
+    settle st m k e (suc i) (cond (before-label (st .look x e) (st .look x (i % m))) (st .swap x (i % m) e) x)
+
+-- what a search found: a block, and the table without the chunk that stands there
+unfoldable pub found-at : Found → Bool
+found-at (At i) = true
+found-at Nothing = false
+
+unfoldable pub taken-out : Sizes → Found → List ℕ → List ℕ
+taken-out s (At i) bs = pull (bytes (block-long s)) (home-of s) (s .blocks) (s .blocks - 1) i (i + 1) bs
+taken-out s Nothing bs = bs
+
+-- the first empty block from block i % m on
+unfoldable pub free-in : (look : ℕ → Label) → (m : ℕ) → (fuel i : ℕ) → Found
+free-in look m zero i = Nothing
+free-in look m (suc k) i = cond (eqb (look (i % m) .level) 0) (At (i % m)) (free-in look m k (suc i))
+
+-- the bytes of a block: a label, n nodes whose bytes are given, and zeros up to w
+unfoldable pub head-bytes : Label → (n : ℕ) → List ℕ
+head-bytes l n = l .level ∷ n ∷ (big 2 (l .number) ++ big 4 (l .first))
+
+unfoldable pub block-with : (w : ℕ) → Label → (n : ℕ) → (nodes : List ℕ) → List ℕ
+block-with w l n xs = head-bytes l n ++ xs ++ replicate (w - 8 - 12 * n) 0
+
+-- a new chunk: it goes to the empty block, and from there to its place
+unfoldable pub inserted : Sizes → Found → Label → (n : ℕ) → (nodes : List ℕ) → List ℕ → List ℕ
+inserted s (At e) l n xs bs =
+    settle (bytes (block-long s)) (s .blocks) (distance-of (s .blocks) (home-of s l) e) e (home-of s l) (put-block (block-long s) bs e (block-with (block-long s) l n xs))
+inserted s Nothing l n xs bs = bs

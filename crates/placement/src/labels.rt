@@ -1,0 +1,78 @@
+// Labels: read from a block, compared, and the block where the search for one starts.
+ghost use mathlib.Core.Path.{_≡_};
+ghost use Prim.Native.Nat.{ℕ, _+_, _*_, _<_, _≤_};
+ghost use Rattle.placement.specs.Header.{block-long};
+ghost use mathlib.Core.Bool.{true};
+ghost use Rattle.placement.specs.Sizes.{seed-good};
+ghost use Rattle.placement.specs.Place.{Shaped, label-in, before-label, same-label, passes-label, home-of};
+use crate::Label;
+use crate::Sizes;
+
+// The bytes of a block.
+pub fn block_length(s: Sizes) -> u32
+    requires { ⌜ s .nodes ≤ 32 ⌝ }
+    ensures { λ r. ⌜ (r ≡ block-long s) × (r ≤ 392) ⌝ }
+{
+    8 + 12 * s.nodes
+}
+
+// Where a block starts.
+pub fn offset(s: Sizes, i: u32) -> usize
+    requires { ⌜ (i < s .blocks) × (s .blocks ≤ 65535) × (s .nodes ≤ 32) ⌝ }
+    ensures { λ r. ⌜ (r ≡ 53 + i * block-long s) × (r + block-long s ≤ 53 + s .blocks * block-long s) ⌝ }
+{
+    53 + i as usize * (block_length(s) as usize)
+}
+
+pub fn label_at(table: &[u8], s: Sizes, i: u32) -> Label
+    requires { ⌜ Shaped s (now table) × (i < s .blocks) ⌝ }
+    ensures { λ r. ⌜ r ≡ label-in (block-long s) (now (table .entry)) i ⌝ }
+{
+    let at = offset(s, i);
+    let level = crate::numbers::wide(table[at]);
+    let number = crate::numbers::be2(table, at + 2);
+    let first = crate::numbers::be4(table, at + 4);
+    Label {
+        level: level,
+        first: first,
+        number: number,
+    }
+}
+
+pub fn before(a: Label, b: Label) -> bool
+    ensures { λ r. ⌜ r ≡ before-label a b ⌝ }
+{
+    if a.level != b.level {
+        return a.level < b.level;
+    }
+    if a.first != b.first {
+        return a.first < b.first;
+    }
+    a.number < b.number
+}
+
+pub fn same(a: Label, b: Label) -> bool
+    ensures { λ r. ⌜ r ≡ same-label a b ⌝ }
+{
+    a.level == b.level && (a.first == b.first && a.number == b.number)
+}
+
+// A search goes past a block that holds a smaller label.
+pub fn passes(l: Label, want: Label) -> bool
+    ensures { λ r. ⌜ r ≡ passes-label l want ⌝ }
+{
+    if l.level == 0 {
+        return false;
+    }
+    before(l, want)
+}
+
+// The block where the search for a label starts: mod p before mod M.
+pub fn home(s: Sizes, want: Label) -> u32
+    requires { ⌜ (seed-good (s .seed) ≡ true) × (0 < s .blocks) × (s .blocks ≤ 65535) ⌝ }
+    ensures { λ r. ⌜ (r ≡ home-of s want) × (r < s .blocks) ⌝ }
+{
+    let h = crate::hash::hash(s, 5, want.first);
+    let t = (h as u64 + 65536 * (want.level as u64) + want.number as u64) % 2147483647;
+    (t % (s.blocks as u64)) as u32
+}

@@ -1,0 +1,79 @@
+// The search for a label, and what stands in the block that it finds.
+ghost use mathlib.Core.Path.{_≡_};
+ghost use Prim.Native.Nat.{ℕ, _+_, _*_, _<_, _≤_};
+ghost use lib.ListN.{getD};
+ghost use Rattle.placement.specs.Numbers.{field};
+ghost use Rattle.placement.specs.Header.{block-long};
+ghost use Rattle.placement.specs.Place.{Shaped, label-in, search-in, free-in};
+use crate::Found;
+use crate::Label;
+use crate::Sizes;
+use crate::labels::home;
+use crate::labels::label_at;
+use crate::labels::offset;
+use crate::labels::passes;
+use crate::labels::same;
+
+// The block with a label, or nothing: from home on, to the first block that is empty or has that label or a larger one, at most once around.
+pub fn find(table: &[u8], s: Sizes, want: Label) -> Found
+    requires { ⌜ Shaped s (now table) ⌝ }
+    ensures { λ r. ⌜ r ≡ search-in s (now (table .entry)) want ⌝ }
+{
+    let m = s.blocks;
+    let start = home(s, want);
+    let mut k: u32 = 0;
+    let found = loop {
+        if m <= k {
+            break Found::Nothing;
+        }
+        let i = (start + k) % m;
+        let l = label_at(table, s, i);
+        if !passes(l, want) {
+            if same(l, want) {
+                break Found::At(i);
+            }
+            break Found::Nothing;
+        }
+        k += 1;
+    };
+    found
+}
+
+// The first empty block from one on, going round.
+pub fn free(table: &[u8], s: Sizes, start: u32) -> Found
+    requires { ⌜ Shaped s (now table) × (start < s .blocks) ⌝ }
+    ensures { λ r. ⌜ r ≡ free-in (label-in (block-long s) (now (table .entry))) (s .blocks) (s .blocks) start ⌝ }
+{
+    let m = s.blocks;
+    let mut k: u32 = 0;
+    let found = loop {
+        if m <= k {
+            break Found::Nothing;
+        }
+        let i = (start + k) % m;
+        let l = label_at(table, s, i);
+        if l.level == 0 {
+            break Found::At(i);
+        }
+        k += 1;
+    };
+    found
+}
+
+// How many nodes the chunk in a block has.
+pub fn count_at(table: &[u8], s: Sizes, i: u32) -> u32
+    requires { ⌜ Shaped s (now table) × (i < s .blocks) ⌝ }
+    ensures { λ r. ⌜ (r ≡ getD (now (table .entry)) (53 + i * block-long s + 1) 0) × (r < 256) ⌝ }
+{
+    let at = offset(s, i);
+    crate::numbers::wide(table[at + 1])
+}
+
+// A field of node j of the chunk in a block: its key at 0, its total at 4, what is displayed of it at 8.
+pub fn node_at(table: &[u8], s: Sizes, i: u32, j: u32, a: u32) -> u32
+    requires { ⌜ Shaped s (now table) × (i < s .blocks) × (8 + (12 * j + a) + 4 ≤ block-long s) ⌝ }
+    ensures { λ r. ⌜ r ≡ field (53 + i * block-long s + (8 + (12 * j + a))) 4 (now (table .entry)) ⌝ }
+{
+    let at = offset(s, i);
+    crate::numbers::be4(table, at + (8 + (12 * (j as usize) + a as usize)))
+}

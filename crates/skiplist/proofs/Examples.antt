@@ -1,0 +1,18 @@
+-- P1 to P9 of document 01 hold: each claim is computed.
+use mathlib.Core.Path.{refl}
+use Rattle.placement.specs.Numbers.{big, value-from, field, rows, rows-in}
+use Rattle.placement.specs.Sizes.{least-power, beta, sizes-good, seed-good}
+use Rattle.placement.specs.Hash.{hash-from, h, g, divides-from, level}
+use Rattle.placement.specs.Header.{block-long, table-long, header, sizes-in, held-in, rule-1}
+use Rattle.placement.specs.Blocks.{around, stored, place-from, placed}
+use Rattle.placement.specs.Chunks.{home, node-bytes, block-bytes}
+use Rattle.placement.specs.Decode.{node-in, chunk-of, block-of, blocks-in}
+use Rattle.skiplist.specs.Lists.{front, at-least, list-at, starts-one, run, rest, partitions, first-key, masked, chunks-of, all-chunks, chunks-from, chunks, blocks}
+use Rattle.skiplist.specs.Image.{image, into, all-into, gathered, orders-in, quantities-good, orders-good, fits, same, is-image}
+use Rattle.skiplist.specs.Questions.{first-no, is-key, held, without, with-order, sizes, asks-make, asks-put, asks-key}
+use Rattle.skiplist.specs.Book.{make-refusal, put-refusal, key-refusal, booked, refusal, done, after}
+use Rattle.skiplist.specs.Examples.{run-seed, run-sizes, empty-table, keys-at, block-is, blocks-are, true-of, every, p4, put-3, put-6, with-number, one-to-nine, One-to-nine}
+
+pub one-to-nine-hold : One-to-nine
+unfolding big value-from field rows rows-in least-power beta sizes-good seed-good hash-from h g divides-from level block-long table-long header sizes-in held-in rule-1 around stored place-from placed home node-bytes block-bytes node-in chunk-of block-of blocks-in front at-least list-at starts-one run rest partitions first-key masked chunks-of all-chunks chunks-from chunks blocks image into all-into gathered orders-in quantities-good orders-good fits same is-image first-no is-key held without with-order sizes asks-make asks-put asks-key make-refusal put-refusal key-refusal booked refusal done after run-seed run-sizes empty-table keys-at block-is blocks-are true-of every p4 put-3 put-6 with-number one-to-nine One-to-nine
+one-to-nine-hold = refl

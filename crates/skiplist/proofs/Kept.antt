@@ -1,0 +1,164 @@
+-- What the plain book keeps: orders stay good and fit.
+use mathlib.Core.Path.{_≡_, refl, sym, _∙_, subst}
+use mathlib.Core.Bool.{Bool, true, false, _||_, cond, false≢true}
+use mathlib.Core.List.{List, [], _∷_, _++_, append-nil}
+use Prim.Native.Nat.{ℕ, suc, _≤_, _<_}
+use native.Mathlib.Omega.{arith}
+use borrow.Author.Tests.{ltb-true, ltb-false, leb-true, eqb-true, eqb-false, le-leb}
+use lib.Dec.{ltb, leb, eqb}
+use lib.ListN.{length, length-append}
+use Rattle.placement.specs.Sizes.{prime, beta}
+use Rattle.placement.specs.declared.Sizes.{Sizes}
+use Rattle.placement.specs.declared.Order.{Order}
+use Rattle.skiplist.specs.Lists.{chunks}
+use Rattle.skiplist.specs.Image.{into, quantities-good, orders-good, fits}
+use Rattle.skiplist.specs.Questions.{first-no, is-key, held, without, with-order, order, asks-put, asks-key}
+use Rattle.skiplist.specs.Book.{put-refusal, key-refusal, Call, put, cancel, reading, booked, book}
+use Rattle.skiplist.proofs.Parts.{Up, up-from, and-left, and-right, or-left, or-right, up-past, Good, good-parts, good-up, without-here, up-out, below}
+use Rattle.skiplist.proofs.Made.{Made}
+use Rattle.skiplist.proofs.Shapes.{Place, there, absent, place, held-absent}
+use Rattle.skiplist.proofs.Count.{length-chunks, chunks-more, counts-none}
+
+pub good-make : (a : ℕ) (o : Order) (os : List Order) → a ≤ o .key → ltb (o .key) prime ≡ true → quantities-good (o .total) (o .displayed) ≡ true → orders-good (suc (o .key)) os ≡ true → orders-good a (o ∷ os) ≡ true
+unfolding orders-good
+good-make a o os f g h i = rw (le-leb a (o .key) f, g, h, i)
+
+pub good-from : (a b : ℕ) (os : List Order) → b ≤ a → orders-good a os ≡ true → orders-good b os ≡ true
+unfolding orders-good
+good-from a b [] h e = refl
+good-from a b (o ∷ os) h e = let w = good-parts a o os e in good-make b o os (omega arith) (w .key) (w .quantity) (w .others)
+
+pub good-without : (a k : ℕ) (os : List Order) → orders-good a os ≡ true → orders-good a (without k os) ≡ true
+unfolding without
+good-without a k [] e = e
+good-without a k (o ∷ os) e = go (good-parts a o os e) (λ e′. good-without (suc (o .key)) k os e′) (eqb (o .key) k)
+  where
+    go : Good a o os → (orders-good (suc (o .key)) os ≡ true → orders-good (suc (o .key)) (without k os) ≡ true) → (t : Bool) → orders-good a (cond t os (o ∷ without k os)) ≡ true
+    go w ih true = good-from (suc (o .key)) a os (omega arith) (w .others)
+    go w ih false = good-make a o (without k os) (w .from) (w .key) (w .quantity) (ih (w .others))
+
+pub good-into : (a : ℕ) (y : Order) (os : List Order) → a ≤ y .key → ltb (y .key) prime ≡ true → quantities-good (y .total) (y .displayed) ≡ true → held (y .key) os ≡ false →
+    orders-good a os ≡ true → orders-good a (into y os) ≡ true
+unfolding into held orders-good
+good-into a y [] h p q n e = good-make a y [] h p q e
+good-into a y (o ∷ os) h p q n e = go (good-parts a o os e) (λ h′ n′ e′. good-into (suc (o .key)) y os h′ p q n′ e′) (ltb (y .key) (o .key)) refl
+  where
+    apart : o .key ≡ y .key → ⊥
+    apart = eqb-false (o .key) (y .key) (or-left (eqb (o .key) (y .key)) (held (y .key) os) n)
+
+    go : Good a o os →
+        (suc (o .key) ≤ y .key → held (y .key) os ≡ false → orders-good (suc (o .key)) os ≡ true → orders-good (suc (o .key)) (into y os) ≡ true) →
+        (t : Bool) → ltb (y .key) (o .key) ≡ t → orders-good a (cond t (y ∷ o ∷ os) (o ∷ into y os)) ≡ true
+    go w ih true g = good-make a y (o ∷ os) h p q (good-make (suc (y .key)) o os (ltb-true (y .key) (o .key) g) (w .key) (w .quantity) (w .others))
+    go w ih false g =
+        good-make a o (into y os) (w .from) (w .key) (w .quantity)
+        (ih (omega (arith, ltb-false (y .key) (o .key) g, apart)) (or-right (eqb (o .key) (y .key)) (held (y .key) os) n) (w .others))
+
+pub held-past : (k a : ℕ) (os : List Order) → k < a → Up a os → held k os ≡ false
+unfolding below
+held-past k a os h u = held-absent k [] os refl (up-from os h u)
+
+pub held-without : (k a : ℕ) (os : List Order) → Up a os → held k (without k os) ≡ false
+unfolding held without
+held-without k a [] u = refl
+held-without k a (o ∷ os) u = go (held-without k (suc (o .key)) os (u .1)) (eqb (o .key) k) refl
+  where
+    go : held k (without k os) ≡ false → (t : Bool) → eqb (o .key) k ≡ t → held k (cond t os (o ∷ without k os)) ≡ false
+    go ih true e = held-past k (suc (o .key)) os (omega (arith, eqb-true (o .key) k e)) (u .1)
+    go ih false e = rw e ih
+
+-- what fits, taken apart and put together
+pub record Fit (s : Sizes) (os : List Order) : Type 0 where
+  pub few : length os ≤ s .orders
+  pub room : length (chunks s os) ≤ s .blocks
+
+pub fits-parts : (s : Sizes) (os : List Order) → fits s os ≡ true → Fit s os
+unfolding fits
+fits-parts s os e =
+    record {
+      few = leb-true (length os) (s .orders) (and-left (leb (length os) (s .orders)) (leb (length (chunks s os)) (s .blocks)) e);
+      room = leb-true (length (chunks s os)) (s .blocks) (and-right (leb (length os) (s .orders)) (leb (length (chunks s os)) (s .blocks)) e);
+    }
+
+pub fits-make : (s : Sizes) (os : List Order) → length os ≤ s .orders → length (chunks s os) ≤ s .blocks → fits s os ≡ true
+unfolding fits
+fits-make s os h g = rw (le-leb (length os) (s .orders) h, le-leb (length (chunks s os)) (s .blocks) g)
+
+-- with one order fewer it still fits
+pub fits-fewer : (s : Sizes) (xs : List Order) (y : Order) (zs : List Order) → 0 < s .nodes → 0 < y .key → fits s (xs ++ y ∷ zs) ≡ true → fits s (xs ++ zs) ≡ true
+fits-fewer s xs y zs b p e =
+    let w = fits-parts s (xs ++ y ∷ zs) e in
+    fits-make s (xs ++ zs) (simp length-append (omega (arith, simp length-append at (w .few)))) (omega (arith, chunks-more s xs y zs p b, w .room))
+
+pub fits-prefix : (s : Sizes) (xs zs : List Order) → 0 < s .nodes → Up 1 (xs ++ zs) → fits s (xs ++ zs) ≡ true → fits s xs ≡ true
+fits-prefix s xs [] b u e = rw append-nil at e
+fits-prefix s xs (z ∷ zs) b u e = fits-prefix s xs zs b (up-out xs z zs 1 u) (fits-fewer s xs z zs b (up-past xs z zs 1 u) e)
+
+pub fits-without : (s : Sizes) (k : ℕ) (os : List Order) → 0 < s .nodes → Up 1 os → held k os ≡ true → fits s os ≡ true → fits s (without k os) ≡ true
+fits-without s k os b u h e = go (place k 1 os u)
+  where
+    go : Place k os → fits s (without k os) ≡ true
+    go (there xs y zs q p) =
+        let v : Up 1 (xs ++ y ∷ zs) = subst (Up 1) q u in
+        subst (λ (z : List Order). fits s (without k z) ≡ true) (sym q)
+        (subst (λ (n : ℕ). fits s (without n (xs ++ y ∷ zs)) ≡ true) p (rw (without-here xs y zs 1 v) (fits-fewer s xs y zs b (up-past xs y zs 1 v) (rw q at e))))
+    go (absent xs zs q f g) = absurd (false≢true (sym (held-absent k xs zs f g) ∙ subst (λ (z : List Order). held k z ≡ true) q h))
+
+-- THE BOOK KEEPS WHAT A TABLE NEEDS
+pub record Kept (s : Sizes) (os : List Order) : Type 0 where
+  pub good : orders-good 1 os ≡ true
+  pub fit : fits s os ≡ true
+
+pub kept-none : (s : Sizes) → Made s → Kept s []
+unfolding orders-good
+kept-none s m = record { good = refl; fit = fits-make s [] (omega arith) (rw (length-chunks s [] (m .nodes), counts-none (beta s) 1 s) (m .room)) }
+
+put-answers : (a q h f : Bool) → _≡_ {A = ℕ} (cond a (cond q (cond h (cond f 0 8) 7) 6) 5) 0 → (a ≡ true) × (q ≡ true) × (f ≡ true)
+put-answers true true true true e = (refl, refl, refl)
+put-answers true true true false e = absurd (omega arith)
+put-answers true true false f e = absurd (omega arith)
+put-answers true false h f e = absurd (omega arith)
+put-answers false q h f e = absurd (omega arith)
+
+key-answers : (a h : Bool) → _≡_ {A = ℕ} (cond a (cond h 0 9) 5) 0 → h ≡ true
+key-answers true true e = refl
+key-answers true false e = absurd (omega arith)
+key-answers false h e = absurd (omega arith)
+
+pub kept-put : (s : Sizes) (k t d : ℕ) (os : List Order) → Kept s os → put-refusal s k t d os ≡ 0 → Kept s (with-order (order k t d) os)
+unfolding put-refusal first-no asks-put with-order is-key
+kept-put s k t d os w e =
+    let a = put-answers (is-key k) (quantities-good t d) (held k os || ltb (length os) (s .orders)) (fits s (with-order (order k t d) os)) e in
+    record {
+      good =
+          good-into 1 (order k t d) (without k os) (leb-true 1 k (and-left (leb 1 k) (ltb k prime) (a .0))) (and-right (leb 1 k) (ltb k prime) (a .0)) (a .1)
+          (held-without k 1 os (good-up 1 os (w .good))) (good-without 1 k os (w .good));
+      fit = a .2;
+    }
+
+pub kept-cancel : (s : Sizes) → Made s → (k : ℕ) (os : List Order) → Kept s os → key-refusal k os ≡ 0 → Kept s (without k os)
+unfolding key-refusal first-no asks-key
+kept-cancel s m k os w e =
+    record {
+      good = good-without 1 k os (w .good);
+      fit = fits-without s k os (m .nodes) (good-up 1 os (w .good)) (key-answers (is-key k) (held k os) e) (w .fit);
+    }
+
+pub kept-booked : (s : Sizes) → Made s → (c : Call) (os : List Order) → Kept s os → Kept s (booked s c os)
+unfolding booked
+kept-booked s m (put k t d) os w = go (eqb (put-refusal s k t d os) 0) refl
+  where
+    go : (r : Bool) → eqb (put-refusal s k t d os) 0 ≡ r → Kept s (cond r (with-order (order k t d) os) os)
+    go true e = kept-put s k t d os w (eqb-true (put-refusal s k t d os) 0 e)
+    go false e = w
+kept-booked s m (cancel k) os w = go (eqb (key-refusal k os) 0) refl
+  where
+    go : (r : Bool) → eqb (key-refusal k os) 0 ≡ r → Kept s (cond r (without k os) os)
+    go true e = kept-cancel s m k os w (eqb-true (key-refusal k os) 0 e)
+    go false e = w
+kept-booked s m reading os w = w
+
+pub kept-book : (s : Sizes) → Made s → (cs : List Call) (os : List Order) → Kept s os → Kept s (book s cs os)
+unfolding book
+kept-book s m [] os w = w
+kept-book s m (c ∷ cs) os w = kept-book s m cs (booked s c os) (kept-booked s m c os w)

@@ -1,0 +1,169 @@
+-- Rising orders, good orders taken apart, and the partition that a key heads.
+use mathlib.Core.Path.{_≡_, refl}
+use mathlib.Core.Bool.{Bool, true, false, _&&_, _||_, cond, false≢true}
+use mathlib.Core.List.{List, [], _∷_, _++_, append-assoc, append-nil}
+use Prim.Native.Nat.{ℕ, suc, _≤_, _<_}
+use native.Mathlib.Omega.{arith}
+use borrow.Author.Tests.{leb-true, eq-eqb, ne-eqb, lt-ltb}
+use lib.ListN.{length}
+use lib.Dec.{ltb, leb, eqb}
+use Rattle.placement.specs.Sizes.{prime}
+use Rattle.placement.specs.Hash.{level}
+use Rattle.placement.specs.declared.Sizes.{Sizes}
+use Rattle.placement.specs.declared.Order.{Order}
+use Rattle.skiplist.specs.Lists.{at-least, list-at, run, rest, partitions, first-key}
+use Rattle.skiplist.specs.Image.{quantities-good, orders-good}
+use Rattle.skiplist.specs.Questions.{without}
+
+-- keys rise, from a on
+abbrev pub Up : (a : ℕ) → List Order → Type 0
+Up a [] = Unit {0}
+Up a (x ∷ xs) = (a ≤ x .key) × Up (suc (x .key)) xs
+
+-- first keys rise, from a on
+abbrev pub Heads : (a : ℕ) → List (List Order) → Type 0
+Heads a [] = Unit {0}
+Heads a (p ∷ ps) = (a ≤ first-key p) × Heads (suc (first-key p)) ps
+
+pub up-from : {a b : ℕ} (xs : List Order) → b ≤ a → Up a xs → Up b xs
+up-from [] h u = u
+up-from (x ∷ xs) h u = (omega (arith, u .0), u .1)
+
+pub heads-from : {a b : ℕ} (ps : List (List Order)) → b ≤ a → Heads a ps → Heads b ps
+heads-from [] h u = u
+heads-from (x ∷ xs) h u = (omega (arith, u .0), u .1)
+
+pub and-left : (a b : Bool) → (a && b) ≡ true → a ≡ true
+and-left true b e = refl
+and-left false b e = e
+
+pub and-right : (a b : Bool) → (a && b) ≡ true → b ≡ true
+and-right true b e = e
+and-right false b e = cc
+
+pub or-left : (a b : Bool) → (a || b) ≡ false → a ≡ false
+or-left true b e = cc
+or-left false b e = refl
+
+pub or-right : (a b : Bool) → (a || b) ≡ false → b ≡ false
+or-right true b e = cc
+or-right false b e = e
+
+pub up-past : (xs : List Order) (y : Order) (zs : List Order) (a : ℕ) → Up a (xs ++ y ∷ zs) → a ≤ y .key
+up-past [] y zs a u = u .0
+up-past (x ∷ xs) y zs a u = omega (arith, u .0, up-past xs y zs _ (u .1))
+
+pub and-four : (p q r t : Bool) → (p && q && r && t) ≡ true → (p ≡ true) × (q ≡ true) × (r ≡ true) × (t ≡ true)
+and-four true true true t e = (refl, refl, refl, e)
+and-four false q r t e = absurd (false≢true e)
+and-four true false r t e = absurd (false≢true e)
+and-four true true false t e = absurd (false≢true e)
+
+-- orders-good, taken apart
+pub record Good (a : ℕ) (o : Order) (os : List Order) : Type 0 where
+  pub from : a ≤ o .key
+  pub key : ltb (o .key) prime ≡ true
+  pub quantity : quantities-good (o .total) (o .displayed) ≡ true
+  pub others : orders-good (suc (o .key)) os ≡ true
+
+pub good-parts : (a : ℕ) (o : Order) (os : List Order) → orders-good a (o ∷ os) ≡ true → Good a o os
+unfolding orders-good
+good-parts a o os e =
+    let w = and-four (leb a (o .key)) (ltb (o .key) prime) (quantities-good (o .total) (o .displayed)) (orders-good (suc (o .key)) os) e in
+    record { from = leb-true a (o .key) (w .0); key = w .1; quantity = w .2; others = w .3 }
+
+pub good-up : (a : ℕ) (os : List Order) → orders-good a os ≡ true → Up a os
+good-up a [] e = tt
+good-up a (o ∷ os) e = let w = good-parts a o os e in (w .from, good-up (suc (o .key)) os (w .others))
+
+pub first-more : (p qs : List Order) → 0 < length p → first-key (p ++ qs) ≡ first-key p
+unfolding first-key
+first-more [] qs h = absurd (omega arith)
+first-more (o ∷ p) qs h = refl
+
+module _ (s : Sizes) (l : ℕ) where
+  pub at-least-append : (xs zs : List Order) → at-least s l (xs ++ zs) ≡ at-least s l xs ++ at-least s l zs
+  unfolding at-least
+  at-least-append [] zs = refl
+  at-least-append (x ∷ xs) zs = rw (at-least-append xs zs) (go (leb l (level s (x .key))))
+    where
+      go : (t : Bool) → cond t (x ∷ (at-least s l xs ++ at-least s l zs)) (at-least s l xs ++ at-least s l zs) ≡ cond t (x ∷ at-least s l xs) (at-least s l xs) ++ at-least s l zs
+      go true = refl
+      go false = refl
+
+  pub at-least-up : (a : ℕ) (xs : List Order) → Up a xs → Up a (at-least s l xs)
+  unfolding at-least
+  at-least-up a [] u = tt
+  at-least-up a (x ∷ xs) u = go (leb l (level s (x .key))) (at-least-up _ xs (u .1))
+    where
+      go : (t : Bool) → Up (suc (x .key)) (at-least s l xs) → Up a (cond t (x ∷ at-least s l xs) (at-least s l xs))
+      go true v = (u .0, v)
+      go false v = up-from (at-least s l xs) (omega (arith, u .0)) v
+
+module _ (st : Order → Bool) where
+  pub rest-heads : (a : ℕ) (xs : List Order) → Up a xs → Heads a (rest st xs)
+  unfolding rest first-key
+  rest-heads a [] u = tt
+  rest-heads a (x ∷ xs) u = go (st x) (rest-heads _ xs (u .1))
+    where
+      go : (t : Bool) → Heads (suc (x .key)) (rest st xs) → Heads a (cond t ((x ∷ run st xs) ∷ rest st xs) (rest st xs))
+      go true v = (u .0, v)
+      go false v = heads-from (rest st xs) (omega (arith, u .0)) v
+
+-- THE PARTITION that f heads, nothing where it heads none
+unfoldable pub pick : (f : ℕ) → List (List Order) → List Order
+pick f [] = []
+pick f (p ∷ ps) = cond (eqb (first-key p) f) p [] ++ pick f ps
+
+unfoldable pub part : Sizes → (orders : List Order) → (l f : ℕ) → List Order
+part s os l f = pick f (partitions s l (list-at s l os))
+
+pub pick-append : (f : ℕ) (ps qs : List (List Order)) → pick f (ps ++ qs) ≡ pick f ps ++ pick f qs
+unfolding pick
+pick-append f [] qs = refl
+pick-append f (p ∷ ps) qs = rw (pick-append f ps qs, append-assoc)
+
+pub pick-past : (f : ℕ) (ps : List (List Order)) (a : ℕ) → f < a → Heads a ps → pick f ps ≡ []
+unfolding pick
+pick-past f [] a h u = refl
+pick-past f (p ∷ ps) a h u = rw (ne-eqb (first-key p) f (omega (arith, u .0)), pick-past f ps _ (omega (arith, u .0)) (u .1))
+
+-- in its place, where first keys rise
+pub pick-at : (ps : List (List Order)) (p : List Order) (qs : List (List Order)) (a : ℕ) → Heads a (ps ++ p ∷ qs) → pick (first-key p) (ps ++ p ∷ qs) ≡ p
+unfolding pick
+pick-at [] p qs a u = rw (eq-eqb (first-key p) (first-key p) refl, pick-past (first-key p) qs _ (omega arith) (u .1), append-nil)
+pick-at (r ∷ ps) p qs a u = rw (ne-eqb (first-key r) (first-key p) (omega (arith, heads-past ps p qs _ (u .1)))) (pick-at ps p qs _ (u .1))
+  where
+    heads-past : (ps : List (List Order)) (p : List Order) (qs : List (List Order)) (a : ℕ) → Heads a (ps ++ p ∷ qs) → a ≤ first-key p
+    heads-past [] p qs a u = u .0
+    heads-past (r ∷ ps) p qs a u = omega (arith, u .0, heads-past ps p qs _ (u .1))
+
+-- and elsewhere what stands there is passed over
+pub pick-other : (f : ℕ) (ps : List (List Order)) (p : List Order) (qs : List (List Order)) → (first-key p ≡ f → ⊥) → pick f (ps ++ p ∷ qs) ≡ pick f (ps ++ qs)
+unfolding pick
+pick-other f [] p qs h = rw (ne-eqb (first-key p) f h)
+pick-other f (r ∷ ps) p qs h = rw (pick-other f ps p qs h)
+
+-- an order taken out of rising ones
+pub without-here : (xs : List Order) (y : Order) (zs : List Order) (a : ℕ) → Up a (xs ++ y ∷ zs) → without (y .key) (xs ++ y ∷ zs) ≡ xs ++ zs
+unfolding without
+without-here [] y zs a u = rw (eq-eqb (y .key) (y .key) refl)
+without-here (x ∷ xs) y zs a u = rw (ne-eqb (x .key) (y .key) (omega (arith, up-past xs y zs _ (u .1))), without-here xs y zs _ (u .1))
+
+pub up-out : (xs : List Order) (y : Order) (zs : List Order) (a : ℕ) → Up a (xs ++ y ∷ zs) → Up a (xs ++ zs)
+up-out [] y zs a u = up-from zs (omega (arith, u .0)) (u .1)
+up-out (x ∷ xs) y zs a u = (u .0, up-out xs y zs _ (u .1))
+
+pub up-front : (xs zs : List Order) (a : ℕ) → Up a (xs ++ zs) → Up a xs
+up-front [] zs a u = tt
+up-front (x ∷ xs) zs a u = (u .0, up-front xs zs (suc (x .key)) (u .1))
+
+-- every key of xs is below k
+unfoldable pub below : (k : ℕ) → List Order → Bool
+below k [] = true
+below k (x ∷ xs) = ltb (x .key) k && below k xs
+
+pub below-here : (xs : List Order) (z : Order) (zs : List Order) (a : ℕ) → Up a (xs ++ z ∷ zs) → below (z .key) xs ≡ true
+unfolding below
+below-here [] z zs a u = refl
+below-here (x ∷ xs) z zs a u = rw (lt-ltb (x .key) (z .key) (up-past xs z zs (suc (x .key)) (u .1))) (below-here xs z zs (suc (x .key)) (u .1))

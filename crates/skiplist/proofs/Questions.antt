@@ -1,0 +1,16 @@
+-- A list of questions gives 0 where each has a yes, and else the number of the first that has a no.
+use mathlib.Core.Path.{_≡_, refl, ap}
+use mathlib.Core.Bool.{true, false}
+use mathlib.Core.List.{List, [], _∷_}
+use mathlib.Core.Logic.{_⊎_, inl, inr}
+use Rattle.skiplist.specs.Questions.{Question, ask, first-no, all-yes, Turned-down, First-no-means}
+
+pub first-no-means : First-no-means
+unfolding First-no-means first-no all-yes
+first-no-means [] = inl (refl, refl)
+first-no-means (ask n false ∷ qs) = inr (record { asked = []; later = qs; is = refl; passed = refl })
+first-no-means (ask n true ∷ qs) = go (first-no-means qs)
+  where
+    go : ((first-no qs ≡ 0) × (all-yes qs ≡ true)) ⊎ Turned-down (first-no qs) qs → ((first-no qs ≡ 0) × (all-yes qs ≡ true)) ⊎ Turned-down (first-no qs) (ask n true ∷ qs)
+    go (inl w) = inl w
+    go (inr w) = inr (record { asked = ask n true ∷ w .asked; later = w .later; is = ap (λ (z : List Question). ask n true ∷ z) (w .is); passed = w .passed })

@@ -1,0 +1,145 @@
+-- Calls on a table, from what an image reads back as: the table that they leave is the image of what the plain book leaves.
+use mathlib.Core.Path.{_≡_, refl, sym, ap, _∙_}
+use mathlib.Core.Bool.{Bool, true, false, _&&_, cond, false≢true, or-true}
+use mathlib.Core.List.{List, [], _∷_, _++_, append-assoc, append-nil}
+use Prim.Native.Nat.{ℕ, suc, _<_}
+use native.Mathlib.Omega.{arith}
+use borrow.Author.Tests.{eqb-true, le-leb, lt-ltb}
+use lib.Dec.{leb, eqb}
+use lib.ListN.{length, length-append}
+use Rattle.placement.specs.Numbers.{field, rows-in}
+use Rattle.placement.specs.Sizes.{sizes-good, seed-good, made}
+use Rattle.placement.specs.Header.{table-long, sizes-in, held-in, rule-1}
+use Rattle.placement.specs.declared.Sizes.{Sizes}
+use Rattle.placement.specs.declared.Order.{Order}
+use Rattle.skiplist.specs.Image.{image, orders-in, orders-good, fits, same, is-image}
+use Rattle.skiplist.specs.Questions.{first-no, is-key, held, without, with-order, order, asks-put}
+use Rattle.skiplist.specs.Book.{put-refusal, key-refusal, Call, put, cancel, reading, booked, book, refusal, done, after}
+use Rattle.skiplist.specs.Promise.{Reads-back, Lists-image, Equal-exactly, Checks-exactly}
+use Rattle.skiplist.proofs.Parts.{and-left, and-right, up-past, Good, good-parts, good-up, below-here}
+use Rattle.skiplist.proofs.Made.{Made, made-parts}
+use Rattle.skiplist.proofs.Shapes.{put-new}
+use Rattle.skiplist.proofs.Kept.{fits-parts, fits-prefix, Kept, kept-none, kept-booked, kept-book}
+
+-- a list of puts that gives some orders
+unfoldable pub puts : List Order → List Call
+puts [] = []
+puts (o ∷ os) = put (o .key) (o .total) (o .displayed) ∷ puts os
+
+pub good-at : (xs : List Order) (z : Order) (zs : List Order) (a : ℕ) → orders-good a (xs ++ z ∷ zs) ≡ true → Good 0 z zs
+good-at [] z zs a e = let w = good-parts a z zs e in record { from = omega arith; key = w .key; quantity = w .quantity; others = w .others }
+good-at (x ∷ xs) z zs a e = good-at xs z zs (suc (x .key)) (good-parts a x (xs ++ z ∷ zs) e .others)
+
+-- a put of one more order, above all held
+pub booked-last : (s : Sizes) (xs : List Order) (z : Order) (zs : List Order) → Made s → orders-good 1 (xs ++ z ∷ zs) ≡ true → fits s (xs ++ z ∷ []) ≡ true →
+    booked s (put (z .key) (z .total) (z .displayed)) xs ≡ xs ++ z ∷ []
+unfolding booked put-refusal first-no asks-put is-key
+booked-last s xs z zs m g f =
+    let u = good-up 1 (xs ++ z ∷ zs) g in
+    let w = good-at xs z zs 1 g in
+    let v = below-here xs z zs 1 u in
+    let n : length xs < s .orders = omega (arith, simp length-append at (fits-parts s (xs ++ z ∷ []) f .few)) in
+    rw (le-leb 1 (z .key) (up-past xs z zs 1 u), w .key, w .quantity, lt-ltb (length xs) (s .orders) n, or-true (held (z .key) xs), rw append-nil at (put-new z xs [] v tt), f)
+
+pub book-puts : (s : Sizes) (zs xs : List Order) → Made s → orders-good 1 (xs ++ zs) ≡ true → fits s (xs ++ zs) ≡ true → book s (puts zs) xs ≡ xs ++ zs
+unfolding book puts
+book-puts s [] xs m g f = sym (append-nil xs)
+book-puts s (z ∷ zs) xs m g f =
+    let e : xs ++ z ∷ [] ++ zs ≡ xs ++ z ∷ zs = append-assoc xs (z ∷ []) zs in
+    let g′ : orders-good 1 (xs ++ z ∷ [] ++ zs) ≡ true = rw e g in
+    let f′ : fits s (xs ++ z ∷ [] ++ zs) ≡ true = rw e f in
+    ap (book s (puts zs)) (booked-last s xs z zs m g (fits-prefix s (xs ++ z ∷ []) zs (m .nodes) (good-up 1 (xs ++ z ∷ [] ++ zs) g′) f′))
+    ∙ book-puts s zs (xs ++ z ∷ []) m g′ f′ ∙ e
+
+pub same-is : (a b : List ℕ) → same a b ≡ true → a ≡ b
+unfolding same
+same-is [] [] e = refl
+same-is [] (y ∷ ys) e = absurd (false≢true e)
+same-is (x ∷ xs) [] e = absurd (false≢true e)
+same-is (x ∷ xs) (y ∷ ys) e =
+    rw (eqb-true x y (and-left (eqb x y) (same xs ys) e), same-is xs ys (and-right (eqb x y) (same xs ys) e))
+
+seven : (a b c r d f g : Bool) → (a && (b && (c && r)) && (d && f && g)) ≡ true → (b ≡ true) × (c ≡ true) × (d ≡ true) × (f ≡ true) × (g ≡ true)
+seven a b c r d f g x =
+    let p = and-right a (b && (c && r)) (and-left (a && (b && (c && r))) (d && f && g) x) in
+    let q = and-right (a && (b && (c && r))) (d && f && g) x in
+    let o = and-left (d && f) g q in
+    (and-left b (c && r) p, and-left c r (and-right b (c && r) p), and-left d f o, and-right d f o, and-right (d && f) g q)
+
+-- what question 4 tells
+pub record Image-of (bs : List ℕ) : Type 0 where
+  pub sizes-made : made (sizes-in bs) ≡ true
+  pub orders-kept : Kept (sizes-in bs) (orders-in bs)
+  pub bytes : image (sizes-in bs) (orders-in bs) ≡ bs
+
+ten : (bs : List ℕ) → eqb (length (sizes-in bs .seed)) 10 ≡ true
+unfolding sizes-in rows-in
+ten bs = refl
+
+pub image-parts : (bs : List ℕ) → is-image bs ≡ true → Image-of bs
+unfolding is-image rule-1 made
+image-parts bs e =
+    let s = sizes-in bs in
+    let os = orders-in bs in
+    let w =
+    seven (leb 53 (length bs)) (sizes-good s) (seed-good (s .seed))
+    (eqb (field 0 1 bs) 1 && (eqb (field 1 4 bs) (table-long s) && (eqb (length bs) (table-long s) && leb (held-in bs) (s .orders)))) (orders-good 1 os) (fits s os)
+    (same (image s os) bs) e in
+    record { sizes-made = rw (w .0, w .1) (ten bs); orders-kept = record { good = w .2; fit = w .3 }; bytes = same-is (image s os) bs (w .4) }
+
+-- A CALL ON AN IMAGE, where images read back
+module _ (reads : Reads-back) where
+  pub done-image : (s : Sizes) (c : Call) (os : List Order) → made s ≡ true → Kept s os → done c (image s os) ≡ image s (booked s c os)
+  unfolding Reads-back done refusal booked
+  done-image s (put k t d) os m w =
+      let r = reads s os m (w .good) (w .fit) in
+      rw (r .0, r .1, r .2) (go (eqb (put-refusal s k t d os) 0))
+    where
+      go : (t′ : Bool) → cond t′ (image s (cond t′ (with-order (order k t d) os) os)) (image s os) ≡ image s (cond t′ (with-order (order k t d) os) os)
+      go true = refl
+      go false = refl
+  done-image s (cancel k) os m w =
+      let r = reads s os m (w .good) (w .fit) in
+      rw (r .0, r .1, r .2) (go (eqb (key-refusal k os) 0))
+    where
+      go : (t′ : Bool) → cond t′ (image s (cond t′ (without k os) os)) (image s os) ≡ image s (cond t′ (without k os) os)
+      go true = refl
+      go false = refl
+  done-image s reading os m w =
+      let r = reads s os m (w .good) (w .fit) in
+      rw (r .0, r .1, r .2)
+
+  pub after-image : (s : Sizes) (cs : List Call) (os : List Order) → made s ≡ true → Kept s os → after cs (image s os) ≡ image s (book s cs os)
+  unfolding after book
+  after-image s [] os m w = refl
+  after-image s (c ∷ cs) os m w = rw (done-image s c os m w) (after-image s cs (booked s c os) m (kept-booked s (made-parts s m) c os w))
+
+  pub lists-image : Lists-image
+  unfolding Lists-image
+  lists-image s cs m = after-image s cs [] m (kept-none s (made-parts s m))
+
+  pub equal-exactly : Equal-exactly
+  unfolding Equal-exactly Lists-image Reads-back
+  equal-exactly s cs ds m =
+      let k : (es : List Call) → Kept s (book s es []) = λ es. kept-book s (made-parts s m) es [] (kept-none s (made-parts s m)) in
+      let r : (es : List Call) → orders-in (image s (book s es [])) ≡ book s es [] = λ es. reads s (book s es []) m (k es .good) (k es .fit) .1 in (
+        λ e. sym (r cs) ∙ ap orders-in (sym (lists-image s cs m) ∙ e ∙ lists-image s ds m) ∙ r ds,
+        λ e. lists-image s cs m ∙ ap (image s) e ∙ sym (lists-image s ds m),
+      )
+
+  pub checks-exactly : Checks-exactly
+  unfolding Checks-exactly Lists-image Reads-back
+  checks-exactly bs b = (
+    λ e.
+        let w = image-parts bs e in
+        let s = sizes-in bs in
+        let os = orders-in bs in (
+          s,
+          puts os,
+          w .sizes-made,
+          lists-image s (puts os) (w .sizes-made) ∙ rw (book-puts s os [] (made-parts s (w .sizes-made)) (w .orders-kept .good) (w .orders-kept .fit)) (w .bytes),
+        ),
+    λ s cs m e.
+        let k = kept-book s (made-parts s m) cs [] (kept-none s (made-parts s m)) in
+        rw (← e, lists-image s cs m) (reads s (book s cs []) m (k .good) (k .fit) .0),
+  )

@@ -1,0 +1,117 @@
+-- P1 to P9 of document 01, "Checked examples", as one list of claims, each with a test that is computed. Assumes nothing: these are definitions.
+use mathlib.Core.Path.{_≡_}
+use mathlib.Core.Bool.{Bool, true, false, _&&_}
+use mathlib.Core.List.{List, [], _∷_, _++_}
+use Prim.Native.Nat.{ℕ, zero, suc, _+_, _*_, _/_, _%_}
+use lib.Dec.{eqb}
+use lib.ListN.{length, getD, set, take, drop, replicate}
+use Rattle.placement.specs.Sizes.{beta}
+use Rattle.placement.specs.Hash.{h, g, level}
+use Rattle.placement.specs.Header.{seed-bytes, table-long}
+use Rattle.placement.specs.Chunks.{home}
+use Rattle.placement.specs.declared.Sizes.{Sizes}
+use Rattle.skiplist.specs.Image.{image, is-image, same}
+use Rattle.skiplist.specs.Questions.{sizes}
+use Rattle.skiplist.specs.Book.{Call, put, cancel, make-refusal, refusal, after}
+
+-- the sizes and seed of document 01's run: γ, B, N, M are 2, 2, 2, 4, and both hashes are the key itself
+unfoldable pub run-seed : List ℕ
+run-seed = 0 ∷ 1 ∷ 0 ∷ 0 ∷ 0 ∷ 0 ∷ 1 ∷ 0 ∷ 0 ∷ 0 ∷ []
+
+unfoldable pub run-sizes : Sizes
+run-sizes = record { gamma = 2; nodes = 2; orders = 2; blocks = 4; seed = run-seed }
+
+unfoldable pub empty-table : List ℕ
+empty-table = image run-sizes []
+
+-- what a block shows: level, chunk number, first key, and its keys; or nothing
+pub data Shows : Type 0 where
+  bare : Shows
+  shows : (level number first : ℕ) → (keys : List ℕ) → Shows
+
+-- what is claimed
+pub data Example : Type 0 where
+  has-level : (key is : ℕ) → Example
+  hashes : (key is : ℕ) → Example
+  has-beta : (gamma orders is : ℕ) → Example
+  makes : (gamma nodes orders blocks : ℕ) → (seed : List ℕ) → (is : ℕ) → Example
+  leaves : (calls : List Call) → List Shows → Example
+  leaves-bytes : (calls : List Call) → (at : ℕ) → List ℕ → Example
+  answers : (calls : List Call) → (last : Call) → (is : ℕ) → Example
+  alike : (one other : List Call) → Example
+  has-home : (level first number is : ℕ) → Example
+
+-- a block's bytes, against what is shown
+unfoldable pub keys-at : (left : ℕ) → List ℕ → List ℕ → Bool
+keys-at zero bs ks = same ks []
+keys-at (suc n) bs [] = false
+keys-at (suc n) bs (k ∷ ks) = eqb (((getD bs 0 0 * 256 + getD bs 1 0) * 256 + getD bs 2 0) * 256 + getD bs 3 0) k && keys-at n (drop 12 bs) ks
+
+unfoldable pub block-is : List ℕ → Shows → Bool
+block-is bs bare = same (take 32 bs) (replicate 32 0)
+block-is bs (shows l n f ks) =
+    same (take 8 bs) (l ∷ length ks ∷ n / 256 ∷ n % 256 ∷ f / 16777216 ∷ f / 65536 % 256 ∷ f / 256 % 256 ∷ f % 256 ∷ []) && keys-at (length ks) (drop 8 bs) ks
+
+unfoldable pub blocks-are : List ℕ → List Shows → Bool
+blocks-are bs [] = same bs []
+blocks-are bs (x ∷ xs) = block-is bs x && blocks-are (drop 32 bs) xs
+
+unfoldable pub true-of : Example → Bool
+true-of (has-level k l) = eqb (level run-sizes k) l
+true-of (hashes k v) = eqb (h run-sizes k) v && eqb (g run-sizes k) v
+true-of (has-beta c n l) = eqb (beta (record { gamma = c; nodes = 2; orders = n; blocks = 4; seed = run-seed })) l
+true-of (makes c b n m ss l) = eqb (make-refusal c b n m (seed-bytes ss) (table-long (sizes c b n m (seed-bytes ss)))) l
+true-of (leaves cs xs) = is-image (after cs empty-table) && blocks-are (drop 53 (after cs empty-table)) xs
+true-of (leaves-bytes cs i bs) = same (take (length bs) (drop i (after cs empty-table))) bs
+true-of (answers cs c l) = eqb (refusal c (after cs empty-table)) l
+true-of (alike cs ds) = same (after cs empty-table) (after ds empty-table)
+true-of (has-home l f n i) = eqb (home run-sizes (record { level = l; first = f; number = n; nodes = [] })) i
+
+unfoldable pub every : List Example → Bool
+every [] = true
+every (x ∷ xs) = true-of x && every xs
+
+unfoldable pub p4 : List Shows
+p4 = shows 1 0 0 (0 ∷ 3 ∷ []) ∷ shows 2 0 0 (0 ∷ 6 ∷ []) ∷ shows 1 0 6 (6 ∷ []) ∷ shows 3 0 0 (0 ∷ []) ∷ []
+
+unfoldable pub put-3 : Call
+put-3 = put 3 100 20
+
+unfoldable pub put-6 : Call
+put-6 = put 6 50 50
+
+unfoldable pub with-number : (i v : ℕ) → List ℕ
+with-number i v = set run-seed i v
+
+unfoldable pub one-to-nine : List Example
+one-to-nine =
+    -- P1
+    has-level 3 1 ∷ has-level 6 2 ∷ has-level 4 3 ∷ has-level 8 3 ∷ hashes 3 3 ∷ hashes 2147483646 2147483646
+    -- P2
+    ∷ has-beta 2 1 2 ∷ has-beta 2 65535 18 ∷ has-beta 64 65535 5 ∷ has-beta 2 2 3
+    -- P3
+    ∷ leaves [] (shows 1 0 0 (0 ∷ []) ∷ shows 2 0 0 (0 ∷ []) ∷ shows 3 0 0 (0 ∷ []) ∷ bare ∷ [])
+    -- P4
+    ∷ leaves (put-3 ∷ put-6 ∷ []) p4 ∷ leaves (put-6 ∷ put-3 ∷ []) p4 ∷ alike (put-3 ∷ put-6 ∷ []) (put-6 ∷ put-3 ∷ [])
+    ∷ leaves-bytes (put-3 ∷ put-6 ∷ []) 73 (0 ∷ 0 ∷ 0 ∷ 3 ∷ 0 ∷ 0 ∷ 0 ∷ 100 ∷ 0 ∷ 0 ∷ 0 ∷ 20 ∷ [])
+    -- P5
+    ∷ leaves-bytes (put-3 ∷ put-6 ∷ cancel 3 ∷ []) 53 (1 ∷ 1 ∷ replicate 30 0) ∷ alike (put-3 ∷ put-6 ∷ cancel 3 ∷ []) (put-6 ∷ [])
+    -- P6
+    ∷ answers (put-3 ∷ []) (put 4 10 0) 8 ∷ alike (put-3 ∷ put 4 10 0 ∷ []) (put-3 ∷ [])
+    -- P7
+    ∷ answers [] (put 0 1 1) 5 ∷ answers [] (put 2147483647 1 1) 5 ∷ answers [] (put 2147483646 1 1) 0
+    ∷ has-level 2147483646 2 ∷ has-home 1 2147483646 0 3
+    -- P8
+    ∷ answers [] (put 3 100 101) 6 ∷ answers [] (put 3 100 100) 0
+    -- P9
+    ∷ makes 2 2 2 4 (with-number 0 2147483647) 1 ∷ makes 2 2 2 4 (with-number 0 2147483646) 0
+    ∷ makes 2 2 2 4 (with-number 9 2147483647) 1 ∷ makes 2 2 2 4 (with-number 9 2147483646) 0
+    ∷ makes 2 2 2 2 run-seed 2 ∷ makes 2 2 2 3 run-seed 0
+    -- beyond P9, since P1 to P9 leave them open: the chunk number counts in a home, and quantities above level 1 are zero
+    ∷ has-home 1 0 1 1 ∷ has-home 2 6 3 1
+    ∷ leaves-bytes (put-3 ∷ put-6 ∷ []) 85 (2 ∷ 2 ∷ replicate 18 0 ++ (0 ∷ 0 ∷ 0 ∷ 6 ∷ replicate 8 0))
+    ∷ []
+
+-- P1 TO P9 hold of the definitions together
+unfoldable pub One-to-nine : Type 0
+One-to-nine = every one-to-nine ≡ true

@@ -1,0 +1,7 @@
+pub mod Lists
+pub mod Image
+pub mod Questions
+pub mod Book
+pub mod Rules
+pub mod Promise
+pub mod Examples

@@ -1,0 +1,72 @@
+-- Lists, partitions, chunks. Document 01, "Lists, partitions, chunks". Assumes nothing: these are definitions.
+use mathlib.Core.Bool.{Bool, _&&_, _||_, cond}
+use mathlib.Core.List.{List, [], _∷_, _++_, map}
+use Prim.Native.Nat.{ℕ, zero, suc}
+use lib.Dec.{ltb, leb, eqb}
+use lib.ListN.{length, take, drop, replicate}
+use Rattle.placement.specs.Sizes.{beta}
+use Rattle.placement.specs.Hash.{level}
+use Rattle.placement.specs.Blocks.{Block, empty, placed}
+use Rattle.placement.specs.Chunks.{Chunk, home}
+use Rattle.placement.specs.declared.Sizes.{Sizes}
+use Rattle.placement.specs.declared.Order.{Order}
+
+-- the front element has key 0 and is no order
+unfoldable pub front : Order
+front = record { key = 0; total = 0; displayed = 0 }
+
+-- L_k: the front and all held keys of level k or more, rising
+unfoldable pub at-least : Sizes → (k : ℕ) → List Order → List Order
+at-least s k [] = []
+at-least s k (o ∷ os) = cond (leb k (level s (o .key))) (o ∷ at-least s k os) (at-least s k os)
+
+unfoldable pub list-at : Sizes → (k : ℕ) → (orders : List Order) → List Order
+list-at s k os = front ∷ at-least s k os
+
+-- PARTITIONS: one starts at each element of L_k that is also in L_(k+1), the front among them; L_β is one
+unfoldable pub starts-one : Sizes → (k : ℕ) → Order → Bool
+starts-one s k o = eqb (o .key) 0 || (ltb k (beta s) && ltb k (level s (o .key)))
+
+-- a partition runs to just before the next element that starts one
+unfoldable pub run : (Order → Bool) → List Order → List Order
+run st [] = []
+run st (x ∷ xs) = cond (st x) [] (x ∷ run st xs)
+
+unfoldable pub rest : (Order → Bool) → List Order → List (List Order)
+rest st [] = []
+rest st (x ∷ xs) = cond (st x) ((x ∷ run st xs) ∷ rest st xs) (rest st xs)
+
+unfoldable pub partitions : Sizes → (k : ℕ) → List Order → List (List Order)
+partitions s k xs = rest (starts-one s k) xs
+
+unfoldable pub first-key : List Order → ℕ
+first-key [] = 0
+first-key (o ∷ os) = o .key
+
+-- both quantities are 0 at levels above 1
+unfoldable pub masked : (level : ℕ) → Order → Order
+masked l o = record { key = o .key; total = cond (eqb l 1) (o .total) 0; displayed = cond (eqb l 1) (o .displayed) 0 }
+
+-- CHUNKS 0, 1, .. of a partition's nodes: all of B nodes but the last, which has 1..B
+unfoldable pub chunks-of : (fuel : ℕ) → (b : ℕ) → (level first number : ℕ) → (nodes : List Order) → List Chunk
+chunks-of zero b l f i ns = []
+chunks-of (suc k) b l f i [] = []
+chunks-of (suc k) b l f i (n ∷ ns) =
+    record { level = l; first = f; number = i; nodes = take b (n ∷ ns) } ∷ chunks-of k b l f (suc i) (drop b (n ∷ ns))
+
+-- the chunks of some partitions of a level
+unfoldable pub all-chunks : Sizes → (l : ℕ) → List (List Order) → List Chunk
+all-chunks s l [] = []
+all-chunks s l (p ∷ ps) = chunks-of (length p) (s .nodes) l (first-key p) 0 (map (masked l) p) ++ all-chunks s l ps
+
+-- all chunks, by rising labels: levels from 1, partitions by rising first keys, rising numbers
+unfoldable pub chunks-from : (left l : ℕ) → Sizes → (orders : List Order) → List Chunk
+chunks-from zero l s os = []
+chunks-from (suc k) l s os = all-chunks s l (partitions s l (list-at s l os)) ++ chunks-from k (suc l) s os
+
+unfoldable pub chunks : Sizes → (orders : List Order) → List Chunk
+chunks s os = chunks-from (beta s) 1 s os
+
+-- THE BLOCKS of some orders: chunks by rising labels, each in the first free block from its home on
+unfoldable pub blocks : Sizes → (orders : List Order) → List (Block Chunk)
+blocks s os = placed (home s) (s .blocks) (chunks s os) (replicate (s .blocks) empty)

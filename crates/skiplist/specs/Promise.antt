@@ -1,0 +1,67 @@
+-- What is promised of images and of lists of puts, cancels and readings. Each statement is a type; its proof stands in proofs/. Assumes nothing.
+use mathlib.Core.Path.{_≡_}
+use mathlib.Core.Bool.{Bool, true, _&&_}
+use mathlib.Core.List.{List, [], _∷_}
+use Prim.Native.Nat.{ℕ, _<_}
+use lib.Dec.{ltb}
+use lib.ListN.{length}
+use Rattle.placement.specs.Sizes.{made}
+use Rattle.placement.specs.Header.{sizes-in}
+use Rattle.placement.specs.Blocks.{Block, Stands, Rule-3, how-many}
+use Rattle.placement.specs.Chunks.{Chunk, home, label-before}
+use Rattle.placement.specs.declared.Sizes.{Sizes}
+use Rattle.placement.specs.declared.Order.{Order}
+use Rattle.skiplist.specs.Lists.{chunks, blocks}
+use Rattle.skiplist.specs.Image.{image, is-image, orders-in, orders-good, fits}
+use Rattle.skiplist.specs.Book.{Call, book, after}
+use Rattle.skiplist.specs.Rules.{Among}
+
+-- ---- DEMAND 2: images
+
+-- an image reads back as its orders and sizes
+unfoldable pub Reads-back : Type 0
+Reads-back =
+    (s : Sizes) (os : List Order) → made s ≡ true → orders-good 1 os ≡ true → fits s os ≡ true →
+    (is-image (image s os) ≡ true) × (orders-in (image s os) ≡ os) × (sizes-in (image s os) ≡ s)
+
+-- labels rise in the order in which chunks are placed
+unfoldable pub labels-rise : List Chunk → Bool
+labels-rise [] = true
+labels-rise (c ∷ []) = true
+labels-rise (c ∷ d ∷ cs) = label-before c d && labels-rise (d ∷ cs)
+
+unfoldable pub Labels-rise : Type 0
+Labels-rise = (s : Sizes) (os : List Order) → orders-good 1 os ≡ true → labels-rise (chunks s os) ≡ true
+
+-- an image obeys rule 3
+unfoldable pub Rule-three : Type 0
+Rule-three =
+    (s : Sizes) (os : List Order) → made s ≡ true → orders-good 1 os ≡ true → fits s os ≡ true → Rule-3 (home s) label-before (s .blocks) (blocks s os)
+
+-- rule 3 leaves only one arrangement of the same chunks
+unfoldable pub One-arrangement : Type 0
+One-arrangement =
+    (s : Sizes) (os : List Order) (bs : List (Block Chunk)) → made s ≡ true → orders-good 1 os ≡ true → fits s os ≡ true → length bs ≡ s .blocks →
+    Rule-3 (home s) label-before (s .blocks) bs → ((c : Chunk) → Among c (chunks s os) → Stands (s .blocks) bs c) → how-many bs ≡ length (chunks s os) → bs ≡ blocks s os
+
+-- ---- DEMAND 3 over the definitions alone: the table that calls leave is the image of what the plain book leaves
+
+unfoldable pub Lists-image : Type 0
+Lists-image = (s : Sizes) (cs : List Call) → made s ≡ true → after cs (image s []) ≡ image s (book s cs [])
+
+-- two tables of one make are equal exactly when the books are
+unfoldable pub Equal-exactly : Type 0
+Equal-exactly =
+    (s : Sizes) (cs ds : List Call) → made s ≡ true →
+    (after cs (image s []) ≡ after ds (image s []) → book s cs [] ≡ book s ds []) × (book s cs [] ≡ book s ds [] → after cs (image s []) ≡ after ds (image s []))
+
+unfoldable pub byte-list : List ℕ → Bool
+byte-list [] = true
+byte-list (x ∷ xs) = ltb x 256 && byte-list xs
+
+-- the check accepts bytes exactly when some sizes, seed and list give them
+unfoldable pub Checks-exactly : Type 0
+Checks-exactly =
+    (bs : List ℕ) → byte-list bs ≡ true →
+    (is-image bs ≡ true → (s : Sizes) × (cs : List Call) × (made s ≡ true) × (after cs (image s []) ≡ bs))
+    × ((s : Sizes) (cs : List Call) → made s ≡ true → after cs (image s []) ≡ bs → is-image bs ≡ true)

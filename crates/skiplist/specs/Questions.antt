@@ -1,0 +1,110 @@
+-- Questions and their numbers. Document 01, "Calls and their questions": they run in order, the first "no" ends the call with its number, success is 0.
+-- Assumes nothing: these are definitions.
+use mathlib.Core.Path.{_≡_}
+use mathlib.Core.Logic.{_⊎_}
+use mathlib.Core.Bool.{Bool, true, false, _&&_, _||_, cond}
+use mathlib.Core.List.{List, [], _∷_, _++_}
+use Prim.Native.Nat.{ℕ, _*_, _-_}
+use lib.Dec.{ltb, leb, eqb}
+use lib.ListN.{length}
+use Rattle.placement.specs.Sizes.{prime, sizes-good, seed-good}
+use Rattle.placement.specs.Header.{seed-in, sizes-in, table-long}
+use Rattle.placement.specs.declared.Sizes.{Sizes}
+use Rattle.placement.specs.declared.Order.{Order}
+use Rattle.skiplist.specs.Image.{is-image, orders-in, into, quantities-good, fits}
+
+pub data Question : Type 0 where
+  ask : (number : ℕ) → (yes : Bool) → Question
+
+unfoldable pub first-no : List Question → ℕ
+first-no [] = 0
+first-no (ask n t ∷ qs) = cond t (first-no qs) n
+
+unfoldable pub all-yes : List Question → Bool
+all-yes [] = true
+all-yes (ask n t ∷ qs) = t && all-yes qs
+
+-- what "the first question that turns it down" means
+pub record Turned-down (n : ℕ) (qs : List Question) : Type 0 where
+  pub asked : List Question
+  pub later : List Question
+  pub is : qs ≡ asked ++ ask n false ∷ later
+  pub passed : all-yes asked ≡ true
+
+-- DEMAND 1's first clause: a list of questions gives 0 where each has a yes, and else the number of the first that has a no
+unfoldable pub First-no-means : Type 0
+First-no-means = (qs : List Question) → ((first-no qs ≡ 0) × (all-yes qs ≡ true)) ⊎ Turned-down (first-no qs) qs
+
+-- ---- what the questions ask
+
+-- is the key 1..p-1?
+unfoldable pub is-key : ℕ → Bool
+is-key k = leb 1 k && ltb k prime
+
+-- is the key held?
+unfoldable pub held : (key : ℕ) → List Order → Bool
+held k [] = false
+held k (o ∷ os) = eqb (o .key) k || held k os
+
+-- the orders without a key, and with an order added or replaced
+unfoldable pub without : (key : ℕ) → List Order → List Order
+without k [] = []
+without k (o ∷ os) = cond (eqb (o .key) k) os (o ∷ without k os)
+
+unfoldable pub with-order : Order → List Order → List Order
+with-order o os = into o (without (o .key) os)
+
+abbrev pub order : (key total displayed : ℕ) → Order
+order k t d = record { key = k; total = t; displayed = d }
+
+-- the orders with keys in lo..hi
+unfoldable pub between : (lo hi : ℕ) → List Order → List Order
+between lo hi [] = []
+between lo hi (o ∷ os) = cond (leb lo (o .key) && leb (o .key) hi) (o ∷ between lo hi os) (between lo hi os)
+
+-- what an order keeps in reserve; is there one that has at least r?
+unfoldable pub reserve : Order → ℕ
+reserve o = o .total - o .displayed
+
+unfoldable pub any-reserve : (r : ℕ) → List Order → Bool
+any-reserve r [] = false
+any-reserve r (o ∷ os) = leb r (reserve o) || any-reserve r os
+
+-- the sizes and seed that make is given
+unfoldable pub sizes : (gamma nodes orders blocks : ℕ) → (seed : List ℕ) → Sizes
+sizes c b n m ss = record { gamma = c; nodes = b; orders = n; blocks = m; seed = seed-in 10 ss }
+
+-- ---- THE QUESTIONS OF EACH CALL, in document 01's order
+
+unfoldable pub asks-make : (gamma nodes orders blocks : ℕ) → (seed : List ℕ) → (long : ℕ) → List Question
+asks-make c b n m ss l =
+    ask 1 (eqb (length ss) 40 && seed-good (sizes c b n m ss .seed))
+    ∷ ask 2 (sizes-good (sizes c b n m ss))
+    ∷ ask 3 (eqb l (table-long (sizes c b n m ss)))
+    ∷ []
+
+-- every other call first asks whether the bytes are an image
+unfoldable pub asks-image : (table : List ℕ) → List Question
+asks-image x = ask 4 (is-image x) ∷ []
+
+-- put and cancel, as they are asked of a set of orders
+unfoldable pub asks-put : Sizes → (key total displayed : ℕ) → List Order → List Question
+asks-put s k t d os =
+    ask 5 (is-key k)
+    ∷ ask 6 (quantities-good t d)
+    ∷ ask 7 (held k os || ltb (length os) (s .orders))
+    ∷ ask 8 (fits s (with-order (order k t d) os))
+    ∷ []
+
+unfoldable pub asks-key : (key : ℕ) → List Order → List Question
+asks-key k os = ask 5 (is-key k) ∷ ask 9 (held k os) ∷ []
+
+unfoldable pub asks-range : (lo hi : ℕ) → List Question
+asks-range lo hi = ask 5 (is-key lo && is-key hi) ∷ ask 10 (leb lo hi) ∷ []
+
+-- span: 12 bytes for each held key in lo..hi; seek: an order there with the reserve
+unfoldable pub asks-span : (lo hi room : ℕ) → List Order → List Question
+asks-span lo hi k os = asks-range lo hi ++ ask 11 (leb (12 * length (between lo hi os)) k) ∷ []
+
+unfoldable pub asks-seek : (lo hi r : ℕ) → List Order → List Question
+asks-seek lo hi r os = asks-range lo hi ++ ask 12 (any-reserve r (between lo hi os)) ∷ []

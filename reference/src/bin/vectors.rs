@@ -1,0 +1,501 @@
+//! Prints recorded vectors for a test of the seven calls from C.
+//!
+//!     vectors [LINES]
+//!
+//! LINES is 20,000 when left out. The same LINES gives the same text every time,
+//! and a smaller one gives its beginning.
+//!
+//! The reader keeps a store of bytes. Each line is one step; its fields are
+//! parted by one blank. Numbers are decimal. BYTES and SEED are two hex digits
+//! for each byte, or `-` for no bytes. Hashes are 64-bit FNV-1a, 16 hex digits.
+//!
+//!     room SIZE BYTE
+//!         The store becomes SIZE bytes, each of them BYTE.
+//!     xor PLACE BYTE
+//!         The byte at PLACE is changed to its exclusive or with BYTE.
+//!     set PLACE BYTES
+//!         The bytes from PLACE on become BYTES. This also undoes damage.
+//!     make γ B N M SEED LENGTH = ANSWER
+//!     check LENGTH = ANSWER
+//!     put LENGTH KEY TOTAL DISPLAYED = ANSWER
+//!     cancel LENGTH KEY = ANSWER
+//!     lookup LENGTH KEY = ANSWER
+//!     span LENGTH LO HI OUTPUT = ANSWER WRITTEN
+//!     seek LENGTH LO HI R = ANSWER
+//!         A call. It is lent the first LENGTH bytes of the store as its table.
+//!
+//! ANSWER is NUMBER KEY TOTAL DISPLAYED STORE: the expected reply and the hash of
+//! the whole store after the call. A span's count stands in TOTAL; a lookup that
+//! succeeds repeats the key. Seek's order here is the one with the lowest key;
+//! another that fits is as good.
+//!
+//! OUTPUT is the length of the output lent to span, byte i of which is i mod 251
+//! before the call. WRITTEN is the hash of the whole output after it.
+
+use reference::calls::{self, Reply};
+use reference::image::held;
+use reference::lists::Orders;
+use reference::samples::{
+    constant_seed, fnv_1a, identity_seed, random_seed, some_quantities, some_seed, zero_seed,
+    Xorshift, EDGE_KEYS,
+};
+use reference::sizes::{Seed, Sizes, HEADER, P};
+use std::io::{self, BufWriter, Write};
+
+fn main() -> io::Result<()> {
+    let lines = match std::env::args().nth(1) {
+        Some(text) => text.parse().expect("a number of lines"),
+        None => 20_000,
+    };
+    let mut recorder = Recorder::new(lines);
+    record_all(&mut recorder);
+    let mut output = BufWriter::new(io::stdout().lock());
+    for line in &recorder.lines {
+        writeln!(output, "{line}")?;
+    }
+    output.flush()
+}
+
+// ---- recording -------------------------------------------------------------
+
+/// Takes each step on its own store and writes down the line.
+struct Recorder {
+    store: Vec<u8>,
+    lines: Vec<String>,
+    wanted: usize,
+}
+
+impl Recorder {
+    fn new(wanted: usize) -> Recorder {
+        Recorder { store: Vec::new(), lines: Vec::new(), wanted }
+    }
+
+    fn done(&self) -> bool {
+        self.lines.len() >= self.wanted
+    }
+
+    fn line(&mut self, text: String) {
+        if !self.done() {
+            self.lines.push(text);
+        }
+    }
+
+    fn call(&mut self, text: String, reply: Reply, written: Option<u64>) -> Reply {
+        if self.done() {
+            return reply;
+        }
+        let Reply { number, key, total, displayed } = reply;
+        let store = fnv_1a(&self.store);
+        let written = written.map_or(String::new(), |hash| format!(" {hash:016x}"));
+        self.line(format!("{text} = {number} {key} {total} {displayed} {store:016x}{written}"));
+        reply
+    }
+
+    fn room(&mut self, size: usize, byte: u8) {
+        self.store = vec![byte; size];
+        self.line(format!("room {size} {byte}"));
+    }
+
+    fn xor(&mut self, place: usize, byte: u8) {
+        self.store[place] ^= byte;
+        self.line(format!("xor {place} {byte}"));
+    }
+
+    fn set(&mut self, place: usize, bytes: &[u8]) {
+        self.store[place..place + bytes.len()].copy_from_slice(bytes);
+        self.line(format!("set {place} {}", hex(bytes)));
+    }
+
+    fn make(&mut self, sizes: &Sizes, seed: &[u8], length: usize) -> Reply {
+        let Sizes { gamma, nodes, orders, blocks } = *sizes;
+        let table = &mut self.store[..length];
+        let reply = calls::make(gamma, nodes, orders, blocks, seed, table);
+        let seed = hex(seed);
+        self.call(format!("make {gamma} {nodes} {orders} {blocks} {seed} {length}"), reply, None)
+    }
+
+    fn check(&mut self, length: usize) -> Reply {
+        let reply = calls::check(&self.store[..length]);
+        self.call(format!("check {length}"), reply, None)
+    }
+
+    fn put(&mut self, length: usize, key: u32, total: u32, displayed: u32) -> Reply {
+        let reply = calls::put(&mut self.store[..length], key, total, displayed);
+        self.call(format!("put {length} {key} {total} {displayed}"), reply, None)
+    }
+
+    fn cancel(&mut self, length: usize, key: u32) -> Reply {
+        let reply = calls::cancel(&mut self.store[..length], key);
+        self.call(format!("cancel {length} {key}"), reply, None)
+    }
+
+    fn lookup(&mut self, length: usize, key: u32) -> Reply {
+        let reply = calls::lookup(&self.store[..length], key);
+        self.call(format!("lookup {length} {key}"), reply, None)
+    }
+
+    fn span(&mut self, length: usize, lo: u32, hi: u32, room: usize) -> Reply {
+        let mut output: Vec<u8> = (0..room).map(|i| (i % 251) as u8).collect();
+        let reply = calls::span(&self.store[..length], lo, hi, &mut output);
+        let written = Some(fnv_1a(&output));
+        self.call(format!("span {length} {lo} {hi} {room}"), reply, written)
+    }
+
+    fn seek(&mut self, length: usize, lo: u32, hi: u32, r: u32) -> Reply {
+        let reply = calls::seek(&self.store[..length], lo, hi, r);
+        self.call(format!("seek {length} {lo} {hi} {r}"), reply, None)
+    }
+}
+
+fn hex(bytes: &[u8]) -> String {
+    if bytes.is_empty() {
+        return "-".to_string();
+    }
+    bytes.iter().map(|byte| format!("{byte:02x}")).collect()
+}
+
+// ---- what is recorded ------------------------------------------------------
+
+/// The examples of the document, refusals of make, then histories: small ones
+/// for each γ and B, two long ones, and random ones until there are enough.
+fn record_all(recorder: &mut Recorder) {
+    let mut generator = Xorshift::new(1);
+    examples(recorder);
+    refused_makes(recorder);
+    for (gamma, nodes) in pairs() {
+        let orders = generator.pick(&[1, 2, 5, 12, 40]);
+        small_history(recorder, &mut generator, gamma, nodes, orders);
+    }
+    let sizes = Sizes { gamma: 16, nodes: 16, orders: 2000, blocks: 420 };
+    history(recorder, &mut generator, &sizes, &random_seed(&mut Xorshift::new(2)), 300);
+    let sizes = Sizes { gamma: 3, nodes: 2, orders: 1500, blocks: 1900 };
+    history(recorder, &mut generator, &sizes, &random_seed(&mut Xorshift::new(3)), 300);
+    while !recorder.done() {
+        for (gamma, nodes) in pairs() {
+            let orders = generator.pick(&[1, 3, 7, 20, 64, 65, 150, 400]);
+            small_history(recorder, &mut generator, gamma, nodes, orders);
+        }
+    }
+}
+
+/// Every γ of 2, 3, 16, 64 with every B of 2, 3, 16, 32.
+fn pairs() -> impl Iterator<Item = (u32, u32)> {
+    [2, 3, 16, 64].into_iter().flat_map(|gamma| [2, 3, 16, 32].map(|nodes| (gamma, nodes)))
+}
+
+/// P3 to P9 and "Run only".
+fn examples(recorder: &mut Recorder) {
+    let sizes = Sizes { gamma: 2, nodes: 2, orders: 2, blocks: 4 };
+    let seed = identity_seed().bytes();
+    let length = sizes.length();
+    recorder.room(length, 0xa5);
+    recorder.check(length);
+    recorder.make(&sizes, &seed, length);
+    recorder.span(length, 1, P - 1, 0);
+    for key in EDGE_KEYS {
+        recorder.put(length, key, 1, 0);
+        recorder.lookup(length, key);
+        recorder.cancel(length, key);
+    }
+    for (key, total, displayed) in [(3, 100, 101), (3, 100, 100), (4, 10, 0), (3, 0, 0)] {
+        recorder.put(length, key, total, displayed);
+    }
+    for room in [0, 11, 12, 13, 24] {
+        recorder.span(length, 1, P - 1, room);
+    }
+    for (key, total, displayed) in [(6, 50, 50), (3, 100, 20), (4, 10, 0)] {
+        recorder.put(length, key, total, displayed);
+    }
+    for r in [0, 1, 80, 81, u32::MAX] {
+        recorder.seek(length, 1, P - 1, r);
+    }
+    recorder.cancel(length, 3);
+    recorder.cancel(length, 3);
+}
+
+/// Each question of make answered "no", alone and with later ones.
+fn refused_makes(recorder: &mut Recorder) {
+    let sizes = Sizes { gamma: 2, nodes: 2, orders: 2, blocks: 4 };
+    let seed = identity_seed().bytes();
+    let length = sizes.length();
+    recorder.room(length + 60, 0x3c);
+    for seed_length in [0, 1, 39, 41, 44] {
+        let seed: Vec<u8> = seed.iter().copied().cycle().take(seed_length).collect();
+        recorder.make(&sizes, &seed, length);
+    }
+    for place in 0..10 {
+        for number in [P - 1, P, u32::MAX] {
+            let mut seed = seed.clone();
+            seed[4 * place..4 * place + 4].copy_from_slice(&number.to_be_bytes());
+            recorder.make(&sizes, &seed, length);
+        }
+    }
+    let bad_seed = [0xff; 40];
+    for sizes in wrong_sizes() {
+        recorder.make(&sizes, &seed, length);
+        recorder.make(&sizes, &bad_seed, length);
+    }
+    for length in [0, 1, 52, 53, length - 1, length + 1, length + 32] {
+        recorder.make(&sizes, &seed, length);
+        recorder.check(length);
+    }
+    let three = Sizes { blocks: 3, ..sizes };
+    recorder.make(&three, &seed, three.length());
+}
+
+/// Sizes each just outside what is allowed, or far.
+fn wrong_sizes() -> Vec<Sizes> {
+    let sizes = Sizes { gamma: 2, nodes: 2, orders: 2, blocks: 4 };
+    let mut wrong = Vec::new();
+    wrong.extend([0, 1, 65, 256 + 2, u32::MAX].map(|gamma| Sizes { gamma, ..sizes }));
+    wrong.extend([0, 1, 33, 256 + 2, u32::MAX].map(|nodes| Sizes { nodes, ..sizes }));
+    wrong.extend([0, 65_536, 65_538, u32::MAX].map(|orders| Sizes { orders, ..sizes }));
+    wrong.extend([0, 1, 2, 65_536, 65_540, u32::MAX].map(|blocks| Sizes { blocks, ..sizes }));
+    wrong
+}
+
+/// A history with some M, from the least to more than is ever needed.
+fn small_history(
+    recorder: &mut Recorder,
+    generator: &mut Xorshift,
+    gamma: u32,
+    nodes: u32,
+    orders: u32,
+) {
+    let least = Sizes { gamma, nodes, orders, blocks: 65_535 }.beta();
+    let blocks = match generator.below(6) {
+        0 => least,
+        1 => least + 1 + orders / nodes,
+        2 => least + orders / 2,
+        3 => least + 2 * orders / gamma + orders / nodes,
+        4 => least + 2 * orders,
+        _ => (least * (orders + 1)).min(1000),
+    };
+    let sizes = Sizes { gamma, nodes, orders, blocks };
+    let seed = match generator.below(8) {
+        0 => zero_seed(),
+        1 => constant_seed(gamma, 1),
+        2 => identity_seed(),
+        _ => some_seed(generator),
+    };
+    history(recorder, generator, &sizes, &seed, 60 + orders as usize);
+}
+
+/// Makes a table, fills it, and takes random steps on it; damages it, empties it
+/// and takes random steps again.
+fn history(
+    recorder: &mut Recorder,
+    generator: &mut Xorshift,
+    sizes: &Sizes,
+    seed: &Seed,
+    steps: usize,
+) {
+    let length = sizes.length();
+    recorder.room(length + generator.below(3) as usize, generator.next() as u8);
+    recorder.check(length);
+    recorder.make(sizes, &seed.bytes(), length);
+    let mut keys = pool(generator, sizes.orders);
+    fill(recorder, generator, length, &keys);
+    for step in 0..steps {
+        if recorder.done() {
+            return;
+        }
+        random_step(recorder, generator, length, &keys);
+        if step % 8 == 0 {
+            damage(recorder, generator, sizes, &keys);
+        }
+    }
+    generator.shuffle(&mut keys);
+    empty(recorder, length, &keys);
+    for _ in 0..steps / 4 {
+        random_step(recorder, generator, length, &keys);
+    }
+}
+
+/// Some more keys than N: neighbours or far apart, with both ends.
+fn pool(generator: &mut Xorshift, orders: u32) -> Vec<u32> {
+    let highest = if generator.one_in(2) { 2 * orders + 8 } else { P - 1 };
+    let mut keys = vec![1, P - 1];
+    keys.extend((0..orders + orders / 4 + 4).map(|_| generator.within(1, highest)));
+    generator.shuffle(&mut keys);
+    keys
+}
+
+/// Puts every key once; the last ones meet 7 or 8.
+fn fill(recorder: &mut Recorder, generator: &mut Xorshift, length: usize, keys: &[u32]) {
+    let mut refusals = 0;
+    for &key in keys {
+        if recorder.done() || refusals > 12 {
+            return;
+        }
+        let (total, displayed) = some_quantities(generator);
+        let reply = recorder.put(length, key, total, displayed);
+        refusals += u32::from(reply.number != 0);
+    }
+}
+
+/// Cancels all but a few of the held keys.
+fn empty(recorder: &mut Recorder, length: usize, keys: &[u32]) {
+    for &key in keys.iter().skip(3) {
+        if recorder.done() {
+            return;
+        }
+        let held = calls::lookup(&recorder.store[..length], key).number == 0;
+        if held {
+            recorder.cancel(length, key);
+        }
+    }
+}
+
+/// A key of the pool, or one at the edges, or any number.
+fn some_key(generator: &mut Xorshift, keys: &[u32]) -> u32 {
+    match generator.below(12) {
+        0 => generator.pick(&EDGE_KEYS),
+        1 => generator.next(),
+        _ => generator.pick(keys),
+    }
+}
+
+/// The right length, or now and then another that the store can lend.
+fn some_length(recorder: &Recorder, generator: &mut Xorshift, length: usize) -> usize {
+    if generator.one_in(25) {
+        let odd = [0, 1, 52, 53, length - 1, length + 1];
+        generator.pick(&odd).min(recorder.store.len())
+    } else {
+        length
+    }
+}
+
+/// One call, whatever it answers.
+fn random_step(recorder: &mut Recorder, generator: &mut Xorshift, length: usize, keys: &[u32]) {
+    let length = some_length(recorder, generator, length);
+    let key = some_key(generator, keys);
+    match generator.below(16) {
+        0..=5 => {
+            let (mut total, mut displayed) = some_quantities(generator);
+            if generator.one_in(12) {
+                (total, displayed) = generator.pick(&[(0, 0), (0, 1), (100, 101), (1, u32::MAX)]);
+            }
+            recorder.put(length, key, total, displayed);
+        }
+        6..=8 => {
+            recorder.cancel(length, key);
+        }
+        9 => {
+            recorder.check(length);
+        }
+        _ => reading(recorder, generator, length, keys),
+    }
+}
+
+/// One lookup, span or seek.
+fn reading(recorder: &mut Recorder, generator: &mut Xorshift, length: usize, keys: &[u32]) {
+    let (one, two) = (some_key(generator, keys), some_key(generator, keys));
+    let (lo, hi) = if generator.one_in(8) { (one, two) } else { (one.min(two), one.max(two)) };
+    match generator.below(3) {
+        0 => recorder.lookup(length, one),
+        1 => {
+            let room = output_length(recorder, generator, length, lo, hi);
+            recorder.span(length, lo, hi, room)
+        }
+        _ => {
+            let r = generator.pick(&[0, 1, 50, 1_000_000_000, 4_000_000_000, u32::MAX]);
+            recorder.seek(length, lo, hi, r)
+        }
+    };
+}
+
+/// About as long as the orders in lo..hi need.
+fn output_length(
+    recorder: &Recorder,
+    generator: &mut Xorshift,
+    length: usize,
+    lo: u32,
+    hi: u32,
+) -> usize {
+    let needed = 12 * count(&orders(&recorder.store[..length]), lo, hi);
+    match generator.below(6) {
+        0 => 0,
+        1 => needed.saturating_sub(1),
+        2 => needed + 1,
+        3 => needed + 30,
+        _ => needed,
+    }
+}
+
+fn orders(table: &[u8]) -> Orders {
+    held(table).map(|(_, orders)| orders).unwrap_or_default()
+}
+
+fn count(orders: &Orders, lo: u32, hi: u32) -> usize {
+    orders.keys().filter(|&&key| lo <= key && key <= hi).count()
+}
+
+// ---- damage ----------------------------------------------------------------
+
+/// Changes some bytes, asks the table in that state, and sets them back.
+fn damage(recorder: &mut Recorder, generator: &mut Xorshift, sizes: &Sizes, keys: &[u32]) {
+    let length = sizes.length();
+    let before = recorder.store.clone();
+    let (place, width) = match generator.below(4) {
+        0 => damaged_byte(recorder, generator, generator_place(length)),
+        1 => damaged_byte(recorder, generator, |generator| generator.below(HEADER as u32) as usize),
+        2 => damaged_node(recorder, generator, sizes),
+        _ => moved_block(recorder, generator, sizes),
+    };
+    let damaged = recorder.check(length).number == 4;
+    if damaged {
+        let key = generator.pick(keys);
+        recorder.put(length, key, 5, 2);
+        recorder.cancel(length, key);
+    }
+    reading(recorder, generator, length, keys);
+    recorder.set(place, &before[place..place + width]);
+    recorder.check(length);
+}
+
+/// Any place in the table.
+fn generator_place(length: usize) -> impl Fn(&mut Xorshift) -> usize {
+    move |generator| generator.below(length as u32) as usize
+}
+
+/// One byte changed.
+fn damaged_byte(
+    recorder: &mut Recorder,
+    generator: &mut Xorshift,
+    place: impl Fn(&mut Xorshift) -> usize,
+) -> (usize, usize) {
+    let place = place(generator);
+    let byte = generator.pick(&[1, 2, 3, 0x80, 0xff]);
+    recorder.xor(place, byte);
+    (place, 1)
+}
+
+/// Key, total or displayed of some node set to a number at an edge.
+fn damaged_node(
+    recorder: &mut Recorder,
+    generator: &mut Xorshift,
+    sizes: &Sizes,
+) -> (usize, usize) {
+    let block = generator.below(sizes.blocks) as usize;
+    let number = generator.below(3 * sizes.nodes.min(4)) as usize;
+    let place = HEADER + block * sizes.block_length() + 8 + 4 * number;
+    let value: u32 = generator.pick(&[0, 1, P, u32::MAX]);
+    recorder.set(place, &value.to_be_bytes());
+    (place, 4)
+}
+
+/// Two neighbouring blocks exchanged, or one copied over the other.
+fn moved_block(
+    recorder: &mut Recorder,
+    generator: &mut Xorshift,
+    sizes: &Sizes,
+) -> (usize, usize) {
+    let width = sizes.block_length();
+    let place = HEADER + generator.below(sizes.blocks - 1) as usize * width;
+    let one = recorder.store[place..place + width].to_vec();
+    let two = recorder.store[place + width..place + 2 * width].to_vec();
+    let second = if generator.one_in(3) { &two } else { &one };
+    recorder.set(place, &[two.as_slice(), second].concat());
+    (place, 2 * width)
+}

@@ -1,0 +1,76 @@
+//! The plain book ("The plain book").
+//!
+//! "It is given the sizes and seed of make and then each call in turn with its
+//! arguments, but no reply and no byte of the table."
+
+use crate::lists::{chunks, lists, Orders, Quantities};
+use crate::sizes::{Made, P};
+
+/// "Its state is a set of orders, empty at first."
+pub struct Book {
+    made: Made,
+    orders: Orders,
+}
+
+impl Book {
+    pub fn new(made: Made) -> Book {
+        Book { made, orders: Orders::new() }
+    }
+
+    pub fn made(&self) -> &Made {
+        &self.made
+    }
+
+    /// The set of orders now.
+    pub fn orders(&self) -> &Orders {
+        &self.orders
+    }
+
+    /// "Questions 5, 6, 7 and 8 are asked of this set [..]. If none turns the put
+    /// down, the order is added, or replaces the one with its key." Gives the
+    /// number of the question that turns it down, or 0.
+    pub fn put(&mut self, key: u32, total: u32, displayed: u32) -> u32 {
+        let questions = [
+            (5, 1 <= key && key <= P - 1),
+            (6, total >= 1 && displayed <= total),
+            (7, self.orders.contains_key(&key) || self.n() < self.made.sizes.orders),
+        ];
+        let refusal = first_no(&questions);
+        if refusal != 0 {
+            return refusal;
+        }
+        let mut resulting = self.orders.clone();
+        resulting.insert(key, Quantities { total, displayed });
+        let chunks = chunks(&self.made, &lists(&self.made, &resulting)).len();
+        if chunks > self.made.sizes.blocks as usize {
+            return 8;
+        }
+        self.orders = resulting;
+        0
+    }
+
+    /// "Questions 5 and 9 are asked of this set. If neither turns it down, that
+    /// order goes."
+    pub fn cancel(&mut self, key: u32) -> u32 {
+        let questions = [
+            (5, 1 <= key && key <= P - 1),
+            (9, self.orders.contains_key(&key)),
+        ];
+        let refusal = first_no(&questions);
+        if refusal == 0 {
+            self.orders.remove(&key);
+        }
+        refusal
+    }
+
+    /// n, "its number of orders".
+    fn n(&self) -> u32 {
+        self.orders.len() as u32
+    }
+}
+
+/// The number of the first question answered "no", or 0.
+fn first_no(questions: &[(u32, bool)]) -> u32 {
+    let no = questions.iter().find(|(_, yes)| !yes);
+    no.map_or(0, |(number, _)| *number)
+}

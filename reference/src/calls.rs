@@ -1,0 +1,164 @@
+//! The seven calls on byte buffers ("Calls and their questions").
+//!
+//! "Questions run in this order; the first "no" ends the call with its number.
+//! All other parts of that answer are 0 and no lent byte changes. Success is 0."
+
+use crate::image::{held, image, is_image};
+use crate::lists::{Orders, Quantities};
+use crate::sizes::{are_quantities, is_key, Made, Seed, Sizes, NODE};
+
+/// An answer. A lookup that succeeds repeats the key; a span's count stands in
+/// `total`; what a call does not give is 0.
+#[derive(Clone, Copy, Debug, Default, PartialEq, Eq)]
+pub struct Reply {
+    pub number: u32,
+    pub key: u32,
+    pub total: u32,
+    pub displayed: u32,
+}
+
+impl Reply {
+    pub fn refused(number: u32) -> Reply {
+        Reply { number, ..Reply::default() }
+    }
+
+    pub fn done() -> Reply {
+        Reply::default()
+    }
+
+    pub fn order(key: u32, quantities: &Quantities) -> Reply {
+        let Quantities { total, displayed } = *quantities;
+        Reply { number: 0, key, total, displayed }
+    }
+
+    pub fn count(count: usize) -> Reply {
+        Reply { total: count as u32, ..Reply::default() }
+    }
+}
+
+/// Make: 1, 2, 3. "It then overwrites every byte with the image of no orders."
+pub fn make(
+    gamma: u32,
+    nodes: u32,
+    orders: u32,
+    blocks: u32,
+    seed: &[u8],
+    table: &mut [u8],
+) -> Reply {
+    let sizes = Sizes { gamma, nodes, orders, blocks };
+    let Some(seed) = Seed::from_bytes(seed) else {
+        return Reply::refused(1);
+    };
+    if !sizes.allowed() {
+        return Reply::refused(2);
+    }
+    if table.len() != sizes.length() {
+        return Reply::refused(3);
+    }
+    let empty = image(&Made { sizes, seed }, &Orders::new());
+    table.copy_from_slice(&empty.expect("no orders make β chunks, and M ≥ β"));
+    Reply::done()
+}
+
+/// Check: only 4.
+pub fn check(table: &[u8]) -> Reply {
+    if !is_image(table) {
+        return Reply::refused(4);
+    }
+    Reply::done()
+}
+
+/// Put: 4, 5, 6, 7, 8. "A put on a held key replaces both quantities."
+pub fn put(table: &mut [u8], key: u32, total: u32, displayed: u32) -> Reply {
+    let Some((made, mut orders)) = held(table) else {
+        return Reply::refused(4);
+    };
+    if !is_key(key) {
+        return Reply::refused(5);
+    }
+    if !are_quantities(total, displayed) {
+        return Reply::refused(6);
+    }
+    if !orders.contains_key(&key) && orders.len() >= made.sizes.orders as usize {
+        return Reply::refused(7);
+    }
+    orders.insert(key, Quantities { total, displayed });
+    let Some(after) = image(&made, &orders) else {
+        return Reply::refused(8);
+    };
+    table.copy_from_slice(&after);
+    Reply::done()
+}
+
+/// Cancel: 4, 5, 9.
+pub fn cancel(table: &mut [u8], key: u32) -> Reply {
+    let Some((made, mut orders)) = held(table) else {
+        return Reply::refused(4);
+    };
+    if !is_key(key) {
+        return Reply::refused(5);
+    }
+    if orders.remove(&key).is_none() {
+        return Reply::refused(9);
+    }
+    let after = image(&made, &orders);
+    table.copy_from_slice(&after.expect("taking an order away makes no more chunks"));
+    Reply::done()
+}
+
+/// Lookup: 4, 5, 9. "Lookup gives total and displayed."
+pub fn lookup(table: &[u8], key: u32) -> Reply {
+    let Some((_, orders)) = held(table) else {
+        return Reply::refused(4);
+    };
+    if !is_key(key) {
+        return Reply::refused(5);
+    }
+    let Some(quantities) = orders.get(&key) else {
+        return Reply::refused(9);
+    };
+    Reply::order(key, quantities)
+}
+
+/// Span: 4, 5, 10, 11. "It writes key, total, displayed of each, rising, and
+/// gives their number; output bytes beyond them keep their values."
+pub fn span(table: &[u8], lo: u32, hi: u32, output: &mut [u8]) -> Reply {
+    let Some((_, orders)) = held(table) else {
+        return Reply::refused(4);
+    };
+    if !is_key(lo) || !is_key(hi) {
+        return Reply::refused(5);
+    }
+    if lo > hi {
+        return Reply::refused(10);
+    }
+    let count = orders.range(lo..=hi).count();
+    if output.len() < NODE * count {
+        return Reply::refused(11);
+    }
+    for ((key, order), place) in orders.range(lo..=hi).zip(output.chunks_exact_mut(NODE)) {
+        place[0..4].copy_from_slice(&key.to_be_bytes());
+        place[4..8].copy_from_slice(&order.total.to_be_bytes());
+        place[8..12].copy_from_slice(&order.displayed.to_be_bytes());
+    }
+    Reply::count(count)
+}
+
+/// Seek: 4, 5, 10, 12. "It gives some such order": here the one with the lowest
+/// key.
+pub fn seek(table: &[u8], lo: u32, hi: u32, r: u32) -> Reply {
+    let Some((_, orders)) = held(table) else {
+        return Reply::refused(4);
+    };
+    if !is_key(lo) || !is_key(hi) {
+        return Reply::refused(5);
+    }
+    if lo > hi {
+        return Reply::refused(10);
+    }
+    let fits = |order: &Quantities| order.total - order.displayed >= r;
+    let Some((&key, order)) = orders.range(lo..=hi).find(|(_, order)| fits(order)) else {
+        return Reply::refused(12);
+    };
+    Reply::order(key, order)
+}

@@ -1,0 +1,106 @@
+//! Lists, partitions, chunks, labels and homes ("Lists, partitions, chunks").
+
+use crate::sizes::{Made, FRONT, P};
+use std::collections::BTreeMap;
+
+/// The two quantities of an order.
+#[derive(Clone, Copy, Debug, PartialEq, Eq)]
+pub struct Quantities {
+    pub total: u32,
+    pub displayed: u32,
+}
+
+/// A set of orders, by key.
+pub type Orders = BTreeMap<u32, Quantities>;
+
+/// An element of a list: the front or a held key. The front's quantities are 0.
+#[derive(Clone, Copy, Debug, PartialEq, Eq)]
+pub struct Element {
+    pub key: u32,
+    pub quantities: Quantities,
+    pub level: u32,
+}
+
+/// L_k for one k.
+pub type List = Vec<Element>;
+
+/// "A chunk's label is (level, first key of its partition, chunk number)."
+/// The derived order takes the fields as they stand: "by level, then first key,
+/// then chunk number".
+#[derive(Clone, Copy, Debug, PartialEq, Eq, PartialOrd, Ord)]
+pub struct Label {
+    pub level: u32,
+    pub first_key: u32,
+    pub chunk_number: u32,
+}
+
+impl Label {
+    /// A number for each label; labels compare as their numbers do. First keys
+    /// have 32 bits, chunk numbers 16.
+    pub fn rank(&self) -> u64 {
+        u64::from(self.level) << 48 | u64::from(self.first_key) << 16 | u64::from(self.chunk_number)
+    }
+}
+
+/// A chunk: its label and its part of a list.
+#[derive(Clone, Copy, Debug, PartialEq, Eq)]
+pub struct Chunk<'a> {
+    pub label: Label,
+    pub nodes: &'a [Element],
+}
+
+/// L_1 to L_β.
+pub fn lists(made: &Made, orders: &Orders) -> Vec<List> {
+    let all = all_elements(made, orders);
+    (1..=made.sizes.beta()).map(|k| list(&all, k)).collect()
+}
+
+/// The front and all held keys, rising.
+fn all_elements(made: &Made, orders: &Orders) -> List {
+    let element = |key, quantities| Element { key, quantities, level: made.level(key) };
+    let front = element(FRONT, Quantities { total: 0, displayed: 0 });
+    let held = orders.iter().map(|(&key, &quantities)| element(key, quantities));
+    std::iter::once(front).chain(held).collect()
+}
+
+/// L_k, "the rising list of the front and all held keys of level k or more".
+fn list(all: &[Element], k: u32) -> List {
+    all.iter().filter(|element| element.level >= k).copied().collect()
+}
+
+/// "For k < β a partition of L_k starts at each element that is also in
+/// L_(k+1) and runs to just before the next such element. L_β is one partition."
+/// No level is above β, so the one rule serves both.
+pub fn partitions(list: &List, k: u32) -> impl Iterator<Item = &[Element]> {
+    list.chunk_by(move |_, next| next.level <= k)
+}
+
+/// "A partition of m nodes is cut into chunks 0, 1, ..: all of B nodes but the
+/// last, which has 1..B."
+fn cut<'a>(made: &Made, level: u32, partition: &'a [Element]) -> impl Iterator<Item = Chunk<'a>> {
+    let first_key = partition[0].key;
+    let pieces = partition.chunks(made.sizes.nodes as usize);
+    (0..).zip(pieces).map(move |(chunk_number, nodes)| Chunk {
+        label: Label { level, first_key, chunk_number },
+        nodes,
+    })
+}
+
+/// All chunks of the lists L_1 to L_β, in rising label order.
+pub fn chunks<'a>(made: &Made, lists: &'a [List]) -> Vec<Chunk<'a>> {
+    let mut chunks = Vec::new();
+    for (level, list) in (1..).zip(lists) {
+        for partition in partitions(list, level) {
+            chunks.extend(cut(made, level, partition));
+        }
+    }
+    chunks
+}
+
+/// "home(label) = ((g(first key) + 65,536·level + chunk number) mod p) mod M."
+pub fn home(made: &Made, label: &Label) -> usize {
+    let sum = u64::from(made.seed.g(label.first_key))
+        + 65_536 * u64::from(label.level)
+        + u64::from(label.chunk_number);
+    ((sum % u64::from(P)) % u64::from(made.sizes.blocks)) as usize
+}

@@ -1,0 +1,107 @@
+//! Made-up numbers for the vectors and the tests, the same on every run.
+
+use crate::sizes::{Seed, P};
+
+/// A xorshift generator with 64 bits of state, never 0.
+pub struct Xorshift(u64);
+
+impl Xorshift {
+    pub fn new(start: u64) -> Xorshift {
+        let mut generator = Xorshift(start.wrapping_mul(0x9e37_79b9_7f4a_7c15) | 1);
+        for _ in 0..8 {
+            generator.next();
+        }
+        generator
+    }
+
+    /// The next 32 bits.
+    pub fn next(&mut self) -> u32 {
+        self.0 ^= self.0 << 13;
+        self.0 ^= self.0 >> 7;
+        self.0 ^= self.0 << 17;
+        (self.0 >> 32) as u32
+    }
+
+    /// A number below the bound, which is at least 1.
+    pub fn below(&mut self, bound: u32) -> u32 {
+        self.next() % bound
+    }
+
+    /// A number in low..=high.
+    pub fn within(&mut self, low: u32, high: u32) -> u32 {
+        let width = u64::from(high) - u64::from(low) + 1;
+        low + (u64::from(self.next()) % width) as u32
+    }
+
+    pub fn one_in(&mut self, times: u32) -> bool {
+        self.below(times) == 0
+    }
+
+    pub fn pick<T: Copy>(&mut self, choices: &[T]) -> T {
+        choices[self.below(choices.len() as u32) as usize]
+    }
+
+    /// The slice in another order.
+    pub fn shuffle<T>(&mut self, slice: &mut [T]) {
+        for last in (1..slice.len()).rev() {
+            slice.swap(last, self.below(last as u32 + 1) as usize);
+        }
+    }
+}
+
+/// Keys at the edges of what is allowed.
+pub const EDGE_KEYS: [u32; 5] = [0, 1, P - 1, P, u32::MAX];
+
+/// h(x) = g(x) = 0: every key has level β.
+pub fn zero_seed() -> Seed {
+    Seed { a: [0; 5], b: [0; 5] }
+}
+
+/// h(x) = g(x) = x, the seed of the document's run.
+pub fn identity_seed() -> Seed {
+    Seed { a: [0, 1, 0, 0, 0], b: [0, 1, 0, 0, 0] }
+}
+
+/// h and g constant: all keys have one level, and homes hardly differ.
+pub fn constant_seed(h: u32, g: u32) -> Seed {
+    Seed { a: [h, 0, 0, 0, 0], b: [g, 0, 0, 0, 0] }
+}
+
+pub fn random_seed(generator: &mut Xorshift) -> Seed {
+    let mut number = |_| generator.below(P);
+    Seed { a: std::array::from_fn(&mut number), b: std::array::from_fn(&mut number) }
+}
+
+/// One of the kinds above.
+pub fn some_seed(generator: &mut Xorshift) -> Seed {
+    match generator.below(6) {
+        0 => zero_seed(),
+        1 => identity_seed(),
+        2 => constant_seed(generator.below(P), generator.below(P)),
+        3 => Seed { a: [1, 1, 0, 0, 0], b: [P - 1; 5] },
+        _ => random_seed(generator),
+    }
+}
+
+/// Any total and displayed that an order may have, the edges often.
+pub fn some_quantities(generator: &mut Xorshift) -> (u32, u32) {
+    let total = match generator.below(4) {
+        0 => 1,
+        1 => u32::MAX,
+        2 => generator.within(1, 200),
+        _ => generator.within(1, u32::MAX),
+    };
+    let displayed = match generator.below(4) {
+        0 => 0,
+        1 => total,
+        _ => generator.within(0, total),
+    };
+    (total, displayed)
+}
+
+/// The 64-bit FNV-1a hash.
+pub fn fnv_1a(bytes: &[u8]) -> u64 {
+    bytes.iter().fold(0xcbf2_9ce4_8422_2325, |hash, &byte| {
+        (hash ^ u64::from(byte)).wrapping_mul(0x0000_0100_0000_01b3)
+    })
+}
