@@ -29,3 +29,5 @@ pub mod Tables
 pub mod Searched
 pub mod Decoding
 pub mod Hashes
+pub mod HeaderLoops
+pub mod HeaderWrites

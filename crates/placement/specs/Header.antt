@@ -32,6 +32,10 @@ unfoldable pub header : Sizes → (n : ℕ) → List ℕ
 header s n =
     (1 ∷ []) ++ big 4 (table-long s) ++ (s .gamma ∷ s .nodes ∷ []) ++ big 2 (s .orders) ++ big 2 (s .blocks) ++ big 2 n ++ seed-bytes (s .seed)
 
+-- the value of each of the seventeen fields
+unfoldable pub header-value : Sizes → (n k : ℕ) → ℕ
+header-value s n k = getD (1 ∷ table-long s ∷ s .gamma ∷ s .nodes ∷ s .orders ∷ s .blocks ∷ n ∷ s .seed) k 0
+
 -- READ BACK
 abbrev pub seed-in : (left : ℕ) → List ℕ → List ℕ
 seed-in n bs = rows-in 4 (field 0 4) n bs

@@ -35,3 +35,9 @@ pub enum Found {
     At(u32),
     Nothing,
 }
+
+// Where a field of the header stands, and how wide it is.
+pub struct Field {
+    pub at: usize,
+    pub width: usize,
+}

@@ -15,9 +15,9 @@ use Rattle.skiplist.specs.Image.{into, quantities-good, orders-good, fit
 use Rattle.skiplist.specs.Questions.{first-no, is-key, held, without, with-order, order, asks-put, asks-key}
 use Rattle.skiplist.specs.Book.{put-refusal, key-refusal, Call, put, cancel, reading, booked, book}
 use Rattle.skiplist.proofs.Parts.{Up, up-from, and-left, and-right, or-left, or-right, up-past, Good, good-parts, good-up, without-here, up-out, below}
-use Rattle.skiplist.proofs.Made.{Made}
 use Rattle.skiplist.proofs.Shapes.{Place, there, absent, place, held-absent}
 use Rattle.skiplist.proofs.Count.{length-chunks, chunks-more, counts-none}
+use Rattle.placement.proofs.Laws.Sizes.{Limits}
 
 pub good-make : (a : ℕ) (o : Order) (os : List Order) → a ≤ o .key → ltb (o .key) prime ≡ true → quantities-good (o .total) (o .displayed) ≡ true → orders-good (suc (o .key)) os ≡ true → orders-good a (o ∷ os) ≡ true
 unfolding orders-good
@@ -109,9 +109,9 @@ pub record Kept (s : Sizes) (os : List Order) : Type 0 where
   pub good : orders-good 1 os ≡ true
   pub fit : fits s os ≡ true
 
-pub kept-none : (s : Sizes) → Made s → Kept s []
+pub kept-none : (s : Sizes) → Limits s → Kept s []
 unfolding orders-good
-kept-none s m = record { good = refl; fit = fits-make s [] (omega arith) (rw (length-chunks s [] (m .nodes), counts-none (beta s) 1 s) (m .room)) }
+kept-none s m = record { good = refl; fit = fits-make s [] (omega arith) (rw (length-chunks s [] (m .nodes-some), counts-none (beta s) 1 s) (m .blocks-least)) }
 
 put-answers : (a q h f : Bool) → _≡_ {A = ℕ} (cond a (cond q (cond h (cond f 0 8) 7) 6) 5) 0 → (a ≡ true) × (q ≡ true) × (f ≡ true)
 put-answers true true true true e = (refl, refl, refl)
@@ -136,15 +136,15 @@ kept-put s k t d os w e =
       fit = a .2;
     }
 
-pub kept-cancel : (s : Sizes) → Made s → (k : ℕ) (os : List Order) → Kept s os → key-refusal k os ≡ 0 → Kept s (without k os)
+pub kept-cancel : (s : Sizes) → Limits s → (k : ℕ) (os : List Order) → Kept s os → key-refusal k os ≡ 0 → Kept s (without k os)
 unfolding key-refusal first-no asks-key
 kept-cancel s m k os w e =
     record {
       good = good-without 1 k os (w .good);
-      fit = fits-without s k os (m .nodes) (good-up 1 os (w .good)) (key-answers (is-key k) (held k os) e) (w .fit);
+      fit = fits-without s k os (m .nodes-some) (good-up 1 os (w .good)) (key-answers (is-key k) (held k os) e) (w .fit);
     }
 
-pub kept-booked : (s : Sizes) → Made s → (c : Call) (os : List Order) → Kept s os → Kept s (booked s c os)
+pub kept-booked : (s : Sizes) → Limits s → (c : Call) (os : List Order) → Kept s os → Kept s (booked s c os)
 unfolding booked
 kept-booked s m (put k t d) os w = go (eqb (put-refusal s k t d os) 0) refl
   where
@@ -158,7 +158,7 @@ kept-booked s m (cancel k) os w = go (eqb (key-refusal k os) 0) refl
     go false e = w
 kept-booked s m reading os w = w
 
-pub kept-book : (s : Sizes) → Made s → (cs : List Call) (os : List Order) → Kept s os → Kept s (book s cs os)
+pub kept-book : (s : Sizes) → Limits s → (cs : List Call) (os : List Order) → Kept s os → Kept s (book s cs os)
 unfolding book
 kept-book s m [] os w = w
 kept-book s m (c ∷ cs) os w = kept-book s m cs (booked s c os) (kept-booked s m c os w)

@@ -11,7 +11,7 @@ use lib.ListN.{getD}
 use Rattle.placement.specs.Sizes.{prime, least-power, beta}
 use Rattle.placement.specs.Hash.{hash-from, h, g, divides-from, level}
 use Rattle.skiplist.specs.Rules.{Beta-is, Level-is, poly, Hash-is}
-use Rattle.skiplist.proofs.Made.{made-parts}
+use Rattle.placement.proofs.Laws.Sizes.{limits}
 
 least-min : (k e c n : ℕ) → ((i : ℕ) → i < e → n ≤ c ^ i → ⊥) → (f : ℕ) → n ≤ c ^ f → least-power k e c n ≤ f
 unfolding least-power
@@ -47,8 +47,8 @@ least-enough (suc k) e c n l = go (leb n (c ^ e)) refl (least-enough k (suc e) c
 pub beta-is : Beta-is
 unfolding Beta-is beta
 beta-is s m =
-    let w = made-parts s m in
-    let p : 2 ^ 17 ≤ s .gamma ^ 17 = pow-le-pow-left (w .gamma) 17 in
+    let w = limits s m in
+    let p : 2 ^ 17 ≤ s .gamma ^ 17 = pow-le-pow-left (w .gamma-least) 17 in
     let e = least-power 17 0 (s .gamma) (s .orders) in
     let q : 2 + e - 2 ≡ e = omega arith in
     let z : s .orders ≤ s .gamma ^ (0 + 17) = omega (arith, w .orders-most, p) in

@@ -1,6 +1,5 @@
 pub mod Runs
 pub mod Parts
-pub mod Made
 pub mod Edits
 pub mod Shapes
 pub mod Shift
@@ -19,6 +18,15 @@ pub mod Levels
 pub mod Paper
 pub mod Lists
 pub mod Pieces
+pub mod Rising
+pub mod Sound
+pub mod Image
+pub mod Decode
+pub mod Gather
 pub mod Third
+pub mod Readback
+pub mod Arranged
+pub mod Rules
 pub mod Questions
 pub mod Examples
+pub mod Promise

@@ -11,7 +11,8 @@ use Rattle.placement.specs.Hash.{level}
 use Rattle.placement.specs.declared.Sizes.{Sizes}
 use Rattle.placement.specs.declared.Order.{Order}
 use Rattle.skiplist.specs.Lists.{front, at-least, list-at}
-use Rattle.skiplist.specs.Rules.{Among, Lists-are}
+use Rattle.skiplist.specs.Rules.{Lists-are}
+use Rattle.placement.specs.Blocks.{Among}
 
 least-among : (s : Sizes) (k : ℕ) (os : List Order) (o : Order) → Among o (at-least s k os) → Among o os × (k ≤ level s (o .key))
 unfolding at-least

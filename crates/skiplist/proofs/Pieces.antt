@@ -15,9 +15,10 @@ use Rattle.placement.specs.Chunks.{Chunk}
 use Rattle.placement.specs.declared.Sizes.{Sizes}
 use Rattle.placement.specs.declared.Order.{Order}
 use Rattle.skiplist.specs.Lists.{list-at, partitions, first-key, masked, chunks-of, all-chunks, chunks-from, chunks}
-use Rattle.skiplist.specs.Rules.{Among, Chunks-are}
-use Rattle.skiplist.proofs.Made.{made-parts}
+use Rattle.skiplist.specs.Rules.{Chunks-are}
 use Rattle.skiplist.proofs.Masks.{map-take, map-drop}
+use Rattle.placement.specs.Blocks.{Among}
+use Rattle.placement.proofs.Laws.Sizes.{limits}
 
 pub among-append : {A : Type 0} (c : A) (cs ds : List A) → Among c (cs ++ ds) → Among c cs ⊎ Among c ds
 among-append c [] ds h = inr h
@@ -160,5 +161,5 @@ chunks-are s os c m = (
       },
   λ w.
       of-from (beta s) 1 s os c (w .low) (omega (arith, w .high))
-      (of-all s (c .level) (partitions s (c .level) (list-at s (c .level) os)) c (w .part) (made-parts s m .nodes) (w .of-level) refl (w .first-is) (w .inside) (w .nodes-are)),
+      (of-all s (c .level) (partitions s (c .level) (list-at s (c .level) os)) c (w .part) (limits s m .nodes-some) (w .of-level) refl (w .first-is) (w .inside) (w .nodes-are)),
 )

@@ -17,9 +17,9 @@ use Rattle.skiplist.specs.Questions.{first-no, is-key, held, without, wi
 use Rattle.skiplist.specs.Book.{put-refusal, key-refusal, Call, put, cancel, reading, booked, book, refusal, done, after}
 use Rattle.skiplist.specs.Promise.{Reads-back, Lists-image, Equal-exactly, Checks-exactly}
 use Rattle.skiplist.proofs.Parts.{and-left, and-right, up-past, Good, good-parts, good-up, below-here}
-use Rattle.skiplist.proofs.Made.{Made, made-parts}
 use Rattle.skiplist.proofs.Shapes.{put-new}
 use Rattle.skiplist.proofs.Kept.{fits-parts, fits-prefix, Kept, kept-none, kept-booked, kept-book}
+use Rattle.placement.proofs.Laws.Sizes.{Limits, limits}
 
 -- a list of puts that gives some orders
 unfoldable pub puts : List Order → List Call
@@ -31,7 +31,7 @@ good-at [] z zs a e = let w = good-parts a z zs e in record { from = omega arith
 good-at (x ∷ xs) z zs a e = good-at xs z zs (suc (x .key)) (good-parts a x (xs ++ z ∷ zs) e .others)
 
 -- a put of one more order, above all held
-pub booked-last : (s : Sizes) (xs : List Order) (z : Order) (zs : List Order) → Made s → orders-good 1 (xs ++ z ∷ zs) ≡ true → fits s (xs ++ z ∷ []) ≡ true →
+pub booked-last : (s : Sizes) (xs : List Order) (z : Order) (zs : List Order) → Limits s → orders-good 1 (xs ++ z ∷ zs) ≡ true → fits s (xs ++ z ∷ []) ≡ true →
     booked s (put (z .key) (z .total) (z .displayed)) xs ≡ xs ++ z ∷ []
 unfolding booked put-refusal first-no asks-put is-key
 booked-last s xs z zs m g f =
@@ -41,14 +41,14 @@ booked-last s xs z zs m g f =
     let n : length xs < s .orders = omega (arith, simp length-append at (fits-parts s (xs ++ z ∷ []) f .few)) in
     rw (le-leb 1 (z .key) (up-past xs z zs 1 u), w .key, w .quantity, lt-ltb (length xs) (s .orders) n, or-true (held (z .key) xs), rw append-nil at (put-new z xs [] v tt), f)
 
-pub book-puts : (s : Sizes) (zs xs : List Order) → Made s → orders-good 1 (xs ++ zs) ≡ true → fits s (xs ++ zs) ≡ true → book s (puts zs) xs ≡ xs ++ zs
+pub book-puts : (s : Sizes) (zs xs : List Order) → Limits s → orders-good 1 (xs ++ zs) ≡ true → fits s (xs ++ zs) ≡ true → book s (puts zs) xs ≡ xs ++ zs
 unfolding book puts
 book-puts s [] xs m g f = sym (append-nil xs)
 book-puts s (z ∷ zs) xs m g f =
     let e : xs ++ z ∷ [] ++ zs ≡ xs ++ z ∷ zs = append-assoc xs (z ∷ []) zs in
     let g′ : orders-good 1 (xs ++ z ∷ [] ++ zs) ≡ true = rw e g in
     let f′ : fits s (xs ++ z ∷ [] ++ zs) ≡ true = rw e f in
-    ap (book s (puts zs)) (booked-last s xs z zs m g (fits-prefix s (xs ++ z ∷ []) zs (m .nodes) (good-up 1 (xs ++ z ∷ [] ++ zs) g′) f′))
+    ap (book s (puts zs)) (booked-last s xs z zs m g (fits-prefix s (xs ++ z ∷ []) zs (m .nodes-some) (good-up 1 (xs ++ z ∷ [] ++ zs) g′) f′))
     ∙ book-puts s zs (xs ++ z ∷ []) m g′ f′ ∙ e
 
 pub same-is : (a b : List ℕ) → same a b ≡ true → a ≡ b
@@ -112,16 +112,16 @@ module _ (reads : Reads-back) where
   pub after-image : (s : Sizes) (cs : List Call) (os : List Order) → made s ≡ true → Kept s os → after cs (image s os) ≡ image s (book s cs os)
   unfolding after book
   after-image s [] os m w = refl
-  after-image s (c ∷ cs) os m w = rw (done-image s c os m w) (after-image s cs (booked s c os) m (kept-booked s (made-parts s m) c os w))
+  after-image s (c ∷ cs) os m w = rw (done-image s c os m w) (after-image s cs (booked s c os) m (kept-booked s (limits s m) c os w))
 
   pub lists-image : Lists-image
   unfolding Lists-image
-  lists-image s cs m = after-image s cs [] m (kept-none s (made-parts s m))
+  lists-image s cs m = after-image s cs [] m (kept-none s (limits s m))
 
   pub equal-exactly : Equal-exactly
   unfolding Equal-exactly Lists-image Reads-back
   equal-exactly s cs ds m =
-      let k : (es : List Call) → Kept s (book s es []) = λ es. kept-book s (made-parts s m) es [] (kept-none s (made-parts s m)) in
+      let k : (es : List Call) → Kept s (book s es []) = λ es. kept-book s (limits s m) es [] (kept-none s (limits s m)) in
       let r : (es : List Call) → orders-in (image s (book s es [])) ≡ book s es [] = λ es. reads s (book s es []) m (k es .good) (k es .fit) .1 in (
         λ e. sym (r cs) ∙ ap orders-in (sym (lists-image s cs m) ∙ e ∙ lists-image s ds m) ∙ r ds,
         λ e. lists-image s cs m ∙ ap (image s) e ∙ sym (lists-image s ds m),
@@ -137,9 +137,9 @@ module _ (reads : Reads-back) where
           s,
           puts os,
           w .sizes-made,
-          lists-image s (puts os) (w .sizes-made) ∙ rw (book-puts s os [] (made-parts s (w .sizes-made)) (w .orders-kept .good) (w .orders-kept .fit)) (w .bytes),
+          lists-image s (puts os) (w .sizes-made) ∙ rw (book-puts s os [] (limits s (w .sizes-made)) (w .orders-kept .good) (w .orders-kept .fit)) (w .bytes),
         ),
     λ s cs m e.
-        let k = kept-book s (made-parts s m) cs [] (kept-none s (made-parts s m)) in
+        let k = kept-book s (limits s m) cs [] (kept-none s (limits s m)) in
         rw (← e, lists-image s cs m) (reads s (book s cs []) m (k .good) (k .fit) .0),
   )

@@ -10,16 +10,12 @@ use lib.ListN.{length, getD, take, drop}
 use Rattle.placement.specs.Sizes.{prime, beta, made}
 use Rattle.placement.specs.Hash.{h, g, level}
 use Rattle.placement.specs.Header.{header, sizes-in}
-use Rattle.placement.specs.Blocks.{Block, empty, holds, holds-smaller}
+use Rattle.placement.specs.Blocks.{Block, empty, holds, holds-smaller, Among}
 use Rattle.placement.specs.Chunks.{Chunk, home, label-before, all-bytes}
 use Rattle.placement.specs.declared.Sizes.{Sizes}
 use Rattle.placement.specs.declared.Order.{Order}
 use Rattle.skiplist.specs.Lists.{front, list-at, partitions, first-key, masked, chunks}
 use Rattle.skiplist.specs.Image.{image, is-image, orders-in, orders-good}
-
-abbrev pub Among : {A : Type 0} → A → List A → Type 0
-Among e [] = ⊥
-Among e (x ∷ xs) = (e ≡ x) ⊎ Among e xs
 
 -- RULES 1, 2, 3, read off bytes: no placement and no reading back stands in this record
 pub record Rules (s : Sizes) (os : List Order) (x : List ℕ) : Type 0 where

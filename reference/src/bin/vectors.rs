@@ -34,12 +34,12 @@
 
 use reference::calls::{self, Reply};
 use reference::image::held;
-use reference::lists::Orders;
+use reference::lists::{chunks, lists, Orders, Quantities};
 use reference::samples::{
     constant_seed, fnv_1a, identity_seed, random_seed, some_quantities, some_seed, zero_seed,
     Xorshift, EDGE_KEYS,
 };
-use reference::sizes::{Seed, Sizes, HEADER, P};
+use reference::sizes::{Made, Sizes, HEADER, P};
 use std::io::{self, BufWriter, Write};
 
 fn main() -> io::Result<()> {
@@ -166,10 +166,8 @@ fn record_all(recorder: &mut Recorder) {
         let orders = generator.pick(&[1, 2, 5, 12, 40]);
         small_history(recorder, &mut generator, gamma, nodes, orders);
     }
-    let sizes = Sizes { gamma: 16, nodes: 16, orders: 2000, blocks: 420 };
-    history(recorder, &mut generator, &sizes, &random_seed(&mut Xorshift::new(2)), 300);
-    let sizes = Sizes { gamma: 3, nodes: 2, orders: 1500, blocks: 1900 };
-    history(recorder, &mut generator, &sizes, &random_seed(&mut Xorshift::new(3)), 300);
+    long_history(recorder, &mut generator, 16, 16, 2000, 420);
+    long_history(recorder, &mut generator, 3, 2, 700, 900);
     while !recorder.done() {
         for (gamma, nodes) in pairs() {
             let orders = generator.pick(&[1, 3, 7, 20, 64, 65, 150, 400]);
@@ -254,6 +252,21 @@ fn wrong_sizes() -> Vec<Sizes> {
     wrong
 }
 
+/// A history with many orders.
+fn long_history(
+    recorder: &mut Recorder,
+    generator: &mut Xorshift,
+    gamma: u32,
+    nodes: u32,
+    orders: u32,
+    blocks: u32,
+) {
+    let sizes = Sizes { gamma, nodes, orders, blocks };
+    let made = Made { sizes, seed: random_seed(generator) };
+    let keys = pool(generator, orders);
+    history(recorder, generator, &made, keys, 300);
+}
+
 /// A history with some M, from the least to more than is ever needed.
 fn small_history(
     recorder: &mut Recorder,
@@ -262,23 +275,38 @@ fn small_history(
     nodes: u32,
     orders: u32,
 ) {
-    let least = Sizes { gamma, nodes, orders, blocks: 65_535 }.beta();
-    let blocks = match generator.below(6) {
-        0 => least,
-        1 => least + 1 + orders / nodes,
-        2 => least + orders / 2,
-        3 => least + 2 * orders / gamma + orders / nodes,
-        4 => least + 2 * orders,
-        _ => (least * (orders + 1)).min(1000),
-    };
-    let sizes = Sizes { gamma, nodes, orders, blocks };
+    let keys = pool(generator, orders);
     let seed = match generator.below(8) {
         0 => zero_seed(),
         1 => constant_seed(gamma, 1),
         2 => identity_seed(),
         _ => some_seed(generator),
     };
-    history(recorder, generator, &sizes, &seed, 60 + orders as usize);
+    let unbounded = Sizes { gamma, nodes, orders, blocks: 65_535 };
+    let least = unbounded.beta();
+    let exact = chunks_of_first(&Made { sizes: unbounded, seed }, &keys);
+    let blocks = match generator.below(8) {
+        0 => least,
+        1 => least + 1 + orders / nodes,
+        2 => least + 2 * orders / gamma + orders / nodes,
+        3 => least + 2 * orders,
+        4 => (least * (orders + 1)).min(1000),
+        _ => exact,
+    };
+    let sizes = Sizes { blocks, ..unbounded };
+    history(recorder, generator, &Made { sizes, seed }, keys, 60 + orders as usize);
+}
+
+/// How many chunks the first N different keys make: with so many blocks they
+/// fill the table exactly.
+fn chunks_of_first(made: &Made, keys: &[u32]) -> u32 {
+    let mut orders = Orders::new();
+    for &key in keys {
+        if orders.len() < made.sizes.orders as usize {
+            orders.insert(key, Quantities { total: 1, displayed: 0 });
+        }
+    }
+    chunks(made, &lists(made, &orders)).len() as u32
 }
 
 /// Makes a table, fills it, and takes random steps on it; damages it, empties it
@@ -286,15 +314,15 @@ fn small_history(
 fn history(
     recorder: &mut Recorder,
     generator: &mut Xorshift,
-    sizes: &Sizes,
-    seed: &Seed,
+    made: &Made,
+    mut keys: Vec<u32>,
     steps: usize,
 ) {
+    let sizes = &made.sizes;
     let length = sizes.length();
     recorder.room(length + generator.below(3) as usize, generator.next() as u8);
     recorder.check(length);
-    recorder.make(sizes, &seed.bytes(), length);
-    let mut keys = pool(generator, sizes.orders);
+    recorder.make(sizes, &made.seed.bytes(), length);
     fill(recorder, generator, length, &keys);
     for step in 0..steps {
         if recorder.done() {
@@ -438,8 +466,8 @@ fn damage(recorder: &mut Recorder, generator: &mut Xorshift, sizes: &Sizes, keys
     let length = sizes.length();
     let before = recorder.store.clone();
     let (place, width) = match generator.below(4) {
-        0 => damaged_byte(recorder, generator, generator_place(length)),
-        1 => damaged_byte(recorder, generator, |generator| generator.below(HEADER as u32) as usize),
+        0 => damaged_byte(recorder, generator, length),
+        1 => damaged_byte(recorder, generator, HEADER),
         2 => damaged_node(recorder, generator, sizes),
         _ => moved_block(recorder, generator, sizes),
     };
@@ -454,20 +482,15 @@ fn damage(recorder: &mut Recorder, generator: &mut Xorshift, sizes: &Sizes, keys
     recorder.check(length);
 }
 
-/// Any place in the table.
-fn generator_place(length: usize) -> impl Fn(&mut Xorshift) -> usize {
-    move |generator| generator.below(length as u32) as usize
-}
-
-/// One byte changed.
+/// One of the first `bound` bytes changed. Gives the place and width to restore,
+/// as the next two do.
 fn damaged_byte(
     recorder: &mut Recorder,
     generator: &mut Xorshift,
-    place: impl Fn(&mut Xorshift) -> usize,
+    bound: usize,
 ) -> (usize, usize) {
-    let place = place(generator);
-    let byte = generator.pick(&[1, 2, 3, 0x80, 0xff]);
-    recorder.xor(place, byte);
+    let place = generator.below(bound as u32) as usize;
+    recorder.xor(place, generator.pick(&[1, 2, 3, 0x80, 0xff]));
     (place, 1)
 }
 

@@ -7,14 +7,14 @@ use Prim.Native.Nat.{ℕ, zero, suc, _≤_, _<_}
 use native.Mathlib.Nat.{add-zero}
 use native.Mathlib.Omega.{arith}
 use lib.ListN.{length, replicate}
-use Rattle.placement.specs.Blocks.{Block, empty, holds, around, stored, Stands, placed}
+use Rattle.placement.specs.Blocks.{Among, Block, empty, holds, around, stored, Stands, placed}
 use Rattle.placement.specs.declared.Sizes.{Sizes}
 use Rattle.placement.specs.declared.Order.{Order}
 use Rattle.placement.specs.Chunks.{Chunk, home, label-before}
 use Rattle.placement.specs.Maps.{Map, at, chunk, is-label, with-chunk, without-label, Keeps, map-of}
 use Rattle.placement.proofs.Laws.Blocks.{stored-long}
 use Rattle.placement.proofs.Laws.Store.{Alike, change-keeps}
-use Rattle.placement.proofs.Laws.Placed.{Among, Rising, how-many-empty, store-count, placement, nothing}
+use Rattle.placement.proofs.Laws.Placed.{Rising, how-many-empty, store-count, placement, nothing}
 use Rattle.placement.proofs.Laws.Insertion.{insert-from, inserted}
 use Rattle.placement.proofs.Laws.Removal.{removed-at, removed}
 use Rattle.placement.proofs.Laws.Search.{Found, at-place, absent, search-from, Answer, search-right}

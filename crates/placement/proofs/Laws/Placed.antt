@@ -7,7 +7,7 @@ use Prim.Native.Nat.{ℕ, zero, suc, _+_, _%_, _≤_, _<_}
 use native.Mathlib.Nat.{add-zero, mod-lt}
 use native.Mathlib.Omega.{arith}
 use lib.ListN.{length, getD, set, replicate, length-replicate, getD-replicate}
-use Rattle.placement.specs.Blocks.{Block, empty, holds, around, stored, holds-smaller, Stands, Rule-3, is-free, place-from, placed, how-many}
+use Rattle.placement.specs.Blocks.{Among, Block, empty, holds, around, stored, holds-smaller, Stands, Rule-3, is-free, place-from, placed, how-many}
 use Rattle.placement.proofs.Laws.Round.{steps-to}
 use Rattle.placement.proofs.Laws.Blocks.{stored-long}
 use Rattle.placement.proofs.Laws.Unique.{one-arrangement}
@@ -16,11 +16,6 @@ use Rattle.placement.proofs.Laws.Store.{after-store, before-store, stor
 abbrev pub weigh : {A : Type 0} → Block A → ℕ
 weigh empty = 0
 weigh (holds c) = 1
-
--- c is one of cs
-abbrev pub Among : {A : Type 0} → A → List A → Type 0
-Among x [] = ⊥
-Among x (c ∷ cs) = (x ≡ c) ⊎ Among x cs
 
 -- labels rise
 abbrev pub Rising : {A : Type 0} → (A → A → Bool) → List A → Type 0

@@ -16,12 +16,14 @@ and-parts false q h = absurd (false≢true h)
 pub record Limits (s : Sizes) : Type 0 where
   pub gamma-least : 2 ≤ s .gamma
   pub gamma-most : s .gamma ≤ 64
+  pub nodes-some : 0 < s .nodes
   pub nodes-least : 2 ≤ s .nodes
   pub nodes-most : s .nodes ≤ 32
   pub orders-least : 1 ≤ s .orders
   pub orders-most : s .orders ≤ 65535
   pub blocks-least : beta s ≤ s .blocks
   pub blocks-most : s .blocks ≤ 65535
+  pub sizes : sizes-good s ≡ true
   pub seeds : seed-good (s .seed) ≡ true
   pub ten : length (s .seed) ≡ 10
 
@@ -40,12 +42,14 @@ limits s h =
     record {
       gamma-least = leb-true 2 (s .gamma) (q .0);
       gamma-most = leb-true (s .gamma) 64 (q .1);
+      nodes-some = omega (arith, leb-true 2 (s .nodes) (d .0));
       nodes-least = leb-true 2 (s .nodes) (d .0);
       nodes-most = leb-true (s .nodes) 32 (d .1);
       orders-least = leb-true 1 (s .orders) (f .0);
       orders-most = leb-true (s .orders) 65535 (f .1);
       blocks-least = leb-true (beta s) (s .blocks) (g .0);
       blocks-most = leb-true (s .blocks) 65535 (g .1);
+      sizes = a .0;
       seeds = k .0;
       ten = eqb-true (length (s .seed)) 10 (k .1);
     }

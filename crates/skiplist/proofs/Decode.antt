@@ -1,0 +1,68 @@
+-- Blocks that bytes can hold are read back from their bytes.
+use mathlib.Core.Path.{_≡_, refl, sym, ap, _∙_}
+use mathlib.Core.List.{List, [], _∷_, _++_, map, append-assoc}
+use Prim.Native.Nat.{ℕ, suc, _+_, _*_, _-_}
+use native.Mathlib.Omega.{arith}
+use borrow.Author.Tests.{ne-eqb}
+use lib.ListN.{length, drop, replicate, length-map}
+use lib.Seq.{drop-at}
+use Rattle.placement.specs.Numbers.{big, field, rows, rows-in}
+use Rattle.placement.specs.Header.{block-long}
+use Rattle.placement.specs.Blocks.{Block, holds}
+use Rattle.placement.specs.Chunks.{Chunk, node-bytes, nodes-bytes, block-bytes, all-bytes}
+use Rattle.placement.specs.Decode.{node-in, nodes-from, chunk-of, block-of, cut, blocks-in}
+use Rattle.placement.specs.Maps.{Fine, Fines, Holdable}
+use Rattle.placement.specs.declared.Sizes.{Sizes}
+use Rattle.placement.specs.declared.Order.{Order}
+use Rattle.placement.specs.declared.Label.{Label}
+use Rattle.placement.proofs.Laws.Numbers.{field-big}
+use Rattle.placement.proofs.Laws.Cells.{join, head-label, cut-join}
+use Rattle.placement.proofs.Laws.Bridge.{label-of, Good, free, held, All-good, good-none, good-more, head-of, all-join, even-all}
+
+node-back : (o : Order) (r : List ℕ) → Fine o → node-in (node-bytes o ++ r) ≡ o
+unfolding node-in node-bytes field big
+node-back o r f =
+    let k = field-big 4 (o .key) [] (f .key) in
+    let t = field-big 4 (o .total) [] (f .total) in
+    let d = field-big 4 (o .displayed) [] (f .displayed) in
+    λ i. record { key = k i; total = t i; displayed = d i }
+
+node-past : (o : Order) (r : List ℕ) → drop 12 (node-bytes o ++ r) ≡ r
+unfolding node-bytes big
+node-past o r = refl
+
+nodes-back : (ns : List Order) (r : List ℕ) → Fines ns → nodes-from (length ns) (nodes-bytes ns ++ r) ≡ ns
+unfolding rows rows-in
+nodes-back [] r f = refl
+nodes-back (n ∷ ns) r f =
+    let x = nodes-bytes ns ++ r in
+    rw (append-assoc (node-bytes n) (nodes-bytes ns) r, node-back n x (f .0), node-past n x, nodes-back ns r (f .1))
+
+nodes-past : (s : Sizes) (c : Chunk) → nodes-from (length (c .nodes)) (drop 8 (block-bytes s (holds c))) ≡ nodes-from (length (c .nodes)) (nodes-bytes (c .nodes) ++ replicate (12 * (s .nodes - length (c .nodes))) 0)
+unfolding block-bytes big
+nodes-past s c = refl
+
+chunk-back : (s : Sizes) (c : Chunk) → Holdable s c → chunk-of (block-bytes s (holds c)) ≡ c
+unfolding chunk-of block-bytes head-label label-of
+chunk-back s c k =
+    let e = head-of s (held k) in
+    let n = nodes-past s c ∙ nodes-back (c .nodes) (replicate (12 * (s .nodes - length (c .nodes))) 0) (k .fine) in
+    λ i. record { level = c .level; first = ap (λ (w : Label). w .first) e i; number = ap (λ (w : Label). w .number) e i; nodes = n i }
+
+block-back : (s : Sizes) {b : Block Chunk} → Good s b → block-of (block-bytes s b) ≡ b
+unfolding block-of block-bytes block-long
+block-back s free =
+    let e : 8 + 12 * s .nodes ≡ suc (7 + 12 * s .nodes) = omega arith in
+    rw e
+block-back s (held {c = c} k) = rw (ne-eqb (c .level) 0 (omega (arith, k .level))) (ap holds (chunk-back s c k))
+
+map-back : (s : Sizes) {bl : List (Block Chunk)} → All-good s bl → map block-of (map (block-bytes s) bl) ≡ bl
+map-back s good-none = refl
+map-back s (good-more g r) = rw (block-back s g, map-back s r)
+
+pub blocks-back : (s : Sizes) (hd : List ℕ) (bl : List (Block Chunk)) → length hd ≡ 53 → length bl ≡ s .blocks → All-good s bl → blocks-in s (hd ++ all-bytes s bl) ≡ bl
+unfolding blocks-in
+blocks-back s hd bl h l g =
+    ap (λ (x : List ℕ). map block-of (cut (block-long s) (s .blocks) x)) (drop-at hd (all-bytes s bl) 53 h ∙ all-join s bl)
+    ∙ ap (λ (n : ℕ). map block-of (cut (block-long s) n (join (map (block-bytes s) bl)))) (sym (length-map bl (block-bytes s) ∙ l))
+    ∙ ap (map block-of) (cut-join (block-long s) (even-all s g)) ∙ map-back s g

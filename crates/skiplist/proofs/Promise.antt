@@ -1,0 +1,60 @@
+-- All that is promised, proved.
+use Rattle.skiplist.specs.Questions.{First-no-means}
+use Rattle.skiplist.specs.Rules.{Image-exactly, Paper-partitions, Paper-top, Beta-is, Level-is, Hash-is, Lists-are, Chunks-are}
+use Rattle.skiplist.specs.Promise.{Reads-back, Labels-rise, Rule-three, One-arrangement, Lists-image, Equal-exactly, Checks-exactly}
+use Rattle.skiplist.specs.Examples.{One-to-nine}
+use Rattle.skiplist.proofs.Questions.{first-no-means}
+use Rattle.skiplist.proofs.Examples.{one-to-nine-hold}
+use Rattle.skiplist.proofs.Levels.{beta-is, level-is, hash-is}
+use Rattle.skiplist.proofs.Lists.{lists-are}
+use Rattle.skiplist.proofs.Paper.{paper-partitions, paper-top}
+use Rattle.skiplist.proofs.Pieces.{chunks-are}
+use Rattle.skiplist.proofs.Rise.{labels-do-rise}
+use Rattle.skiplist.proofs.Readback.{reads-back, lists-image-holds, equal-exactly-holds, checks-exactly-holds}
+use Rattle.skiplist.proofs.Arranged.{rule-three, one-arrangement}
+use Rattle.skiplist.proofs.Rules.{image-exactly}
+
+pub record Proved : Type 0 where
+  -- DEMAND 1's first clause
+  pub first-no : First-no-means
+  -- DEMAND 2: images
+  pub reads : Reads-back
+  pub rise : Labels-rise
+  pub rule-3 : Rule-three
+  pub one-table : One-arrangement
+  pub rules : Image-exactly
+  -- the rules of levels, lists and partitions
+  pub hash : Hash-is
+  pub beta : Beta-is
+  pub level : Level-is
+  pub lists : Lists-are
+  pub partitions : Paper-partitions
+  pub top : Paper-top
+  pub pieces : Chunks-are
+  -- DEMAND 3 over the definitions alone
+  pub book : Lists-image
+  pub equal : Equal-exactly
+  pub checks : Checks-exactly
+  -- P1 to P9
+  pub examples : One-to-nine
+
+pub proved : Proved
+proved = record {
+  first-no = first-no-means;
+  reads = reads-back;
+  rise = labels-do-rise;
+  rule-3 = rule-three;
+  one-table = one-arrangement;
+  rules = image-exactly;
+  hash = hash-is;
+  beta = beta-is;
+  level = level-is;
+  lists = lists-are;
+  partitions = paper-partitions;
+  top = paper-top;
+  pieces = chunks-are;
+  book = lists-image-holds;
+  equal = equal-exactly-holds;
+  checks = checks-exactly-holds;
+  examples = one-to-nine-hold;
+}

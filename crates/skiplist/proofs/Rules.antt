@@ -1,0 +1,142 @@
+-- Question 4 is document 01's definition of an image, by its rules.
+use mathlib.Core.Path.{_≡_, refl, sym, ap, _∙_, subst}
+use mathlib.Core.Bool.{true, true≢false}
+use mathlib.Core.List.{List, [], _∷_, _++_}
+use mathlib.Core.Logic.{_⊎_, inl, inr}
+use Prim.Native.Nat.{ℕ, zero, suc, _+_, _%_, _≤_, _<_}
+use native.Mathlib.Nat.{mod-lt, mod-eq-of-lt}
+use native.Mathlib.Omega.{arith}
+use lib.ListN.{length, getD, replicate}
+use Rattle.placement.specs.Sizes.{made}
+use Rattle.placement.specs.Header.{header, sizes-in}
+use Rattle.placement.specs.Blocks.{Among, Block, empty, holds, around, stored, holds-smaller, Stands, Rule-3, how-many}
+use Rattle.placement.specs.Chunks.{Chunk, label-before, home, all-bytes}
+use Rattle.placement.specs.declared.Sizes.{Sizes}
+use Rattle.placement.specs.declared.Order.{Order}
+use Rattle.placement.proofs.Laws.Round.{Which, less, same, more, which, steps-apart}
+use Rattle.placement.proofs.Laws.Blocks.{around-inside, stored-long, Far, far}
+use Rattle.placement.proofs.Laws.Store.{before-store}
+use Rattle.placement.proofs.Laws.Placed.{Rising, store-count, nothing, one-placement}
+use Rattle.placement.proofs.Laws.Labels.{labels-chain, labels-strict, home-inside}
+use Rattle.placement.proofs.Laws.Maps.{one-place}
+use Rattle.placement.proofs.Laws.Sizes.{some-blocks}
+use Rattle.skiplist.specs.Lists.{chunks, blocks}
+use Rattle.skiplist.specs.Image.{image, orders-in, orders-good, fits, is-image}
+use Rattle.skiplist.specs.Rules.{Rules, Image-exactly}
+use Rattle.skiplist.specs.Promise.{Reads-back}
+use Rattle.skiplist.proofs.Kept.{fits-parts, fits-make}
+use Rattle.skiplist.proofs.Rising.{chunks-rising}
+use Rattle.skiplist.proofs.Third.{image-parts}
+use Rattle.skiplist.proofs.Readback.{reads-back}
+use Rattle.skiplist.proofs.Arranged.{blocks-placing}
+
+most : (bs : List (Block Chunk)) → how-many bs ≤ length bs
+unfolding how-many
+most [] = omega arith
+most (empty ∷ bs) = omega (arith, most bs)
+most (holds c ∷ bs) = omega (arith, most bs)
+
+inside : (bs : List (Block Chunk)) (j : ℕ) (c : Chunk) → getD bs j empty ≡ holds c → j < length bs
+inside [] j c e = absurd (true≢false cc)
+inside (b ∷ bs) zero c e = omega arith
+inside (b ∷ bs) (suc j) c e = omega (arith, inside bs j c e)
+
+-- chunks by rising labels that all stand are no more than the full blocks
+fewer : (m : ℕ) → zero < m → (cs : List Chunk) (bs : List (Block Chunk)) → length bs ≡ m → Rising label-before cs → ((c : Chunk) → Among c cs → Stands m bs c) → length cs ≤ how-many bs
+fewer m some [] bs p u all = omega arith
+fewer m some (c ∷ cs) bs p u all =
+    let t = all c (inl refl) in
+    omega (
+      arith,
+      fewer m some cs (stored m bs (t .at) empty) (stored-long m bs (t .at) empty p) (u .1) (λ d a. other d a (before-store m bs (t .at) p some empty d (all d (inr a)))),
+      store-count m bs (t .at) (holds c) empty p some (t .is),
+    )
+  where
+    other : (d : Chunk) → Among d cs → (around m bs (all c (inl refl) .at) ≡ holds d) ⊎ Stands m (stored m bs (all c (inl refl) .at) empty) d → Stands m (stored m bs (all c (inl refl) .at) empty) d
+    other d a (inl e) = absurd (true≢false (cc (u .0 d a, labels-strict c, all c (inl refl) .is)))
+    other d a (inr w) = w
+
+-- WHAT THE RULES GIVE
+module _ (s : Sizes) (os : List Order) (x : List ℕ) (w : Rules s os x) where
+  some : zero < s .blocks
+  some = some-blocks s (w .allowed)
+
+  stands : (c : Chunk) → Among c (chunks s os) → Stands (s .blocks) (w .table) c
+  stands c a = let t = w .there c a in record { at = t .0; is = around-inside (s .blocks) (w .table) (t .0) (omega (arith, t .1, w .number)) ∙ t .2 }
+
+  ruled : Rule-3 (home s) label-before (s .blocks) (w .table)
+  unfolding around
+  ruled c k h e l g = w .smaller ((home s c + k) % s .blocks) c e l (λ u le q. omega (arith, steps-apart (s .blocks) (home s c) u k (omega arith) h q))
+
+  room : length (chunks s os) ≤ s .blocks
+  room = omega (arith, fewer (s .blocks) some (chunks s os) (w .table) (w .number) (chunks-rising s os (w .good)) stands, most (w .table), w .number)
+
+  rules-fit : fits s os ≡ true
+  rules-fit = fits-make s os (w .few) room
+
+  rules-image : x ≡ image s os
+  unfolding image blocks around
+  rules-image =
+      w .bytes ∙ ap (λ (z : List (Block Chunk)). header s (length os) ++ all-bytes s z)
+      (one-placement (home s) label-before (s .blocks) labels-strict labels-chain (home-inside s some) (chunks s os) (w .table) (chunks-rising s os (w .good)) room (w .number) ruled stands
+      (λ c t. w .only (t .at % s .blocks) c (t .is)))
+
+-- AN IMAGE obeys the rules
+module _ (s : Sizes) (os : List Order) (m : made s ≡ true) (g : orders-good 1 os ≡ true) (f : fits s os ≡ true) where
+  some-block : zero < s .blocks
+  some-block = some-blocks s m
+
+  long : length (blocks s os) ≡ s .blocks
+  long = blocks-placing s os m g f .long
+
+  ruled-blocks : Rule-3 (home s) label-before (s .blocks) (blocks s os)
+  ruled-blocks = blocks-placing s os m g f .rule-3
+
+  below : (j : ℕ) (c : Chunk) → getD (blocks s os) j empty ≡ holds c → j < s .blocks
+  below j c e = omega (arith, inside (blocks s os) j c e, long)
+
+  here : (j : ℕ) (c : Chunk) → getD (blocks s os) j empty ≡ holds c → around (s .blocks) (blocks s os) j ≡ holds c
+  here j c e = around-inside (s .blocks) (blocks s os) j (below j c e) ∙ e
+
+  placed-only : (c : Chunk) → Among c (chunks s os) ⊎ Stands (s .blocks) (replicate (s .blocks) empty) c → Among c (chunks s os)
+  placed-only c (inl a) = a
+  placed-only c (inr t) = absurd (nothing (home s) label-before (s .blocks) (home-inside s some-block) c t)
+
+  passed : (j : ℕ) (c : Chunk) → getD (blocks s os) j empty ≡ holds c → (t : ℕ) → ((u : ℕ) → u ≤ t → (home s c + u) % s .blocks ≡ j → ⊥) →
+      holds-smaller label-before c (getD (blocks s os) ((home s c + t) % s .blocks) empty) ≡ true
+  unfolding around
+  passed j c e t never = go (far (home s) (s .blocks) (home-inside s some-block) (blocks s os) c j (here j c e))
+    where
+      before : (y : Far (home s) (s .blocks) (blocks s os) c j) → Which t (y .steps) → t < y .steps
+      before y (less h) = h
+      before y (same h) = absurd (never (y .steps) (omega arith) (y .there ∙ mod-eq-of-lt (below j c e)))
+      before y (more h) = absurd (never (y .steps) (omega arith) (y .there ∙ mod-eq-of-lt (below j c e)))
+
+      go : Far (home s) (s .blocks) (blocks s os) c j → holds-smaller label-before c (getD (blocks s os) ((home s c + t) % s .blocks) empty) ≡ true
+      go y = ruled-blocks c (y .steps) (y .few) (y .is) t (before y (which t (y .steps)))
+
+  pub image-rules : Rules s os (image s os)
+  unfolding image around
+  image-rules = record {
+    allowed = m;
+    good = g;
+    few = fits-parts s os f .few;
+    table = blocks s os;
+    bytes = refl;
+    number = long;
+    there = λ c a. let t = blocks-placing s os m g f .comes c a in (t .at % s .blocks, omega (arith, mod-lt (t .at) some-block, long), t .is);
+    only = λ j c e. placed-only c (blocks-placing s os m g f .only c (record { at = j; is = here j c e }));
+    once = λ i j c e h.
+        sym (mod-eq-of-lt (below i c e)) ∙ sym (one-place s some-block (blocks s os) ruled-blocks c c i j (here i c e) (here j c h) refl refl refl) ∙ mod-eq-of-lt (below j c h);
+    smaller = passed;
+  }
+
+pub image-exactly : Image-exactly
+unfolding Image-exactly Reads-back
+image-exactly = (
+  λ x e. let w = image-parts x e in subst (Rules (sizes-in x) (orders-in x)) (w .bytes) (image-rules (sizes-in x) (orders-in x) (w .sizes-made) (w .orders-kept .good) (w .orders-kept .fit)),
+  λ s os x w.
+      let e = rules-image s os x w in
+      let q = reads-back s os (w .allowed) (w .good) (rules-fit s os x w) in
+      (ap is-image e ∙ q .0, ap sizes-in e ∙ q .2, ap orders-in e ∙ q .1, e),
+)

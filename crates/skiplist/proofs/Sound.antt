@@ -1,0 +1,126 @@
+-- Every chunk of good orders that fit is one that a block can hold, and has nodes.
+use mathlib.Core.Path.{_≡_, ap}
+use mathlib.Core.Logic.{inl, inr, _≢_}
+use mathlib.Core.Bool.{Bool, true, false, _&&_, cond}
+use mathlib.Core.List.{List, [], _∷_, _++_, map}
+use Prim.Native.Nat.{ℕ, suc, _*_, _≤_, _<_}
+use native.Mathlib.Nat.{le-mul-of-pos-right}
+use native.Mathlib.Omega.{arith}
+use borrow.Author.Tests.{ltb-true, leb-true}
+use lib.Dec.{leb, eqb}
+use lib.ListN.{length, take, drop, length-append, length-drop, length-take, length-map, take-append-drop}
+use Rattle.placement.specs.Sizes.{prime, made}
+use Rattle.placement.specs.Hash.{level}
+use Rattle.placement.specs.Chunks.{Chunk}
+use Rattle.placement.specs.Maps.{map-of, Fine, Fines, Holdable, Sound}
+use Rattle.placement.specs.declared.Sizes.{Sizes}
+use Rattle.placement.specs.declared.Order.{Order}
+use Rattle.placement.proofs.Laws.Keeps.{map-only}
+use Rattle.skiplist.specs.Lists.{front, at-least, list-at, partitions, first-key, masked, chunks}
+use Rattle.skiplist.specs.Image.{quantities-good, orders-good, fits}
+use Rattle.skiplist.specs.Rules.{Piece, Chunks-are}
+use Rattle.skiplist.proofs.Parts.{and-left, and-right, Good, good-parts}
+use Rattle.skiplist.proofs.Walk.{flat}
+use Rattle.skiplist.proofs.Nodes.{nodes-list}
+use Rattle.skiplist.proofs.Kept.{fits-parts}
+use Rattle.skiplist.proofs.Pieces.{chunks-are}
+use Rattle.placement.specs.Blocks.{Among}
+use Rattle.placement.proofs.Laws.Sizes.{limits}
+
+-- ---- nodes of numbers of four bytes
+
+good-fines : (a : ℕ) (os : List Order) → orders-good a os ≡ true → Fines os
+unfolding quantities-good
+good-fines a [] e = tt
+good-fines a (o ∷ os) e = (one, good-fines (suc (o .key)) os (w .others))
+  where
+    w : Good a o os
+    w = good-parts a o os e
+
+    most : o .total ≤ 4294967295
+    most = leb-true (o .total) 4294967295 (and-right (leb 1 (o .total)) (leb (o .total) 4294967295) (and-left (leb 1 (o .total) && leb (o .total) 4294967295) (leb (o .displayed) (o .total)) (w .quantity)))
+
+    part : o .displayed ≤ o .total
+    part = leb-true (o .displayed) (o .total) (and-right (leb 1 (o .total) && leb (o .total) 4294967295) (leb (o .displayed) (o .total)) (w .quantity))
+
+    one : Fine o
+    one = record { key = omega (arith, ltb-true (o .key) prime (w .key)); total = omega (arith, most); displayed = omega (arith, part, most) }
+
+-- the elements of a level are of the orders
+record Some (os xs : List Order) : Type 0 where
+  pub few : length xs ≤ length os
+  pub fine : Fines os → Fines xs
+
+least-some : (s : Sizes) (k : ℕ) (os : List Order) → Some os (at-least s k os)
+unfolding at-least
+least-some s k [] = record { few = omega arith; fine = λ f. f }
+least-some s k (o ∷ os) = go (leb k (level s (o .key))) (least-some s k os)
+  where
+    go : (t : Bool) → Some os (at-least s k os) → Some (o ∷ os) (cond t (o ∷ at-least s k os) (at-least s k os))
+    go true w = record { few = omega (arith, w .few); fine = λ f. (f .0, w .fine (f .1)) }
+    go false w = record { few = omega (arith, w .few); fine = λ f. w .fine (f .1) }
+
+list-some : (s : Sizes) (k : ℕ) (os : List Order) → Some (front ∷ os) (list-at s k os)
+unfolding list-at
+list-some s k os = let w = least-some s k os in record { few = omega (arith, w .few); fine = λ f. (f .0, w .fine (f .1)) }
+
+fines-parts : (xs zs : List Order) → Fines (xs ++ zs) → Fines xs × Fines zs
+fines-parts [] zs f = (tt, f)
+fines-parts (x ∷ xs) zs f = let w = fines-parts xs zs (f .1) in ((f .0, w .0), w .1)
+
+part-some : (p : List Order) (ps : List (List Order)) → Among p ps → Some (flat ps) p
+unfolding flat
+part-some p [] h = absurd h
+part-some p (q ∷ ps) (inl e) = rw e (record { few = simp length-append (omega arith); fine = λ f. fines-parts q (flat ps) f .0 })
+part-some p (q ∷ ps) (inr h) = let w = part-some p ps h in record { few = simp length-append (omega (arith, w .few)); fine = λ f. w .fine (fines-parts q (flat ps) f .1) }
+
+fines-piece : (n k : ℕ) (xs : List Order) → Fines xs → Fines (take n (drop k xs))
+fines-piece n k xs f =
+    let w = fines-parts (take k xs) (drop k xs) (rw (take-append-drop k xs) f) .1 in
+    fines-parts (take n (drop k xs)) (drop n (drop k xs)) (rw (take-append-drop n (drop k xs)) w) .0
+
+fines-masked : (l : ℕ) (xs : List Order) → Fines xs → Fines (map (masked l) xs)
+unfolding masked
+fines-masked l [] f = tt
+fines-masked l (x ∷ xs) f = (go (eqb l 1), fines-masked l xs (f .1))
+  where
+    go : (t : Bool) → Fine (record { key = x .key; total = cond t (x .total) 0; displayed = cond t (x .displayed) 0 })
+    go true = f .0
+    go false = record { key = f .0 .key; total = omega arith; displayed = omega arith }
+
+first-fine : (p : List Order) → Fines p → first-key p < 4294967296
+unfolding first-key
+first-fine [] f = omega arith
+first-fine (o ∷ p) f = f .0 .key
+
+-- ---- pieces
+
+piece-full : (s : Sizes) (os : List Order) (c : Chunk) → 0 < s .nodes → Piece s os c → 0 < length (c .nodes)
+piece-full s os c b w = rw (w .nodes-are) (simp (length-map, length-take, length-drop) (omega (arith, w .inside)))
+
+piece-holdable : (s : Sizes) (os : List Order) (c : Chunk) → made s ≡ true → orders-good 1 os ≡ true → fits s os ≡ true → Piece s os c → Holdable s c
+unfolding front
+piece-holdable s os c m g f w =
+    let x = part-some (w .part) (partitions s (c .level) (list-at s (c .level) os)) (w .of-level) in
+    let e = nodes-list (c .level) s os in
+    let y = list-some s (c .level) os in
+    let d = limits s m in
+    let fine : Fines (w .part) = x .fine (rw e (y .fine (record { key = omega arith; total = omega arith; displayed = omega arith }, good-fines 1 os g))) in
+    let few : length (w .part) ≤ suc (length os) = omega (arith, x .few, ap length e, y .few) in
+    record {
+      level = w .low;
+      first = rw (w .first-is) (first-fine (w .part) fine);
+      number = omega (arith, le-mul-of-pos-right (c .number) (d .nodes-some), w .inside, fits-parts s os f .few, d .orders-most);
+      fine = rw (w .nodes-are) (fines-masked (c .level) (take (s .nodes) (drop (c .number * s .nodes) (w .part))) (fines-piece (s .nodes) (c .number * s .nodes) (w .part) fine));
+      nodes = rw (w .nodes-are) (simp (length-map, length-take) (omega arith));
+    }
+
+-- THE CHUNKS of good orders that fit
+pub chunks-full : (s : Sizes) (os : List Order) → made s ≡ true → (c : Chunk) → Among c (chunks s os) → c .nodes ≢ []
+unfolding Chunks-are
+chunks-full s os m c a e = omega (arith, piece-full s os c (limits s m .nodes-some) (chunks-are s os c m .0 a), ap length e)
+
+pub chunks-sound : (s : Sizes) (os : List Order) → made s ≡ true → orders-good 1 os ≡ true → fits s os ≡ true → Sound s (map-of (chunks s os))
+unfolding Chunks-are
+chunks-sound s os m g f l h i w =
+    map-only (Holdable s) (chunks s os) (λ c a. piece-holdable s os c m g f (chunks-are s os c m .0 a)) l h i w

@@ -1,0 +1,51 @@
+-- The check as it is computed: rule 1, one pass over the blocks, and the walk. Assumes nothing: these are definitions.
+use mathlib.Core.Bool.{Bool, true, false, _&&_, cond}
+use mathlib.Core.List.{List}
+use Prim.Native.Nat.{ℕ, zero, suc, _+_, _*_, _-_}
+use lib.Dec.{eqb}
+use lib.ListN.{getD}
+use Rattle.placement.specs.Sizes.{beta}
+use Rattle.placement.specs.Header.{block-long, sizes-in, held-in, rule-1}
+use Rattle.placement.specs.declared.Sizes.{Sizes}
+use Rattle.table.specs.declared.Seen.{Seen}
+use Rattle.table.specs.declared.Tally.{Tally}
+use Rattle.table.specs.Walk.{opens-of}
+
+-- THE PASS over the blocks: unused bytes are zero
+unfoldable pub zeros-from : List ℕ → (left at : ℕ) → Bool
+zeros-from bs zero a = true
+zeros-from bs (suc k) a = eqb (getD bs a 0) 0 && zeros-from bs k (suc a)
+
+-- where the unused bytes of a block start: at once in an empty one
+unfoldable pub used-of : (level n : ℕ) → ℕ
+used-of l n = cond (eqb l 0) 0 (8 + 12 * n)
+
+-- one more block that is not empty
+unfoldable pub more-of : (full level : ℕ) → ℕ
+more-of m l = cond (eqb l 0) m (m + 1)
+
+unfoldable pub unused : (w : ℕ) → List ℕ → (i : ℕ) → ℕ
+unused w bs i = used-of (getD bs (53 + i * w) 0) (getD bs (53 + i * w + 1) 0)
+
+unfoldable pub block-clean : (w : ℕ) → List ℕ → (i : ℕ) → Bool
+block-clean w bs i = zeros-from bs (w - unused w bs i) (53 + i * w + unused w bs i)
+
+unfoldable pub sweep-from : (w : ℕ) → List ℕ → (left i full : ℕ) → Tally
+sweep-from w bs zero i m = record { clean = true; full = m }
+sweep-from w bs (suc k) i m =
+    cond (block-clean w bs i) (sweep-from w bs k (suc i) (more-of m (getD bs (53 + i * w) 0))) (record { clean = false; full = m })
+
+unfoldable pub swept : Sizes → List ℕ → Tally
+swept s bs = sweep-from (block-long s) bs (s .blocks) 0 0
+
+-- THE WALK from (β, front): n orders and the front are to come, and so many chunks
+unfoldable pub walked : Sizes → List ℕ → (held chunks : ℕ) → Seen
+walked s bs n m = opens-of s bs (beta s) 0 (record { ok = true; low = 0; orders = n + 1; chunks = m })
+
+unfoldable pub ended : Seen → Bool
+ended x = x .ok && (eqb (x .orders) 0 && eqb (x .chunks) 0)
+
+-- THE CHECK
+unfoldable pub check-passes : List ℕ → Bool
+check-passes bs =
+    rule-1 bs && (swept (sizes-in bs) bs .clean && ended (walked (sizes-in bs) bs (held-in bs) (swept (sizes-in bs) bs .full)))

@@ -1,0 +1,191 @@
+//! The two programs as they are run.
+
+use reference::calls::{self, Reply};
+use reference::image::held;
+use reference::lists::{chunks, lists};
+use reference::program::program;
+use reference::samples::fnv_1a;
+use std::collections::BTreeMap;
+use std::io::Write;
+use std::process::{Command, Stdio};
+
+/// What the text program writes to standard output.
+fn console(input: &[u8]) -> Vec<u8> {
+    let mut child = Command::new(env!("CARGO_BIN_EXE_console"))
+        .stdin(Stdio::piped())
+        .stdout(Stdio::piped())
+        .spawn()
+        .expect("the program starts");
+    let mut to = child.stdin.take().unwrap();
+    let input = input.to_vec();
+    let writer = std::thread::spawn(move || to.write_all(&input));
+    let output = child.wait_with_output().unwrap();
+    writer.join().unwrap().unwrap();
+    assert!(output.status.success());
+    output.stdout
+}
+
+#[test]
+fn the_console_is_the_program() {
+    let run = b"make 2 2 2 4 0 1 0 0 0 0 1 0 0 0\nput 6 50 50\nput 3 100 20\nput 4 10 0\nblocks";
+    let expected = "0\n0\n0\n7\n0\n0 1 0 0 2 0 3\n1 2 0 0 2 0 6\n2 1 0 6 1 6\n3 3 0 0 1 0\n";
+    assert_eq!(String::from_utf8(console(run)).unwrap(), expected);
+    assert_eq!(console(b""), b"");
+    assert_eq!(console(b"\xff\0\n\nblocks\n"), b"?\n?\n4\n");
+}
+
+/// Many lines, more than any buffer between holds.
+#[test]
+fn the_console_on_many_lines() {
+    let mut input = b"make 3 4 50 60 5 4 3 2 1 1 2 3 4 5\n".to_vec();
+    for i in 0..20_000u32 {
+        let key = i.wrapping_mul(2_654_435_761) % 97 + 1;
+        let line = match i % 7 {
+            0..=2 => format!("put {key} {} {}\n", i + 1, i / 2),
+            3 => format!("cancel {key}\n"),
+            4 => format!("show {key}\n"),
+            5 => format!("span {key} {}\n", key + 10),
+            _ => format!("seek {key} 100 {}\n", i / 3),
+        };
+        input.extend(line.bytes());
+    }
+    let output = console(&input);
+    assert!(output.len() > 65_536);
+    assert_eq!(output, program(&input));
+}
+
+// ---- vectors ---------------------------------------------------------------
+
+fn vectors(lines: usize) -> String {
+    let output = Command::new(env!("CARGO_BIN_EXE_vectors")).arg(lines.to_string()).output();
+    let output = output.expect("the program starts");
+    assert!(output.status.success());
+    String::from_utf8(output.stdout).unwrap()
+}
+
+#[test]
+fn vectors_are_the_same_every_time() {
+    let long = vectors(1200);
+    assert_eq!(long.lines().count(), 1200);
+    assert_eq!(long, vectors(1200));
+    assert!(long.starts_with(&vectors(300)));
+}
+
+/// Reads the lines as their format says, with nothing else to go by.
+#[derive(Default)]
+struct Reader {
+    store: Vec<u8>,
+    /// How often each word and each number came.
+    words: BTreeMap<String, u32>,
+    numbers: BTreeMap<u32, u32>,
+    full: u32,
+    odd_seeds: u32,
+}
+
+fn number(field: &str) -> u32 {
+    field.parse().unwrap()
+}
+
+fn place(field: &str) -> usize {
+    field.parse().unwrap()
+}
+
+fn unhex(field: &str) -> Vec<u8> {
+    if field == "-" {
+        return vec![];
+    }
+    assert_eq!(field.len() % 2, 0);
+    let pair = |i| u8::from_str_radix(&field[i..i + 2], 16).unwrap();
+    (0..field.len()).step_by(2).map(pair).collect()
+}
+
+impl Reader {
+    fn line(&mut self, line: &str) {
+        let fields: Vec<&str> = line.split(' ').collect();
+        *self.words.entry(fields[0].to_string()).or_default() += 1;
+        match fields[..] {
+            ["room", size, byte] => self.store = vec![byte.parse().unwrap(); place(size)],
+            ["xor", at, byte] => self.store[place(at)] ^= byte.parse::<u8>().unwrap(),
+            ["set", at, bytes] => {
+                let bytes = unhex(bytes);
+                self.store[place(at)..][..bytes.len()].copy_from_slice(&bytes);
+            }
+            _ => self.call(line),
+        }
+    }
+
+    fn call(&mut self, line: &str) {
+        let (asked, answer) = line.split_once(" = ").expect("a call has an answer");
+        let asked: Vec<&str> = asked.split(' ').collect();
+        let (reply, output) = self.ask(&asked);
+        let Reply { number, key, total, displayed } = reply;
+        let store = fnv_1a(&self.store);
+        let mut found = format!("{number} {key} {total} {displayed} {store:016x}");
+        if asked[0] == "span" {
+            found += &format!(" {:016x}", fnv_1a(&output));
+        }
+        assert_eq!(found, answer, "{line}");
+        *self.numbers.entry(number).or_default() += 1;
+        if asked[0] == "put" && number == 0 {
+            self.full += u32::from(is_full(&self.store[..place(asked[1])]));
+        }
+    }
+
+    fn ask(&mut self, asked: &[&str]) -> (Reply, Vec<u8>) {
+        let mut output = Vec::new();
+        let store = &mut self.store;
+        let reply = match *asked {
+            ["make", gamma, nodes, orders, blocks, seed, length] => {
+                let sizes = [gamma, nodes, orders, blocks].map(number);
+                let seed = unhex(seed);
+                self.odd_seeds += u32::from(seed.len() != 40);
+                let table = &mut store[..place(length)];
+                calls::make(sizes[0], sizes[1], sizes[2], sizes[3], &seed, table)
+            }
+            ["check", length] => calls::check(&store[..place(length)]),
+            ["put", length, key, total, displayed] => {
+                let table = &mut store[..place(length)];
+                calls::put(table, number(key), number(total), number(displayed))
+            }
+            ["cancel", length, key] => calls::cancel(&mut store[..place(length)], number(key)),
+            ["lookup", length, key] => calls::lookup(&store[..place(length)], number(key)),
+            ["span", length, lo, hi, room] => {
+                output = (0..place(room)).map(|i| (i % 251) as u8).collect();
+                calls::span(&store[..place(length)], number(lo), number(hi), &mut output)
+            }
+            ["seek", length, lo, hi, r] => {
+                calls::seek(&store[..place(length)], number(lo), number(hi), number(r))
+            }
+            _ => panic!("a line of another form: {asked:?}"),
+        };
+        (reply, output)
+    }
+}
+
+/// Whether the chunks fill every block.
+fn is_full(table: &[u8]) -> bool {
+    let (made, orders) = held(table).expect("an image");
+    chunks(&made, &lists(&made, &orders)).len() == made.sizes.blocks as usize
+}
+
+#[test]
+fn vectors_can_be_read() {
+    let text = vectors(4000);
+    let mut reader = Reader::default();
+    text.lines().for_each(|line| reader.line(line));
+    let words = ["room", "xor", "set", "make", "check", "put", "cancel", "lookup", "span", "seek"];
+    for word in words {
+        let times = reader.words.get(word).copied().unwrap_or(0);
+        assert!(times >= 15, "{word}: {times}");
+    }
+    for number in 0..=12 {
+        let times = reader.numbers.get(&number).copied().unwrap_or(0);
+        assert!(times >= 7, "{number}: {times}");
+    }
+    assert!(reader.full >= 50, "{} full tables", reader.full);
+    assert!(reader.odd_seeds >= 5);
+    for key in ["0", "1", "2147483646", "2147483647", "4294967295"] {
+        let puts = text.lines().filter(|line| line.starts_with("put "));
+        assert!(puts.filter(|line| line.split(' ').nth(2) == Some(key)).count() >= 3, "{key}");
+    }
+}

@@ -1,0 +1,225 @@
+//! The seven calls: the order of their questions, what they give, what they leave.
+
+mod common;
+
+use common::{document, made_table, sizes};
+use reference::calls::{cancel, check, lookup, make, put, seek, span, Reply};
+use reference::image::is_image;
+use reference::samples::identity_seed;
+use reference::sizes::{Made, Sizes, P};
+
+/// Keys 3 and 6 held, so that N is reached and every block is used.
+fn full_table() -> Vec<u8> {
+    let mut table = made_table(&document());
+    assert_eq!(put(&mut table, 3, 100, 20), Reply::done());
+    assert_eq!(put(&mut table, 6, 50, 50), Reply::done());
+    table
+}
+
+fn damaged_table() -> Vec<u8> {
+    let mut table = full_table();
+    table[53 + 7] ^= 1;
+    table
+}
+
+/// Asks of a copy and sees that a refusal changes nothing and gives zeros.
+fn refused(table: &[u8], call: impl Fn(&mut [u8]) -> Reply) -> u32 {
+    let mut copy = table.to_vec();
+    let reply = call(&mut copy);
+    assert_ne!(reply.number, 0);
+    assert_eq!(reply, Reply { number: reply.number, key: 0, total: 0, displayed: 0 });
+    assert_eq!(copy, table);
+    reply.number
+}
+
+/// Where several questions have the answer "no", the first one's number is given.
+#[test]
+fn make_asks_in_order() {
+    let seed = identity_seed().bytes();
+    let mut large = seed.clone();
+    large[0] = 0xff;
+    let wrong_length = vec![9; 180];
+    let length = vec![9; 181];
+    for seed in [&seed[..39], &large[..], &[]] {
+        assert_eq!(refused(&wrong_length, |t| make(1, 2, 2, 4, seed, t)), 1);
+        assert_eq!(refused(&length, |t| make(2, 2, 2, 4, seed, t)), 1);
+    }
+    for (gamma, nodes, orders, blocks) in
+        [(1, 2, 2, 4), (2, 33, 2, 4), (2, 2, 0, 4), (2, 2, 2, 2), (2, 2, 2, 65_536)]
+    {
+        let call = |table: &mut [u8]| make(gamma, nodes, orders, blocks, &seed, table);
+        assert_eq!(refused(&wrong_length, call), 2);
+        assert_eq!(refused(&length, call), 2);
+    }
+    for length in [0, 1, 53, 180, 182, 213] {
+        assert_eq!(refused(&vec![9; length], |t| make(2, 2, 2, 4, &seed, t)), 3);
+    }
+    let mut table = length;
+    assert_eq!(make(2, 2, 2, 4, &seed, &mut table), Reply::done());
+    assert_eq!(table, made_table(&document()));
+}
+
+#[test]
+fn make_overwrites_a_used_table() {
+    let mut table = full_table();
+    let seed = identity_seed().bytes();
+    assert_eq!(make(2, 2, 2, 4, &seed, &mut table), Reply::done());
+    assert_eq!(table, made_table(&document()));
+    assert!(is_image(&table));
+}
+
+#[test]
+fn check_asks_only_for_an_image() {
+    assert_eq!(check(&full_table()), Reply::done());
+    assert_eq!(check(&damaged_table()), Reply::refused(4));
+    assert_eq!(check(&[]), Reply::refused(4));
+    let mut long = full_table();
+    long.push(0);
+    assert_eq!(check(&long), Reply::refused(4));
+    assert_eq!(check(&long[..180]), Reply::refused(4));
+}
+
+#[test]
+fn put_asks_in_order() {
+    let full = full_table();
+    assert_eq!(refused(&damaged_table(), |t| put(t, 0, 0, 1)), 4);
+    assert_eq!(refused(&damaged_table(), |t| put(t, 3, 1, 1)), 4);
+    for key in [0, P, u32::MAX] {
+        assert_eq!(refused(&full, |t| put(t, key, 0, 1)), 5);
+    }
+    for (total, displayed) in [(0, 0), (0, 1), (1, 2), (u32::MAX - 1, u32::MAX)] {
+        assert_eq!(refused(&full, |t| put(t, 4, total, displayed)), 6);
+        assert_eq!(refused(&full, |t| put(t, 3, total, displayed)), 6);
+    }
+    // Keys 3, 4 and 6 are more than N and make more than M chunks.
+    assert_eq!(refused(&full, |t| put(t, 4, 10, 0)), 7);
+    let mut one = made_table(&document());
+    put(&mut one, 3, 100, 20);
+    assert_eq!(refused(&one, |t| put(t, 4, 10, 0)), 8);
+}
+
+/// "A put on a held key replaces both quantities", in a table that is full.
+#[test]
+fn put_replaces() {
+    let mut table = full_table();
+    for (total, displayed) in [(1, 0), (u32::MAX, u32::MAX), (7, 7)] {
+        assert_eq!(put(&mut table, 6, total, displayed), Reply::done());
+        assert_eq!(lookup(&table, 6), Reply { number: 0, key: 6, total, displayed });
+        assert_eq!(lookup(&table, 3), Reply { number: 0, key: 3, total: 100, displayed: 20 });
+    }
+    assert_eq!(put(&mut table, 6, 50, 50), Reply::done());
+    assert_eq!(table, full_table());
+}
+
+#[test]
+fn cancel_and_lookup_ask_in_order() {
+    let full = full_table();
+    for call in [cancel, |table: &mut [u8], key| lookup(table, key)] {
+        assert_eq!(refused(&damaged_table(), |t| call(t, 0)), 4);
+        for key in [0, P, u32::MAX] {
+            assert_eq!(refused(&full, |t| call(t, key)), 5);
+        }
+        for key in [1, 2, 4, 5, 7, P - 1] {
+            assert_eq!(refused(&full, |t| call(t, key)), 9);
+        }
+    }
+    let mut table = full;
+    assert_eq!(cancel(&mut table, 6), Reply::done());
+    assert_eq!(refused(&table, |t| cancel(t, 6)), 9);
+    assert_eq!(lookup(&table, 3), Reply { number: 0, key: 3, total: 100, displayed: 20 });
+}
+
+#[test]
+fn span_asks_in_order() {
+    let full = full_table();
+    let ask = |table: &[u8], lo, hi, length| {
+        let mut output = vec![0xee; length];
+        let number = refused(table, |_| {
+            let mut output = vec![0xee; length];
+            span(table, lo, hi, &mut output)
+        });
+        span(table, lo, hi, &mut output);
+        assert_eq!(output, vec![0xee; length]);
+        number
+    };
+    assert_eq!(ask(&damaged_table(), 0, 0, 0), 4);
+    for (lo, hi) in [(0, 5), (5, 0), (P, 5), (5, P), (0, 0), (P, P), (u32::MAX, 1)] {
+        assert_eq!(ask(&full, lo, hi, 0), 5, "{lo} {hi}");
+    }
+    assert_eq!(ask(&full, 7, 2, 0), 10);
+    assert_eq!(ask(&full, 4, 3, 100), 10);
+    for length in [0, 12, 23] {
+        assert_eq!(ask(&full, 1, P - 1, length), 11);
+    }
+    assert_eq!(ask(&full, 3, 3, 11), 11);
+}
+
+#[test]
+fn span_writes_rising_orders_and_no_more() {
+    let table = full_table();
+    let mut output = [0xee; 30];
+    assert_eq!(span(&table, 3, 6, &mut output), Reply::count(2));
+    let three = [0, 0, 0, 3, 0, 0, 0, 100, 0, 0, 0, 20];
+    let six = [0, 0, 0, 6, 0, 0, 0, 50, 0, 0, 0, 50];
+    assert_eq!(output, *[&three[..], &six[..], &[0xee; 6][..]].concat());
+    for (lo, hi, count) in [(4, 5, 0), (1, 2, 0), (3, 3, 1), (4, 6, 1), (7, P - 1, 0)] {
+        let mut output = [0xee; 24];
+        assert_eq!(span(&table, lo, hi, &mut output), Reply::count(count));
+        assert_eq!(output[12 * count..], vec![0xee; 24 - 12 * count]);
+    }
+}
+
+#[test]
+fn seek_asks_in_order() {
+    let full = full_table();
+    assert_eq!(refused(&damaged_table(), |t| seek(t, 0, 0, 0)), 4);
+    for (lo, hi) in [(0, 5), (5, 0), (P, 5), (5, P), (u32::MAX, 1)] {
+        assert_eq!(refused(&full, |t| seek(t, lo, hi, u32::MAX)), 5);
+    }
+    assert_eq!(refused(&full, |t| seek(t, 7, 2, u32::MAX)), 10);
+    assert_eq!(refused(&full, |t| seek(t, 1, P - 1, 81)), 12);
+    assert_eq!(refused(&full, |t| seek(t, 6, 6, 1)), 12);
+    assert_eq!(refused(&full, |t| seek(t, 4, 5, 0)), 12);
+}
+
+/// Of the orders that fit, the lowest key is given.
+#[test]
+fn seek_gives_the_lowest_key() {
+    let made = Made { sizes: sizes(2, 4, 10, 60), ..document() };
+    let mut table = made_table(&made);
+    for (key, total, displayed) in [(9, 10, 0), (2, 5, 5), (4, 30, 10), (7, 20, 0)] {
+        assert_eq!(put(&mut table, key, total, displayed), Reply::done());
+    }
+    let order = |key, total, displayed| Reply { number: 0, key, total, displayed };
+    assert_eq!(seek(&table, 1, P - 1, 0), order(2, 5, 5));
+    assert_eq!(seek(&table, 1, P - 1, 1), order(4, 30, 10));
+    assert_eq!(seek(&table, 1, P - 1, 20), order(4, 30, 10));
+    assert_eq!(seek(&table, 5, P - 1, 20), order(7, 20, 0));
+    assert_eq!(seek(&table, 8, 9, 10), order(9, 10, 0));
+    assert_eq!(seek(&table, 8, 9, 11), Reply::refused(12));
+    assert_eq!(seek(&table, 1, P - 1, 21), Reply::refused(12));
+}
+
+/// The largest difference, 4,294,967,295.
+#[test]
+fn seek_reaches_the_largest_r() {
+    let mut table = made_table(&document());
+    put(&mut table, 3, u32::MAX, 0);
+    let found = Reply { number: 0, key: 3, total: u32::MAX, displayed: 0 };
+    assert_eq!(seek(&table, 3, 3, u32::MAX), found);
+    put(&mut table, 3, u32::MAX, 1);
+    assert_eq!(seek(&table, 3, 3, u32::MAX), Reply::refused(12));
+}
+
+/// The largest sizes of all, and the length field of such a table.
+#[test]
+fn the_largest_table() {
+    let sizes = Sizes { gamma: 64, nodes: 32, orders: 65_535, blocks: 65_535 };
+    let made = Made { sizes, seed: identity_seed() };
+    let mut table = made_table(&made);
+    assert_eq!(table.len(), 53 + 65_535 * (8 + 12 * 32));
+    assert_eq!(table[1..5], (table.len() as u32).to_be_bytes());
+    assert_eq!(put(&mut table, P - 1, u32::MAX, 1), Reply::done());
+    let found = Reply { number: 0, key: P - 1, total: u32::MAX, displayed: 1 };
+    assert_eq!(lookup(&table, P - 1), found);
+}

@@ -1,0 +1,72 @@
+//! What several tests need.
+
+// Each test file takes what it needs.
+#![allow(dead_code)]
+
+use reference::calls;
+use reference::image::image;
+use reference::lists::{Orders, Quantities};
+use reference::samples::{identity_seed, some_quantities, some_seed, Xorshift};
+use reference::sizes::{Made, Sizes, P};
+
+/// Sizes and seed of the document's run.
+pub fn document() -> Made {
+    Made { sizes: sizes(2, 2, 2, 4), seed: identity_seed() }
+}
+
+pub fn sizes(gamma: u32, nodes: u32, orders: u32, blocks: u32) -> Sizes {
+    Sizes { gamma, nodes, orders, blocks }
+}
+
+pub fn order(total: u32, displayed: u32) -> Quantities {
+    Quantities { total, displayed }
+}
+
+/// A table made by the call.
+pub fn made_table(made: &Made) -> Vec<u8> {
+    let Sizes { gamma, nodes, orders, blocks } = made.sizes;
+    let mut table = vec![0xa5; made.sizes.length()];
+    let reply = calls::make(gamma, nodes, orders, blocks, &made.seed.bytes(), &mut table);
+    assert_eq!(reply.number, 0, "{made:?}");
+    table
+}
+
+/// Some sizes and seed, of tables with few orders, M from tight to loose.
+pub fn some_made(generator: &mut Xorshift) -> Made {
+    let gamma = generator.pick(&[2, 2, 3, 4, 7, 16, 64]);
+    let nodes = generator.pick(&[2, 2, 3, 4, 5, 16, 32]);
+    let orders = generator.pick(&[1, 2, 3, 5, 8, 13, 30, 60]);
+    let beta = sizes(gamma, nodes, orders, 0).beta();
+    let blocks = match generator.below(5) {
+        0 => beta,
+        1 => beta + generator.below(4),
+        2 => beta + orders / nodes,
+        3 => beta + orders,
+        _ => beta * (orders + 1),
+    };
+    Made { sizes: sizes(gamma, nodes, orders, blocks), seed: some_seed(generator) }
+}
+
+/// A key from a range that a table of this size can fill densely, or from anywhere.
+pub fn some_key(generator: &mut Xorshift, made: &Made) -> u32 {
+    match generator.below(10) {
+        0 => generator.within(1, P - 1),
+        1 => generator.pick(&[1, P - 1]),
+        _ => generator.within(1, 2 * made.sizes.orders + 2),
+    }
+}
+
+/// At most `wanted` orders that the table has room for.
+pub fn some_orders(generator: &mut Xorshift, made: &Made, wanted: u32) -> Orders {
+    let mut orders = Orders::new();
+    for _ in 0..wanted.min(made.sizes.orders) {
+        let key = some_key(generator, made);
+        let (total, displayed) = some_quantities(generator);
+        let mut more = orders.clone();
+        more.insert(key, order(total, displayed));
+        if image(made, &more).is_some() {
+            orders = more;
+        }
+    }
+    orders
+}

@@ -1,0 +1,336 @@
+//! Levels, lists, chunks, homes and bytes, worked out a second time from the
+//! pages in the slowest and most literal way, and compared.
+
+mod common;
+
+use common::{document, sizes, some_made, some_orders};
+use reference::image::image;
+use reference::lists::{chunks, home, lists, Label, Orders};
+use reference::samples::{random_seed, some_seed, Xorshift, EDGE_KEYS};
+use reference::sizes::{Made, Seed, P};
+
+// ---- the second way --------------------------------------------------------
+
+fn slow_beta(gamma: u32, orders: u32) -> u32 {
+    let e = (0..).find(|&e| u128::from(gamma).pow(e) >= u128::from(orders));
+    2 + e.unwrap()
+}
+
+fn slow_hash(c: &[u32; 5], x: u32) -> u32 {
+    let p = u128::from(P);
+    let x = u128::from(x);
+    let powers = [1, x % p, x * x % p, x * x * x % p, (x * x % p) * (x * x % p) % p];
+    let sum: u128 = c.iter().zip(powers).map(|(&c, power)| u128::from(c) * power).sum();
+    (sum % p) as u32
+}
+
+fn slow_level(made: &Made, key: u32) -> u32 {
+    let beta = slow_beta(made.sizes.gamma, made.sizes.orders);
+    let h = u128::from(slow_hash(&made.seed.a, key));
+    if key == 0 || h == 0 {
+        return beta;
+    }
+    let divides = |j: u32| h % u128::from(made.sizes.gamma).pow(j) == 0;
+    1 + (0..beta).filter(|&j| divides(j)).max().unwrap()
+}
+
+fn slow_home(made: &Made, label: (u32, u32, u32)) -> usize {
+    let (level, first_key, chunk_number) = label;
+    let g = u128::from(slow_hash(&made.seed.b, first_key));
+    let sum = g + 65_536 * u128::from(level) + u128::from(chunk_number);
+    (sum % u128::from(P) % u128::from(made.sizes.blocks)) as usize
+}
+
+/// Label and keys of every chunk, in any order.
+fn slow_chunks(made: &Made, orders: &Orders) -> Vec<((u32, u32, u32), Vec<u32>)> {
+    let beta = slow_beta(made.sizes.gamma, made.sizes.orders);
+    let list = |k: u32| -> Vec<u32> {
+        let keys = std::iter::once(0).chain(orders.keys().copied());
+        keys.filter(|&key| slow_level(made, key) >= k).collect()
+    };
+    let mut found = Vec::new();
+    for k in 1..=beta {
+        let starts = if k == beta { vec![0] } else { list(k + 1) };
+        for (i, &first) in starts.iter().enumerate() {
+            let next = starts.get(i + 1).copied().unwrap_or(u32::MAX);
+            let partition: Vec<u32> =
+                list(k).into_iter().filter(|&key| first <= key && key < next).collect();
+            let m = partition.len() as u32;
+            for chunk in 0..m.div_ceil(made.sizes.nodes) {
+                let from = chunk * made.sizes.nodes;
+                let to = m.min(from + made.sizes.nodes);
+                found.push(((k, first, chunk), partition[from as usize..to as usize].to_vec()));
+            }
+        }
+    }
+    found
+}
+
+/// The image by ordered linear probing: the chunks come in any order, and on
+/// meeting a larger label a chunk takes its block and sends it on.
+fn slow_image(made: &Made, orders: &Orders, generator: &mut Xorshift) -> Vec<u8> {
+    let mut chunks = slow_chunks(made, orders);
+    generator.shuffle(&mut chunks);
+    let blocks = made.sizes.blocks as usize;
+    let mut placed = vec![None; blocks];
+    for mut chunk in chunks {
+        let mut block = slow_home(made, chunk.0);
+        while let Some(other) = placed[block].take() {
+            let (smaller, larger) = if chunk < other { (chunk, other) } else { (other, chunk) };
+            placed[block] = Some(smaller);
+            chunk = larger;
+            block = (block + 1) % blocks;
+        }
+        placed[block] = Some(chunk);
+    }
+    slow_bytes(made, orders, &placed)
+}
+
+type Placed = Option<((u32, u32, u32), Vec<u32>)>;
+
+fn slow_bytes(made: &Made, orders: &Orders, placed: &[Placed]) -> Vec<u8> {
+    let block_length = 8 + 12 * made.sizes.nodes as usize;
+    let length = 53 + placed.len() * block_length;
+    let mut bytes = vec![0; length];
+    let mut write = |place: usize, width: usize, number: u32| {
+        let four = number.to_be_bytes();
+        bytes[place..place + width].copy_from_slice(&four[4 - width..]);
+    };
+    write(0, 1, 1);
+    write(1, 4, length as u32);
+    write(5, 1, made.sizes.gamma);
+    write(6, 1, made.sizes.nodes);
+    write(7, 2, made.sizes.orders);
+    write(9, 2, made.sizes.blocks);
+    write(11, 2, orders.len() as u32);
+    for i in 0..5 {
+        write(13 + 4 * i, 4, made.seed.a[i]);
+        write(33 + 4 * i, 4, made.seed.b[i]);
+    }
+    for (number, block) in placed.iter().enumerate() {
+        let Some(((level, first_key, chunk_number), keys)) = block else { continue };
+        let place = 53 + number * block_length;
+        write(place, 1, *level);
+        write(place + 1, 1, keys.len() as u32);
+        write(place + 2, 2, *chunk_number);
+        write(place + 4, 4, *first_key);
+        for (i, key) in keys.iter().enumerate() {
+            write(place + 8 + 12 * i, 4, *key);
+            if *level == 1 && *key != 0 {
+                write(place + 12 + 12 * i, 4, orders[key].total);
+                write(place + 16 + 12 * i, 4, orders[key].displayed);
+            }
+        }
+    }
+    bytes
+}
+
+// ---- comparing -------------------------------------------------------------
+
+#[test]
+fn beta_for_every_gamma() {
+    for gamma in 2..=64 {
+        let mut orders = vec![1, 2, 3, 65_534, 65_535];
+        let powers = (1..17).map(|e| u64::from(gamma).pow(e));
+        for power in powers.take_while(|&power| power < 65_535) {
+            orders.extend([power - 1, power, power + 1].map(|n| n as u32));
+        }
+        for n in orders {
+            assert_eq!(sizes(gamma, 2, n, 20).beta(), slow_beta(gamma, n), "γ {gamma} N {n}");
+        }
+    }
+}
+
+#[test]
+fn sizes_allowed_at_their_ends() {
+    let allowed = |gamma, nodes, orders, blocks| sizes(gamma, nodes, orders, blocks).allowed();
+    assert!(allowed(2, 2, 1, 2) && allowed(64, 32, 65_535, 65_535));
+    assert!(allowed(2, 2, 65_535, 18) && !allowed(2, 2, 65_535, 17));
+    assert!(allowed(64, 2, 65_535, 5) && !allowed(64, 2, 65_535, 4));
+    for gamma in [0, 1, 65, 256 + 2, u32::MAX] {
+        assert!(!allowed(gamma, 2, 1, 100), "γ {gamma}");
+    }
+    for nodes in [0, 1, 33, 256 + 2, u32::MAX] {
+        assert!(!allowed(2, nodes, 1, 100), "B {nodes}");
+    }
+    for orders in [0, 65_536, 65_537, u32::MAX] {
+        assert!(!allowed(2, 2, orders, 65_535), "N {orders}");
+    }
+    for blocks in [0, 1, 65_536, 65_538, u32::MAX] {
+        assert!(!allowed(2, 2, 1, blocks), "M {blocks}");
+    }
+}
+
+#[test]
+fn hashes_and_levels() {
+    let mut generator = Xorshift::new(11);
+    let mut seen = [0; 20];
+    for _ in 0..20_000 {
+        let gamma = generator.pick(&[2, 3, 5, 16, 40, 64]);
+        let orders = generator.pick(&[1, 2, 10, 1000, 65_535]);
+        let made = Made { sizes: sizes(gamma, 2, orders, 20), seed: some_seed(&mut generator) };
+        let small = generator.within(0, 5000);
+        let large = generator.within(1, P - 1);
+        let key = generator.pick(&[small, large, 1, P - 1]);
+        assert_eq!(made.seed.h(key), slow_hash(&made.seed.a, key), "{made:?} {key}");
+        assert_eq!(made.seed.g(key), slow_hash(&made.seed.b, key), "{made:?} {key}");
+        assert_eq!(made.level(key), slow_level(&made, key), "{made:?} {key}");
+        seen[made.level(key) as usize] += 1;
+    }
+    assert!(seen[1..=5].iter().all(|&times| times > 100), "levels seen: {seen:?}");
+}
+
+/// h(x) = 0 for a key that is not the front, and the front where h(0) is not 0.
+#[test]
+fn levels_of_zero_and_the_front() {
+    let root = Seed { a: [P - 77, 1, 0, 0, 0], b: [0; 5] };
+    let made = Made { sizes: sizes(3, 2, 100, 20), seed: root };
+    assert_eq!(made.sizes.beta(), 7);
+    assert_eq!(made.seed.h(77), 0);
+    assert_eq!(made.level(77), 7);
+    assert_ne!(made.seed.h(0) % 3, 0);
+    assert_eq!(made.level(0), 7);
+}
+
+#[test]
+fn labels_compare_by_level_then_key_then_chunk() {
+    let mut generator = Xorshift::new(12);
+    let mut label = || Label {
+        level: generator.pick(&[1, 2, 18, 255]),
+        first_key: generator.pick(&[0, 1, 65_535, 65_536, P - 1, u32::MAX]),
+        chunk_number: generator.pick(&[0, 1, 65_535]),
+    };
+    let parts = |label: &Label| (label.level, label.first_key, label.chunk_number);
+    for _ in 0..20_000 {
+        let (one, two) = (label(), label());
+        assert_eq!(one.cmp(&two), parts(&one).cmp(&parts(&two)));
+        assert_eq!(one.rank().cmp(&two.rank()), parts(&one).cmp(&parts(&two)));
+    }
+}
+
+#[test]
+fn homes() {
+    let mut generator = Xorshift::new(13);
+    for _ in 0..20_000 {
+        let blocks = generator.within(20, 65_535);
+        let made = Made { sizes: sizes(2, 2, 1000, blocks), seed: some_seed(&mut generator) };
+        let label = (generator.within(1, 18), generator.below(P), generator.below(32_768));
+        let (level, first_key, chunk_number) = label;
+        let found = home(&made, &Label { level, first_key, chunk_number });
+        assert_eq!(found, slow_home(&made, label), "{made:?} {label:?}");
+    }
+}
+
+/// The chunks are those of the definition and come in rising label order.
+#[test]
+fn chunks_by_definition() {
+    let mut generator = Xorshift::new(14);
+    let mut with_second_chunk = 0;
+    for _ in 0..1500 {
+        let made = some_made(&mut generator);
+        let orders = some_orders(&mut generator, &made, 60);
+        let lists = lists(&made, &orders);
+        let found: Vec<_> = chunks(&made, &lists)
+            .iter()
+            .map(|chunk| {
+                let Label { level, first_key, chunk_number } = chunk.label;
+                let keys: Vec<u32> = chunk.nodes.iter().map(|node| node.key).collect();
+                ((level, first_key, chunk_number), keys)
+            })
+            .collect();
+        with_second_chunk += u32::from(found.iter().any(|(label, _)| label.2 > 0));
+        let mut expected = slow_chunks(&made, &orders);
+        expected.sort();
+        assert_eq!(found, expected, "{made:?}");
+    }
+    assert!(with_second_chunk > 200, "{with_second_chunk}");
+}
+
+/// Placing in rising order and ordered probing in any order give equal bytes.
+#[test]
+fn images_by_ordered_probing() {
+    let mut generator = Xorshift::new(15);
+    let mut full = 0;
+    for _ in 0..1500 {
+        let made = some_made(&mut generator);
+        let orders = some_orders(&mut generator, &made, 60);
+        let expected = slow_image(&made, &orders, &mut generator);
+        assert_eq!(image(&made, &orders).unwrap(), expected, "{made:?} {orders:?}");
+        let chunks = slow_chunks(&made, &orders).len();
+        full += u32::from(chunks == made.sizes.blocks as usize);
+    }
+    assert!(full > 50, "{full} tables were full");
+}
+
+/// A larger table, to see chunk numbers and keys of several bytes.
+#[test]
+fn large_images() {
+    let mut generator = Xorshift::new(16);
+    let all_level_1 = Seed { a: [1, 0, 0, 0, 0], ..random_seed(&mut generator) };
+    for seed in [random_seed(&mut generator), all_level_1] {
+        let made = Made { sizes: sizes(64, 2, 700, 800), seed };
+        let mut orders = Orders::new();
+        for _ in 0..700 {
+            let key = generator.within(1, P - 1);
+            orders.insert(key, common::order(key, key / 2));
+        }
+        let table = image(&made, &orders).unwrap();
+        assert_eq!(table, slow_image(&made, &orders, &mut generator));
+    }
+    let made = Made { sizes: sizes(64, 2, 700, 800), seed: all_level_1 };
+    let label = Label { level: 1, first_key: 0, chunk_number: 300 };
+    assert_eq!(home(&made, &label), slow_home(&made, (1, 0, 300)));
+}
+
+/// More than M chunks have no image, M chunks have one.
+#[test]
+fn images_end_at_the_number_of_blocks() {
+    let mut generator = Xorshift::new(17);
+    let (mut fitting, mut exact) = (0, 0);
+    for _ in 0..3000 {
+        let made = some_made(&mut generator);
+        let loose = Made { sizes: sizes(made.sizes.gamma, made.sizes.nodes, made.sizes.orders, 2000), ..made };
+        let orders = some_orders(&mut generator, &loose, 60);
+        let chunks = slow_chunks(&made, &orders).len() as u32;
+        assert_eq!(image(&made, &orders).is_some(), chunks <= made.sizes.blocks);
+        fitting += u32::from(chunks <= made.sizes.blocks);
+        exact += u32::from(chunks == made.sizes.blocks);
+    }
+    assert!(exact > 20 && fitting > exact && fitting < 3000, "{exact} {fitting}");
+}
+
+/// Taking an order away never makes more chunks, so cancel has no question 8.
+#[test]
+fn fewer_orders_make_no_more_chunks() {
+    let mut generator = Xorshift::new(18);
+    let mut merged = 0;
+    for _ in 0..500 {
+        let made = some_made(&mut generator);
+        let orders = some_orders(&mut generator, &made, 60);
+        let before = chunks(&made, &lists(&made, &orders)).len();
+        for key in orders.keys() {
+            let mut fewer = orders.clone();
+            fewer.remove(key);
+            let after = chunks(&made, &lists(&made, &fewer)).len();
+            assert!(after <= before, "{made:?} {orders:?} without {key}");
+            merged += u32::from(after < before);
+        }
+    }
+    assert!(merged > 100, "{merged}");
+}
+
+#[test]
+fn seeds_from_bytes() {
+    let seed = document().seed;
+    assert_eq!(Seed::from_bytes(&seed.bytes()), Some(seed));
+    for length in [0, 1, 4, 39, 41, 44, 80] {
+        let bytes: Vec<u8> = seed.bytes().into_iter().cycle().take(length).collect();
+        assert_eq!(Seed::from_bytes(&bytes), None, "{length} bytes");
+    }
+    for number in EDGE_KEYS {
+        let mut bytes = seed.bytes();
+        bytes[36..].copy_from_slice(&number.to_be_bytes());
+        let expected = (number < P).then_some(Seed { b: [0, 1, 0, 0, number], ..seed });
+        assert_eq!(Seed::from_bytes(&bytes), expected);
+    }
+}

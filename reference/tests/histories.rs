@@ -1,0 +1,337 @@
+//! Random histories: after every call the table is the image of the plain book's
+//! orders, and the answer is the one the book's orders decide.
+
+mod common;
+
+use common::{made_table, order, sizes, some_key, some_made, some_orders};
+use reference::book::Book;
+use reference::calls::{self, Reply};
+use reference::image::{image, is_image, is_image_by_rebuilding};
+use reference::lists::Orders;
+use reference::program::program;
+use reference::samples::{random_seed, some_quantities, Xorshift, EDGE_KEYS};
+use reference::sizes::{Made, P};
+
+#[derive(Clone, Copy, Debug)]
+enum Call {
+    Check,
+    Put(u32, u32, u32),
+    Cancel(u32),
+    Lookup(u32),
+    Span(u32, u32, usize),
+    Seek(u32, u32, u32),
+}
+
+/// A key that may be none.
+fn any_key(generator: &mut Xorshift, made: &Made) -> u32 {
+    match generator.below(20) {
+        0 => generator.pick(&EDGE_KEYS),
+        1 => generator.next(),
+        _ => some_key(generator, made),
+    }
+}
+
+/// Mostly lo ≤ hi, of which many hold few orders.
+fn any_range(generator: &mut Xorshift, made: &Made) -> (u32, u32) {
+    let lo = any_key(generator, made);
+    let hi = match generator.below(3) {
+        0 => lo.saturating_add(generator.below(8)),
+        _ => any_key(generator, made),
+    };
+    if generator.one_in(6) { (lo, hi) } else { (lo.min(hi), lo.max(hi)) }
+}
+
+fn any_call(generator: &mut Xorshift, made: &Made) -> Call {
+    let key = any_key(generator, made);
+    match generator.below(20) {
+        0..=8 => {
+            let (total, displayed) = match generator.below(16) {
+                0 => generator.pick(&[(0, 0), (0, 5), (100, 101), (1, u32::MAX)]),
+                _ => some_quantities(generator),
+            };
+            Call::Put(key, total, displayed)
+        }
+        9..=12 => Call::Cancel(key),
+        13 => Call::Check,
+        14 => Call::Lookup(key),
+        15..=17 => {
+            let (lo, hi) = any_range(generator, made);
+            let orders = generator.below(made.sizes.orders + 2) as usize;
+            let length = (12 * orders + 1).saturating_sub(generator.below(3) as usize);
+            Call::Span(lo, hi, length)
+        }
+        _ => {
+            let (lo, hi) = any_range(generator, made);
+            let far = generator.next();
+            Call::Seek(lo, hi, generator.pick(&[0, 1, 40, far, u32::MAX]))
+        }
+    }
+}
+
+fn filled(length: usize) -> Vec<u8> {
+    (0..length).map(|i| (i * 7 + 1) as u8).collect()
+}
+
+/// The reply and the output after the call.
+fn ask(table: &mut [u8], call: Call) -> (Reply, Vec<u8>) {
+    let mut output = Vec::new();
+    let reply = match call {
+        Call::Check => calls::check(table),
+        Call::Put(key, total, displayed) => calls::put(table, key, total, displayed),
+        Call::Cancel(key) => calls::cancel(table, key),
+        Call::Lookup(key) => calls::lookup(table, key),
+        Call::Span(lo, hi, length) => {
+            output = filled(length);
+            calls::span(table, lo, hi, &mut output)
+        }
+        Call::Seek(lo, hi, r) => calls::seek(table, lo, hi, r),
+    };
+    (reply, output)
+}
+
+fn are_keys(lo: u32, hi: u32) -> bool {
+    lo != 0 && hi != 0 && lo < P && hi < P
+}
+
+/// The orders of the book in lo..hi.
+fn in_range(book: &Book, lo: u32, hi: u32) -> Vec<(u32, u32, u32)> {
+    let inside = book.orders().iter().filter(|(&key, _)| lo <= key && key <= hi);
+    inside.map(|(&key, order)| (key, order.total, order.displayed)).collect()
+}
+
+/// What the book decides for the call.
+fn expected(book: &mut Book, call: Call) -> (Reply, Vec<u8>) {
+    match call {
+        Call::Check => (Reply::done(), vec![]),
+        Call::Put(key, total, displayed) => {
+            (Reply::refused(book.put(key, total, displayed)), vec![])
+        }
+        Call::Cancel(key) => (Reply::refused(book.cancel(key)), vec![]),
+        Call::Lookup(key) => {
+            let reply = match book.orders().get(&key) {
+                _ if !are_keys(key, key) => Reply::refused(5),
+                None => Reply::refused(9),
+                Some(order) => Reply::order(key, order),
+            };
+            (reply, vec![])
+        }
+        Call::Span(lo, hi, length) => expected_span(book, lo, hi, length),
+        Call::Seek(lo, hi, r) => (expected_seek(book, lo, hi, r), vec![]),
+    }
+}
+
+fn expected_span(book: &Book, lo: u32, hi: u32, length: usize) -> (Reply, Vec<u8>) {
+    let mut output = filled(length);
+    if !are_keys(lo, hi) {
+        return (Reply::refused(5), output);
+    }
+    if lo > hi {
+        return (Reply::refused(10), output);
+    }
+    let found = in_range(book, lo, hi);
+    let written: Vec<u8> = found
+        .iter()
+        .flat_map(|&(key, total, displayed)| [key, total, displayed])
+        .flat_map(u32::to_be_bytes)
+        .collect();
+    if written.len() > length {
+        return (Reply::refused(11), output);
+    }
+    output[..written.len()].copy_from_slice(&written);
+    (Reply { total: found.len() as u32, ..Reply::done() }, output)
+}
+
+fn expected_seek(book: &Book, lo: u32, hi: u32, r: u32) -> Reply {
+    if !are_keys(lo, hi) {
+        return Reply::refused(5);
+    }
+    if lo > hi {
+        return Reply::refused(10);
+    }
+    let fits = |&(_, total, displayed): &(u32, u32, u32)| total - displayed >= r;
+    match in_range(book, lo, hi).into_iter().find(fits) {
+        Some((key, total, displayed)) => Reply { number: 0, key, total, displayed },
+        None => Reply::refused(12),
+    }
+}
+
+/// One history; counts the numbers answered.
+fn history(generator: &mut Xorshift, made: Made, calls: u32, seen: &mut [u32; 13]) {
+    let mut table = made_table(&made);
+    let mut book = Book::new(made);
+    assert_eq!(table, image(&made, &Orders::new()).unwrap());
+    for _ in 0..calls {
+        let call = any_call(generator, &made);
+        let before = table.clone();
+        let found = ask(&mut table, call);
+        assert_eq!(found, expected(&mut book, call), "{call:?} {made:?}");
+        assert_eq!(table, image(&made, book.orders()).unwrap(), "{call:?} {made:?}");
+        assert!(is_image(&table) && is_image_by_rebuilding(&table), "{call:?} {made:?}");
+        let edit = matches!(call, Call::Put(..) | Call::Cancel(_));
+        if found.0.number != 0 || !edit {
+            assert_eq!(table, before, "{call:?} {made:?}");
+        }
+        seen[found.0.number as usize] += 1;
+    }
+}
+
+#[test]
+fn tables_follow_the_book() {
+    let mut generator = Xorshift::new(31);
+    let mut seen = [0; 13];
+    for _ in 0..400 {
+        let made = some_made(&mut generator);
+        history(&mut generator, made, 150, &mut seen);
+    }
+    let expected = [0, 5, 6, 7, 8, 9, 10, 11, 12];
+    assert!(expected.iter().all(|&number: &usize| seen[number] > 300), "{seen:?}");
+    assert_eq!(seen[1] + seen[2] + seen[3] + seen[4], 0, "{seen:?}");
+}
+
+#[test]
+fn a_larger_table_follows_the_book() {
+    let mut generator = Xorshift::new(32);
+    let mut seen = [0; 13];
+    let made = Made { sizes: sizes(3, 4, 300, 260), seed: random_seed(&mut generator) };
+    history(&mut generator, made, 2500, &mut seen);
+    assert!(seen[0] > 1000 && seen[7] + seen[8] > 50, "{seen:?}");
+}
+
+/// Two histories that end with the same orders: one puts them straight away, the
+/// other puts others, replaces and cancels on its way.
+#[test]
+fn equal_sets_have_equal_bytes() {
+    let mut generator = Xorshift::new(33);
+    let mut largest = 0;
+    for _ in 0..600 {
+        let made = some_made(&mut generator);
+        let wanted = some_orders(&mut generator, &made, 60);
+        let mut keys: Vec<u32> = wanted.keys().copied().collect();
+        generator.shuffle(&mut keys);
+
+        let mut straight = made_table(&made);
+        for key in &keys {
+            assert_eq!(put(&mut straight, &wanted, *key), 0);
+        }
+
+        let mut roundabout = made_table(&made);
+        for _ in 0..40 {
+            let key = some_key(&mut generator, &made);
+            let (total, displayed) = some_quantities(&mut generator);
+            calls::put(&mut roundabout, key, total, displayed);
+            calls::cancel(&mut roundabout, some_key(&mut generator, &made));
+        }
+        let (_, found) = reference::image::held(&roundabout).unwrap();
+        for key in found.keys().filter(|key| !wanted.contains_key(key)) {
+            assert_eq!(calls::cancel(&mut roundabout, *key).number, 0);
+        }
+        generator.shuffle(&mut keys);
+        for key in &keys {
+            assert_eq!(put(&mut roundabout, &wanted, *key), 0);
+        }
+        assert!(straight == roundabout, "{made:?} {wanted:?}");
+        largest = largest.max(wanted.len());
+    }
+    assert!(largest > 30, "{largest}");
+}
+
+fn put(table: &mut [u8], orders: &Orders, key: u32) -> u32 {
+    let order = orders[&key];
+    calls::put(table, key, order.total, order.displayed).number
+}
+
+/// The book alone: each question, and that a refusal leaves the set.
+#[test]
+fn the_book_asks_in_order() {
+    let mut book = Book::new(common::document());
+    assert!(book.orders().is_empty());
+    assert_eq!(book.put(3, 100, 20), 0);
+    assert_eq!(book.put(4, 10, 0), 8);
+    assert_eq!(book.put(6, 50, 50), 0);
+    let set: Orders = [(3, order(100, 20)), (6, order(50, 50))].into();
+    for (key, total, displayed, number) in [
+        (0, 0, 1, 5),
+        (P, 1, 1, 5),
+        (u32::MAX, 1, 1, 5),
+        (4, 0, 0, 6),
+        (3, 1, 2, 6),
+        (4, 10, 0, 7),
+    ] {
+        assert_eq!(book.put(key, total, displayed), number);
+        assert_eq!(*book.orders(), set);
+    }
+    for (key, number) in [(0, 5), (P, 5), (u32::MAX, 5), (4, 9)] {
+        assert_eq!(book.cancel(key), number);
+        assert_eq!(*book.orders(), set);
+    }
+    assert_eq!(book.put(3, 7, 0), 0);
+    assert_eq!(book.orders()[&3], order(7, 0));
+    assert_eq!(book.cancel(3), 0);
+    assert_eq!(book.cancel(3), 9);
+    assert_eq!(*book.orders(), [(6, order(50, 50))].into());
+}
+
+/// The text program on random lines, against text written from the book.
+#[test]
+fn the_program_follows_the_book() {
+    let mut generator = Xorshift::new(34);
+    let mut lines = 0;
+    for _ in 0..60 {
+        let made = some_made(&mut generator);
+        if made.sizes.length() > 65_536 {
+            continue;
+        }
+        let mut input = make_line(&made);
+        let mut output = "0\n".to_string();
+        let mut book = Book::new(made);
+        for _ in 0..100 {
+            let call = any_call(&mut generator, &made);
+            if let Some((line, answer)) = text(&mut book, call) {
+                input += &line;
+                output += &answer;
+                lines += 1;
+            }
+        }
+        let found = String::from_utf8(program(input.as_bytes())).unwrap();
+        assert_eq!(found, output, "{input}");
+    }
+    assert!(lines > 3000, "{lines}");
+}
+
+fn make_line(made: &Made) -> String {
+    let s = &made.sizes;
+    let mut line = format!("make {} {} {} {}", s.gamma, s.nodes, s.orders, s.blocks);
+    for number in made.seed.a.iter().chain(&made.seed.b) {
+        line += &format!(" {number}");
+    }
+    line + "\n"
+}
+
+/// The line and the lines it is answered by; the program has no check.
+fn text(book: &mut Book, call: Call) -> Option<(String, String)> {
+    let call = match call {
+        Call::Span(lo, hi, _) => Call::Span(lo, hi, 65_536),
+        other => other,
+    };
+    let (reply, _) = expected(book, call);
+    let Reply { number, key, total, displayed } = reply;
+    let refused = number != 0;
+    let (line, answer) = match call {
+        Call::Check => return None,
+        Call::Put(key, total, displayed) => (format!("put {key} {total} {displayed}"), "0".into()),
+        Call::Cancel(key) => (format!("cancel {key}"), "0".into()),
+        Call::Lookup(key) => (format!("show {key}"), format!("0 {total} {displayed}")),
+        Call::Seek(lo, hi, r) => {
+            (format!("seek {lo} {hi} {r}"), format!("0 {key} {total} {displayed}"))
+        }
+        Call::Span(lo, hi, _) => {
+            let mut answer = format!("0 {total}");
+            for (key, total, displayed) in in_range(book, lo, hi) {
+                answer += &format!("\n{key} {total} {displayed}");
+            }
+            (format!("span {lo} {hi}"), answer)
+        }
+    };
+    let answer = if refused { number.to_string() } else { answer };
+    Some((line + "\n", answer + "\n"))
+}

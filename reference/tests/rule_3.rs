@@ -1,0 +1,148 @@
+//! Rule 3 leaves one arrangement of the chunks, and a search under it ends where
+//! the document says.
+
+mod common;
+
+use common::{order, sizes, some_made, some_orders};
+use reference::image::{image, is_image, place, rule_3, table, Arrangement};
+use reference::lists::{chunks, home, lists, Chunk, Label, Orders};
+use reference::samples::{some_seed, Xorshift};
+use reference::sizes::Made;
+
+/// All ways to put the chunks into blocks, each in one.
+fn all_arrangements<'a>(chunks: &[Chunk<'a>], blocks: usize) -> Vec<Arrangement<'a>> {
+    let Some((last, others)) = chunks.split_last() else {
+        return vec![vec![None; blocks]];
+    };
+    let mut found = Vec::new();
+    for arrangement in all_arrangements(others, blocks) {
+        for block in (0..blocks).filter(|&block| arrangement[block].is_none()) {
+            let mut more = arrangement.clone();
+            more[block] = Some(*last);
+            found.push(more);
+        }
+    }
+    found
+}
+
+fn labels(arrangement: &Arrangement) -> Vec<Option<Label>> {
+    arrangement.iter().map(|block| block.map(|chunk| chunk.label)).collect()
+}
+
+/// Rule 3, block by block.
+fn slow_rule_3(made: &Made, arrangement: &Arrangement) -> bool {
+    let blocks = arrangement.len();
+    for block in 0..blocks {
+        let Some(chunk) = arrangement[block] else { continue };
+        let home = home(made, &chunk.label);
+        let distance = (block + blocks - home) % blocks;
+        for step in 0..distance {
+            match arrangement[(home + step) % blocks] {
+                Some(passed) if passed.label < chunk.label => (),
+                _ => return false,
+            }
+        }
+    }
+    true
+}
+
+/// Tables of at most 5 blocks with some orders.
+fn tiny(generator: &mut Xorshift) -> (Made, Orders) {
+    loop {
+        let (gamma, nodes) = (generator.within(2, 4), generator.within(2, 3));
+        let n = generator.within(1, 8);
+        let least = sizes(gamma, nodes, n, 0).beta();
+        if least > 5 {
+            continue;
+        }
+        let blocks = generator.within(least, 5);
+        let made = Made { sizes: sizes(gamma, nodes, n, blocks), seed: some_seed(generator) };
+        let orders = some_orders(generator, &made, n);
+        return (made, orders);
+    }
+}
+
+#[test]
+fn one_arrangement_obeys() {
+    let mut generator = Xorshift::new(21);
+    let (mut full, mut obeying, mut all) = (0, 0, 0);
+    for _ in 0..1500 {
+        let (made, orders) = tiny(&mut generator);
+        let lists = lists(&made, &orders);
+        let chunks = chunks(&made, &lists);
+        let blocks = made.sizes.blocks as usize;
+        let placed = place(&made, &chunks);
+        let right = image(&made, &orders).unwrap();
+        let mut found = 0;
+        for arrangement in all_arrangements(&chunks, blocks) {
+            let obeys = rule_3(&made, &labels(&arrangement));
+            assert_eq!(obeys, slow_rule_3(&made, &arrangement));
+            assert_eq!(obeys, arrangement == placed);
+            let bytes = table(&made, orders.len(), &arrangement);
+            assert_eq!(obeys, is_image(&bytes));
+            assert_eq!(obeys, bytes == right);
+            found += u32::from(obeys);
+            all += 1;
+        }
+        assert_eq!(found, 1, "{made:?} {orders:?}");
+        full += u32::from(chunks.len() == blocks);
+        obeying += found;
+    }
+    assert!(full > 100, "{full} full tables");
+    assert!(all > 10 * obeying, "{all} arrangements");
+}
+
+/// "Under it the search for a label ends at the first block that is empty, has
+/// that label or has a larger one, or after M blocks."
+fn search(made: &Made, labels: &[Option<Label>], wanted: &Label) -> Option<usize> {
+    let home = home(made, wanted);
+    let blocks = labels.len();
+    let mut round = (0..blocks).map(|step| (home + step) % blocks);
+    let end = round.find(|&block| !labels[block].is_some_and(|label| label < *wanted))?;
+    (labels[end] == Some(*wanted)).then_some(end)
+}
+
+#[test]
+fn searches_end_at_the_label() {
+    let mut generator = Xorshift::new(22);
+    let (mut found, mut missing) = (0, 0);
+    for _ in 0..400 {
+        let made = some_made(&mut generator);
+        let orders = some_orders(&mut generator, &made, 60);
+        let lists = lists(&made, &orders);
+        let chunks = chunks(&made, &lists);
+        let labels = labels(&place(&made, &chunks));
+        for (block, label) in labels.iter().enumerate() {
+            let Some(label) = label else { continue };
+            assert_eq!(search(&made, &labels, label), Some(block));
+            found += 1;
+        }
+        for _ in 0..20 {
+            let label = Label {
+                level: generator.within(1, made.sizes.beta()),
+                first_key: generator.below(2 * made.sizes.orders + 2),
+                chunk_number: generator.below(4),
+            };
+            let place = labels.iter().position(|other| *other == Some(label));
+            assert_eq!(search(&made, &labels, &label), place);
+            missing += u32::from(place.is_none());
+        }
+    }
+    assert!(found > 1000 && missing > 1000, "{found} {missing}");
+}
+
+/// "They prefer the chunk that came first": two chunks with one home, the smaller
+/// label stands at home whichever order was put first.
+#[test]
+fn the_smaller_label_stands_nearer_home() {
+    // h(x) = x, g = 0: every chunk of one level has one home.
+    let made = Made {
+        sizes: sizes(2, 2, 4, 16),
+        seed: reference::sizes::Seed { a: [0, 1, 0, 0, 0], b: [0; 5] },
+    };
+    let orders: Orders = [(2, order(1, 0)), (6, order(1, 0))].into();
+    let table = image(&made, &orders).unwrap();
+    let first_key = |block: usize| table[53 + block * 32 + 7];
+    // 65,536 mod 16 is 0: the level 1 chunks of 0, 2 and 6 stand in 0, 1 and 2.
+    assert_eq!([first_key(0), first_key(1), first_key(2)], [0, 2, 6]);
+}
