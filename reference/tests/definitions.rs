@@ -72,6 +72,7 @@ fn slow_image(made: &Made, orders: &Orders, generator: &mut Xorshift) -> Vec<u8>
     let mut chunks = slow_chunks(made, orders);
     generator.shuffle(&mut chunks);
     let blocks = made.sizes.blocks as usize;
+    assert!(chunks.len() <= blocks, "{made:?} {orders:?}");
     let mut placed = vec![None; blocks];
     for mut chunk in chunks {
         let mut block = slow_home(made, chunk.0);

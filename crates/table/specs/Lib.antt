@@ -1,2 +1,4 @@
 pub mod Walk
 pub mod Check
+pub mod Calls
+pub mod Visit

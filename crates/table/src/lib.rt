@@ -1,6 +1,6 @@
 // The open-order table: the calls of document 01 on plain slices.
-mod sweep;
-mod walk;
+pub mod sweep;
+pub mod walk;
 
 // A walk under way: no key below `low` may come, and so many orders and chunks are still to come.
 pub struct Seen {
@@ -14,4 +14,28 @@ pub struct Seen {
 pub struct Tally {
     pub clean: bool,
     pub full: u32,
+}
+
+// A visit under way: the range and the least reserve that is sought; whether it writes rows, whether it seeks one order; how many orders
+// were found so far, whether it has ended, and the last order found.
+pub struct Visit {
+    pub lo: u32,
+    pub hi: u32,
+    pub least: u32,
+    pub writes: bool,
+    pub seeks: bool,
+    pub found: u32,
+    pub ended: bool,
+    pub key: u32,
+    pub total: u32,
+    pub displayed: u32,
+}
+
+// The answer of a reading: its number, and an order. A span's number of orders stands in `total`.
+#[repr(C)]
+pub struct Reply {
+    pub number: u32,
+    pub key: u32,
+    pub total: u32,
+    pub displayed: u32,
 }

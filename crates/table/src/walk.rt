@@ -23,7 +23,7 @@ fn wrong() -> Seen
     }
 }
 
-fn node_of(table: &[u8], at: usize) -> Order
+pub fn node_of(table: &[u8], at: usize) -> Order
     requires { ⌜ at + 12 ≤ length (now table) ⌝ }
     ensures { λ r. ⌜ r ≡ node-of (now (table .entry)) at ⌝ }
 {

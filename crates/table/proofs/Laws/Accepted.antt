@@ -1,0 +1,181 @@
+-- Bytes that the check accepts: rule 1, the orders that they hold, and the partitions that were read. Assumes nothing.
+use mathlib.Core.Path.{_≡_, refl, ap, _∙_, subst}
+use mathlib.Core.Bool.{true, _&&_}
+use mathlib.Core.List.{List, [], _∷_}
+use Prim.Native.Nat.{ℕ, zero, suc, _+_, _*_, _≤_, _<_}
+use native.Mathlib.Omega.{arith}
+use borrow.Author.Tests.{eq-eqb, ne-eqb, le-leb, lt-ltb, leb-true, eqb-true}
+use lib.Dec.{leb, eqb}
+use lib.ListN.{length, take, drop}
+use Rattle.placement.specs.Numbers.{value-from, field, rows-in}
+use Rattle.placement.specs.Sizes.{prime, beta, sizes-good, seed-good, made}
+use Rattle.placement.specs.Header.{block-long, table-long, sizes-in, held-in, rule-1}
+use Rattle.placement.specs.Decode.{node-in, nodes-from}
+use Rattle.placement.specs.declared.Sizes.{Sizes}
+use Rattle.placement.specs.declared.Order.{Order}
+use Rattle.placement.proofs.Laws.Numbers.{Bytes, bytes-take, bytes-drop}
+use Rattle.placement.proofs.Laws.Sizes.{and-parts, some-blocks, some-nodes}
+use Rattle.skiplist.specs.Lists.{front}
+use Rattle.skiplist.specs.Image.{quantities-good, orders-good}
+use Rattle.skiplist.proofs.Parts.{Up}
+use Rattle.skiplist.proofs.Edits.{beta-least}
+use Rattle.skiplist.proofs.Opens.{Walks, shape}
+use Rattle.table.specs.declared.Seen.{Seen}
+use Rattle.table.specs.Walk.{nothing-in, quantities-ok, count-in}
+use Rattle.table.specs.Check.{swept, walked, ended, check-passes}
+use Rattle.table.proofs.Laws.Came.{Weighs, Rising, Step, chunk-read}
+use Rattle.table.proofs.Laws.Counted.{tally}
+use Rattle.table.proofs.Laws.Reading.{part-sound, Small, Weighed, opened}
+
+-- ---- RULE 1, taken apart
+
+pub record Rule-one (bs : List ℕ) : Type 0 where
+  pub long : 53 ≤ length bs
+  pub good : made (sizes-in bs) ≡ true
+  pub version : field 0 1 bs ≡ 1
+  pub length-field : field 1 4 bs ≡ table-long (sizes-in bs)
+  pub length-is : length bs ≡ table-long (sizes-in bs)
+  pub held : held-in bs ≤ sizes-in bs .orders
+
+ten : (bs : List ℕ) → eqb (length (sizes-in bs .seed)) 10 ≡ true
+unfolding sizes-in rows-in
+ten bs = refl
+
+pub rule-one : (bs : List ℕ) → rule-1 bs ≡ true → Rule-one bs
+unfolding rule-1 made
+rule-one bs e =
+    let s = sizes-in bs in
+    let p1 = and-parts (leb 53 (length bs)) (sizes-good s && (seed-good (s .seed) && (eqb (field 0 1 bs) 1 && (eqb (field 1 4 bs) (table-long s) && (eqb (length bs) (table-long s) && leb (held-in bs) (s .orders)))))) e in
+    let p2 = and-parts (sizes-good s) (seed-good (s .seed) && (eqb (field 0 1 bs) 1 && (eqb (field 1 4 bs) (table-long s) && (eqb (length bs) (table-long s) && leb (held-in bs) (s .orders))))) (p1 .1) in
+    let p3 = and-parts (seed-good (s .seed)) (eqb (field 0 1 bs) 1 && (eqb (field 1 4 bs) (table-long s) && (eqb (length bs) (table-long s) && leb (held-in bs) (s .orders)))) (p2 .1) in
+    let p4 = and-parts (eqb (field 0 1 bs) 1) (eqb (field 1 4 bs) (table-long s) && (eqb (length bs) (table-long s) && leb (held-in bs) (s .orders))) (p3 .1) in
+    let p5 = and-parts (eqb (field 1 4 bs) (table-long s)) (eqb (length bs) (table-long s) && leb (held-in bs) (s .orders)) (p4 .1) in
+    let p6 = and-parts (eqb (length bs) (table-long s)) (leb (held-in bs) (s .orders)) (p5 .1) in
+    record {
+      long = leb-true 53 (length bs) (p1 .0);
+      good = rw (p2 .0, p3 .0) (ten bs);
+      version = eqb-true (field 0 1 bs) 1 (p4 .0);
+      length-field = eqb-true (field 1 4 bs) (table-long s) (p5 .0);
+      length-is = eqb-true (length bs) (table-long s) (p6 .0);
+      held = leb-true (held-in bs) (s .orders) (p6 .1);
+    }
+
+-- ---- totals of four bytes
+
+take-most : (n : ℕ) (xs : List ℕ) → length (take n xs) ≤ n
+take-most zero xs = omega arith
+take-most (suc n) [] = omega arith
+take-most (suc n) (x ∷ xs) = omega (arith, take-most n xs)
+
+four-small : (xs : List ℕ) → length xs ≤ 4 → Bytes xs → value-from 0 xs < 4294967296
+unfolding value-from
+four-small [] h u = omega arith
+four-small (a ∷ []) h u = omega (arith, u .0)
+four-small (a ∷ b ∷ []) h u = omega (arith, u .0, u .1 .0)
+four-small (a ∷ b ∷ c ∷ []) h u = omega (arith, u .0, u .1 .0, u .1 .1 .0)
+four-small (a ∷ b ∷ c ∷ d ∷ []) h u = omega (arith, u .0, u .1 .0, u .1 .1 .0, u .1 .1 .1 .0)
+four-small (a ∷ b ∷ c ∷ d ∷ e ∷ xs) h u = absurd (omega arith)
+
+small-from : (n : ℕ) (xs : List ℕ) → Bytes xs → Small (nodes-from n xs)
+unfolding rows-in node-in field
+small-from zero xs u = tt
+small-from (suc n) xs u = (four-small (take 4 (drop 4 xs)) (take-most 4 (drop 4 xs)) (bytes-take 4 (drop 4 xs) (bytes-drop 4 xs u)), small-from n (drop 12 xs) (bytes-drop 12 xs u))
+
+pub small-read : (s : Sizes) (bs : List ℕ) → Bytes bs → (b : ℕ) → Small (chunk-read s bs b)
+unfolding chunk-read
+small-read s bs u b = small-from (count-in (block-long s) bs b) (drop (53 + b * block-long s + 8) bs) (bytes-drop (53 + b * block-long s + 8) bs u)
+
+-- ---- orders that came by
+
+rising-up : (a b : ℕ) (os : List Order) → Rising a os b → Up a os
+rising-up a b [] u = tt
+rising-up a b (o ∷ os) u = (u .0, rising-up (suc (o .key)) b os (u .3))
+
+rising-good : (a b : ℕ) (os : List Order) → 1 ≤ a → Rising a os b → orders-good a os ≡ true
+unfolding orders-good quantities-ok quantities-good
+rising-good a b [] h u = refl
+rising-good a b (o ∷ os) h u =
+    let k0 : o .key ≡ 0 → ⊥ = λ q. omega (arith, q, u .0) in
+    let q : (leb 1 (o .total) && leb (o .displayed) (o .total)) ≡ true = rw (ne-eqb (o .key) 0 k0) at (u .2 .0) in
+    let w = and-parts (leb 1 (o .total)) (leb (o .displayed) (o .total)) q in
+    rw (le-leb a (o .key) (u .0), lt-ltb (o .key) prime (u .1), w .0, w .1, le-leb (o .total) 4294967295 (omega (arith, u .2 .1)))
+    (rising-good (suc (o .key)) b os (omega arith) (u .3))
+
+front-is : (o : Order) → o .key ≡ 0 → Weighs o → o ≡ front
+unfolding front quantities-ok nothing-in
+front-is o e w =
+    let q : (eqb (o .total) 0 && eqb (o .displayed) 0) ≡ true = rw (eq-eqb (o .key) 0 e) at (w .0) in
+    let p = and-parts (eqb (o .total) 0) (eqb (o .displayed) 0) q in
+    let t = eqb-true (o .total) 0 (p .0) in
+    let d = eqb-true (o .displayed) 0 (p .1) in
+    λ i. record { key = e i; total = t i; displayed = d i }
+
+-- ---- WHAT ACCEPTED BYTES HOLD
+
+pub record Accepted (bs : List ℕ) : Type 0 where
+  pub rule : Rule-one bs
+  pub clean : swept (sizes-in bs) bs .clean ≡ true
+  pub orders : List Order
+  pub walk : Walks (sizes-in bs) (part-sound (sizes-in bs) bs) (beta (sizes-in bs)) front (front ∷ orders)
+  pub good : orders-good 1 orders ≡ true
+  pub up : Up 1 orders
+  pub held : length orders ≡ held-in bs
+  pub chunks : swept (sizes-in bs) bs .full ≡ tally (sizes-in bs) (part-sound (sizes-in bs) bs) (beta (sizes-in bs)) 0
+
+record Passed (bs : List ℕ) : Type 0 where
+  pub rule : rule-1 bs ≡ true
+  pub clean : swept (sizes-in bs) bs .clean ≡ true
+  pub ok : walked (sizes-in bs) bs (held-in bs) (swept (sizes-in bs) bs .full) .ok ≡ true
+  pub orders : walked (sizes-in bs) bs (held-in bs) (swept (sizes-in bs) bs .full) .orders ≡ 0
+  pub chunks : walked (sizes-in bs) bs (held-in bs) (swept (sizes-in bs) bs .full) .chunks ≡ 0
+
+passed : (bs : List ℕ) → check-passes bs ≡ true → Passed bs
+unfolding check-passes ended
+passed bs e =
+    let t = swept (sizes-in bs) bs in
+    let z = walked (sizes-in bs) bs (held-in bs) (t .full) in
+    let p = and-parts (rule-1 bs) (t .clean && (z .ok && (eqb (z .orders) 0 && eqb (z .chunks) 0))) e in
+    let q = and-parts (t .clean) (z .ok && (eqb (z .orders) 0 && eqb (z .chunks) 0)) (p .1) in
+    let r = and-parts (z .ok) (eqb (z .orders) 0 && eqb (z .chunks) 0) (q .1) in
+    let w = and-parts (eqb (z .orders) 0) (eqb (z .chunks) 0) (r .1) in
+    record { rule = p .0; clean = q .0; ok = r .0; orders = eqb-true (z .orders) 0 (w .0); chunks = eqb-true (z .chunks) 0 (w .1) }
+
+weighed-top : (b : ℕ) → 2 ≤ b → Weighed b front
+weighed-top zero h = absurd (omega arith)
+weighed-top (suc b) h = tt
+
+pub accepted : (bs : List ℕ) → Bytes bs → check-passes bs ≡ true → Accepted bs
+unfolding walked front
+accepted bs u e = go (passed bs e)
+  where
+    s : Sizes
+    s = sizes-in bs
+
+    n : ℕ
+    n = swept s bs .full
+
+    x : Seen
+    x = record { ok = true; low = 0; orders = held-in bs + 1; chunks = n }
+
+    z : Seen
+    z = walked s bs (held-in bs) n
+
+    go : Passed bs → Accepted bs
+    go p =
+        let r = rule-one bs (p .rule) in
+        let o = opened s bs (small-read s bs u) (some-nodes s (r .good)) (some-blocks s (r .good)) (beta s) front x (weighed-top (beta s) (beta-least s)) (p .ok) in
+        let h = shape s (part-sound s bs) (beta s) front (o .seg) (o .walk) in
+        let t = subst (λ (q : List Order). Step x q (tally s (part-sound s bs) (beta s) 0) z) (h .whole) (o .step) in
+        let f : h .head ≡ front = front-is (h .head) (h .same) (t .rising .2) in
+        let w = subst (λ (q : List Order). Walks s (part-sound s bs) (beta s) front q) (h .whole ∙ ap (λ (y : Order). y ∷ h .rest) f) (o .walk) in
+        let a = subst (λ (y : Order). Rising (suc (y .key)) (h .rest) (z .low)) f (t .rising .3) in
+        record {
+          rule = r;
+          clean = p .clean;
+          orders = h .rest;
+          walk = w;
+          good = rising-good 1 (z .low) (h .rest) (omega arith) a;
+          up = rising-up 1 (z .low) (h .rest) a;
+          held = omega (arith, t .orders, p .orders);
+          chunks = omega (arith, t .chunks, p .chunks);
+        }

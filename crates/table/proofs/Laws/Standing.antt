@@ -1,0 +1,135 @@
+-- Blocks read back from bytes, one at a time: what a search found stands there. Assumes nothing.
+use mathlib.Core.Path.{_≡_, refl, sym, ap, _∙_, subst}
+use mathlib.Core.Bool.{Bool, true, false, _&&_, cond, true≢false, false≢true}
+use mathlib.Core.List.{List, [], _∷_}
+use Prim.Native.Nat.{ℕ, zero, suc, _+_, _*_, _%_, _≤_, _<_}
+use native.Mathlib.Nat.{mod-lt, suc-mul, add-comm, zero-mul, add-assoc}
+use native.Mathlib.Omega.{arith}
+use borrow.Author.Tests.{ne-eqb, eqb-true}
+use lib.Dec.{eqb}
+use lib.ListN.{getD, take, drop, List·getD-map}
+use lib.Seq.{drop-drop}
+use Rattle.placement.specs.Numbers.{field, rows-in}
+use Rattle.placement.specs.Header.{block-long}
+use Rattle.placement.specs.Blocks.{empty, holds}
+use Rattle.placement.specs.Chunks.{Chunk}
+use Rattle.placement.specs.Parts.{block-in}
+use Rattle.placement.specs.Decode.{node-in, nodes-from, chunk-of, block-of, cut, blocks-in}
+use Rattle.placement.specs.Place.{label-in, same-label, passes-label, probe, search-in, home-of, found-at}
+use Rattle.placement.specs.declared.Sizes.{Sizes}
+use Rattle.placement.specs.declared.Order.{Order}
+use Rattle.placement.specs.declared.Label.{Label}
+use Rattle.placement.specs.declared.Found.{Found}
+use Rattle.placement.specs.declared.Found.the-variants.{At, Nothing}
+use Rattle.placement.proofs.Laws.Sizes.{and-parts}
+use Rattle.placement.proofs.Laws.Numbers.{field-drop, field-part}
+use Rattle.placement.proofs.Laws.Parts.{getD-part}
+use Rattle.placement.proofs.Laws.Cells.{head-label, label-cell}
+use Rattle.placement.proofs.Laws.Bridge.{label-of}
+use Rattle.table.specs.Walk.{spot, chunk-spot, count-in}
+use Rattle.table.proofs.Laws.Came.{chunk-read}
+
+-- ---- A BLOCK of the table
+
+cut-at : (w m i : ℕ) (l : List ℕ) → i < m → getD (cut w m l) i [] ≡ take w (drop (i * w) l)
+unfolding rows-in
+cut-at w zero i l h = absurd (omega arith)
+cut-at w (suc m) zero l h = rw (zero-mul w)
+cut-at w (suc m) (suc i) l h = cut-at w m i (drop w l) (omega arith) ∙ rw (drop-drop, suc-mul i w, add-comm (i * w) w)
+
+pub block-at : (s : Sizes) (bs : List ℕ) (i : ℕ) → i < s .blocks → getD (blocks-in s bs) i empty ≡ block-of (block-in (block-long s) bs i)
+unfolding blocks-in block-in block-of
+block-at s bs i h =
+    List·getD-map block-of (cut (block-long s) (s .blocks) (drop 53 bs)) i []
+    ∙ ap block-of (cut-at (block-long s) (s .blocks) i (drop 53 bs) h ∙ ap (take (block-long s)) (drop-drop (i * block-long s) 53 bs))
+
+-- its nodes, by the places in the whole table
+node-part : (k w a : ℕ) (bs : List ℕ) → k + 12 ≤ w → node-in (drop k (take w (drop a bs))) ≡ node-in (drop (a + k) bs)
+unfolding node-in
+node-part k w a bs h =
+    let one : (n : ℕ) → n + 4 ≤ 12 → field n 4 (drop k (take w (drop a bs))) ≡ field n 4 (drop (a + k) bs) =
+    λ n g. field-drop n 4 k (take w (drop a bs)) ∙ field-part (k + n) 4 w a bs (omega arith) ∙ ap (λ (z : ℕ). field z 4 bs) (sym (add-assoc a k n)) ∙ sym (field-drop n 4 (a + k) bs) in
+    let p = one 0 (omega arith) in
+    let q = one 4 (omega arith) in
+    let r = one 8 (omega arith) in
+    λ i. record { key = p i; total = q i; displayed = r i }
+
+pub nodes-part : (n k w a : ℕ) (bs : List ℕ) → k + 12 * n ≤ w → nodes-from n (drop k (take w (drop a bs))) ≡ nodes-from n (drop (a + k) bs)
+unfolding rows-in
+nodes-part zero k w a bs h = refl
+nodes-part (suc n) k w a bs h =
+    let p = node-part k w a bs (omega arith) in
+    let q : nodes-from n (drop 12 (drop k (take w (drop a bs)))) ≡ nodes-from n (drop 12 (drop (a + k) bs)) =
+    ap (nodes-from n) (drop-drop 12 k (take w (drop a bs))) ∙ nodes-part n (k + 12) w a bs (omega arith) ∙ ap (nodes-from n) (ap (λ (z : ℕ). drop z bs) (sym (add-assoc a k 12)) ∙ sym (drop-drop 12 (a + k) bs)) in
+    λ i. p i ∷ q i
+
+-- a block that says at most B nodes: its chunk is its label and the nodes that the walk reads
+pub chunk-says : (s : Sizes) (bs : List ℕ) (b : ℕ) → count-in (block-long s) bs b ≤ s .nodes → chunk-of (block-in (block-long s) bs b)
+    ≡ record { level = label-in (block-long s) bs b .level; first = label-in (block-long s) bs b .first; number = label-in (block-long s) bs b .number; nodes = chunk-read s bs b }
+unfolding chunk-of chunk-read block-in count-in block-long head-label
+chunk-says s bs b h =
+    let w = 8 + 12 * s .nodes in
+    let a = 53 + b * w in
+    let e = label-cell w bs b (omega arith) in
+    let c : getD (take w (drop a bs)) 1 0 ≡ getD bs (a + 1) 0 = getD-part w a bs 1 (omega arith) in
+    let n : nodes-from (getD (take w (drop a bs)) 1 0) (drop 8 (take w (drop a bs))) ≡ nodes-from (getD bs (a + 1) 0) (drop (a + 8) bs) =
+    ap (λ (k : ℕ). nodes-from k (drop 8 (take w (drop a bs)))) c ∙ nodes-part (getD bs (a + 1) 0) 8 w a bs (omega arith) in
+    λ i. record { level = ap (λ (z : Label). z .level) (sym e) i; first = ap (λ (z : Label). z .first) (sym e) i; number = ap (λ (z : Label). z .number) (sym e) i; nodes = n i }
+
+pub level-says : (s : Sizes) (bs : List ℕ) (b : ℕ) → getD (block-in (block-long s) bs b) 0 0 ≡ label-in (block-long s) bs b .level
+unfolding head-label block-long
+level-says s bs b = ap (λ (z : Label). z .level) (sym (label-cell (8 + 12 * s .nodes) bs b (omega arith)))
+
+-- ---- WHAT A SEARCH FINDS has the label
+
+at-same : (a p : ℕ) → At a ≡ At p → a ≡ p
+at-same a p e = cc
+
+pub probe-at : (look : ℕ → Label) (m : ℕ) (w : Label) (pos : 0 < m) (k i p : ℕ) → probe look m w k i ≡ At p → (p < m) × (same-label (look p) w ≡ true)
+unfolding probe
+probe-at look m w pos zero i p e = absurd (true≢false cc)
+probe-at look m w pos (suc k) i p e = go (probe-at look m w pos k (suc i) p) (passes-label (look (i % m)) w) (same-label (look (i % m)) w) refl e
+  where
+    go : (probe look m w k (suc i) ≡ At p → (p < m) × (same-label (look p) w ≡ true)) → (t u : Bool) → same-label (look (i % m)) w ≡ u →
+        cond t (probe look m w k (suc i)) (cond u (At (i % m)) Nothing) ≡ At p → (p < m) × (same-label (look p) w ≡ true)
+    go ih true u q h = ih h
+    go ih false true q h =
+        let f = at-same (i % m) p h in
+        (subst (λ (z : ℕ). z < m) f (mod-lt i pos), subst (λ (z : ℕ). same-label (look z) w ≡ true) f q)
+    go ih false false q h = absurd (true≢false cc)
+
+same-is : (a b : Label) → same-label a b ≡ true → a ≡ b
+unfolding same-label
+same-is a b e =
+    let p = and-parts (eqb (a .level) (b .level)) (eqb (a .first) (b .first) && eqb (a .number) (b .number)) e in
+    let q = and-parts (eqb (a .first) (b .first)) (eqb (a .number) (b .number)) (p .1) in
+    let x = eqb-true (a .level) (b .level) (p .0) in
+    let y = eqb-true (a .first) (b .first) (q .0) in
+    let z = eqb-true (a .number) (b .number) (q .1) in
+    λ i. record { level = x i; first = y i; number = z i }
+
+-- a chunk that stands in a block, where the search for its label ends
+pub record Standing (s : Sizes) (bs : List ℕ) (c : Chunk) : Type 0 where
+  pub at : ℕ
+  pub inside : at < s .blocks
+  pub search : search-in s bs (label-of (holds c)) ≡ At at
+  pub is : getD (blocks-in s bs) at empty ≡ holds c
+
+pub standing : (s : Sizes) (bs : List ℕ) → 0 < s .blocks → (l f i : ℕ) (ns : List Order) → 0 < l → found-at (chunk-spot s bs l f i) ≡ true →
+    count-in (block-long s) bs (spot (chunk-spot s bs l f i)) ≤ s .nodes → chunk-read s bs (spot (chunk-spot s bs l f i)) ≡ ns → Standing s bs (record { level = l; first = f; number = i; nodes = ns })
+unfolding chunk-spot search-in found-at spot label-of block-of
+standing s bs pos l f i ns h e few nodes = go (chunk-spot s bs l f i) refl e few nodes
+  where
+    w : Label
+    w = record { level = l; first = f; number = i }
+
+    go : (r : Found) → chunk-spot s bs l f i ≡ r → found-at r ≡ true → count-in (block-long s) bs (spot r) ≤ s .nodes → chunk-read s bs (spot r) ≡ ns → Standing s bs (record { level = l; first = f; number = i; nodes = ns })
+    go Nothing q t few n = absurd (false≢true t)
+    go (At p) q t few n =
+        let v = probe-at (label-in (block-long s) bs) (s .blocks) w pos (s .blocks) (home-of s w) p q in
+        let z = same-is (label-in (block-long s) bs p) w (v .1) in
+        let lev : getD (block-in (block-long s) bs p) 0 0 ≡ l = level-says s bs p ∙ ap (λ (x : Label). x .level) z in
+        let b : block-of (block-in (block-long s) bs p) ≡ holds (chunk-of (block-in (block-long s) bs p)) = rw (ne-eqb (getD (block-in (block-long s) bs p) 0 0) 0 (λ y. omega (arith, y, lev))) in
+        let c : chunk-of (block-in (block-long s) bs p) ≡ record { level = l; first = f; number = i; nodes = ns } =
+        chunk-says s bs p few ∙ (λ j. record { level = z j .level; first = z j .first; number = z j .number; nodes = n j }) in
+        record { at = p; inside = v .0; search = q; is = block-at s bs p (v .0) ∙ b ∙ ap holds c }

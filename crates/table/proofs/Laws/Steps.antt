@@ -1,0 +1,125 @@
+-- Laws of what the walk's small functions give. Assumes nothing.
+use mathlib.Core.Path.{_≡_, refl, sym, _∙_}
+use mathlib.Core.Bool.{Bool, true, false, _&&_, cond, and-false}
+use mathlib.Core.List.{List}
+use Prim.Native.Nat.{ℕ, _+_, _-_, _≤_, _<_}
+use lib.Dec.{ltb, leb, eqb}
+use borrow.Author.Tests.{eq-eqb, ne-eqb, le-leb, lt-leb, le-ltb, lt-ltb}
+use native.Mathlib.Nat.{add-zero}
+use native.Mathlib.Omega.{arith}
+use Rattle.placement.specs.Numbers.{field}
+use Rattle.placement.specs.Hash.{level}
+use Rattle.placement.specs.Decode.{node-in}
+use Rattle.placement.specs.declared.Sizes.{Sizes}
+use Rattle.placement.specs.declared.Order.{Order}
+use Rattle.placement.proofs.Laws.Numbers.{field-drop}
+use Rattle.table.specs.declared.Seen.{Seen}
+use Rattle.table.specs.Walk.{node-of, wrong-seen, nothing-in, quantities-ok, belongs-in, counts, counted, enters-ok, entered-seen, ended-seen, stops-at}
+
+pub wrong-made : _≡_ {A = Seen} (record { ok = false; low = 0; orders = 0; chunks = 0 }) wrong-seen
+unfolding wrong-seen
+wrong-made = refl
+
+pub node-made : (bs : List ℕ) (a k t d : ℕ) → k ≡ field a 4 bs → t ≡ field (a + 4) 4 bs → d ≡ field (a + 8) 4 bs
+    → _≡_ {A = Order} (record { key = k; total = t; displayed = d }) (node-of bs a)
+unfolding node-of node-in
+node-made bs a k t d ek et ed = rw (ek, et, ed, field-drop 0 4 a bs, field-drop 4 4 a bs, field-drop 8 4 a bs, add-zero)
+
+module _ (l : ℕ) (n : Order) where
+  pub order-last : l ≡ 1 → (n .key ≡ 0 → ⊥) → 1 ≤ n .total → leb (n .displayed) (n .total) ≡ quantities-ok l n
+  unfolding quantities-ok
+  order-last e k t = rw (eq-eqb l 1 e, ne-eqb _ _ k, le-leb 1 (n .total) t)
+
+  pub order-none : l ≡ 1 → (n .key ≡ 0 → ⊥) → n .total < 1 → false ≡ quantities-ok l n
+  unfolding quantities-ok
+  order-none e k t = rw (eq-eqb l 1 e, ne-eqb _ _ k, lt-leb 1 (n .total) t)
+
+  pub nothing-last : n .total ≡ 0 → eqb (n .displayed) 0 ≡ nothing-in n
+  unfolding nothing-in
+  nothing-last t = rw (eq-eqb _ _ t)
+
+  pub nothing-some : (n .total ≡ 0 → ⊥) → false ≡ nothing-in n
+  unfolding nothing-in
+  nothing-some t = rw (ne-eqb _ _ t)
+
+  pub quantities-front : (q : Bool) → n .key ≡ 0 → q ≡ nothing-in n → q ≡ quantities-ok l n
+  unfolding quantities-ok
+  quantities-front q e h = h ∙ rw (eq-eqb _ _ e, and-false)
+
+  pub quantities-above : (q : Bool) → (l ≡ 1 → ⊥) → q ≡ nothing-in n → q ≡ quantities-ok l n
+  unfolding quantities-ok
+  quantities-above q e h = h ∙ rw (ne-eqb _ _ e)
+
+module _ (s : Sizes) (l f : ℕ) (o : Bool) (x : ℕ) where
+  pub belongs-first : o ≡ true → eqb x f ≡ belongs-in s l f o x
+  unfolding belongs-in
+  belongs-first e = rw e
+
+  pub belongs-front : o ≡ false → x ≡ 0 → false ≡ belongs-in s l f o x
+  unfolding belongs-in
+  belongs-front e z = rw (e, eq-eqb _ _ z)
+
+  pub belongs-level : (v : Bool) → o ≡ false → (x ≡ 0 → ⊥) → v ≡ eqb (level s x) l → v ≡ belongs-in s l f o x
+  unfolding belongs-in
+  belongs-level v e z q = rw (e, ne-eqb _ _ z) q
+
+module _ (key : ℕ) (x : Seen) (w : Seen) where
+  no : counted key x ≡ cond (x .ok && (leb (x .low) key && (ltb key 2147483647 && leb 1 (x .orders)))) (record { ok = true; low = key + 1; orders = x .orders - 1; chunks = x .chunks }) wrong-seen
+  unfolding counted counts
+  no = refl
+
+  pub count-bad : w ≡ wrong-seen → x .ok ≡ false → w ≡ counted key x
+  count-bad e h = e ∙ sym (no ∙ rw h)
+
+  pub count-low : w ≡ wrong-seen → key < x .low → w ≡ counted key x
+  count-low e h = e ∙ sym (no ∙ rw (lt-leb (x .low) key h, and-false))
+
+  pub count-high : w ≡ wrong-seen → 2147483647 ≤ key → w ≡ counted key x
+  count-high e h = e ∙ sym (no ∙ rw (le-ltb key 2147483647 h, and-false, and-false))
+
+  pub count-over : w ≡ wrong-seen → x .orders ≡ 0 → w ≡ counted key x
+  count-over e h = e ∙ sym (no ∙ rw (h, and-false, and-false, and-false))
+
+pub count-more : (key : ℕ) (x : Seen) → x .ok ≡ true → x .low ≤ key → key < 2147483647 → (x .orders ≡ 0 → ⊥)
+    → _≡_ {A = Seen} (record { ok = true; low = key + 1; orders = x .orders - 1; chunks = x .chunks }) (counted key x)
+unfolding counted counts
+count-more key x e l h n =
+    let p : 1 ≤ x .orders = omega arith in
+    rw (e, le-leb (x .low) key l, lt-ltb key 2147483647 h, le-leb 1 (x .orders) p)
+
+module _ (b n : ℕ) (x : Seen) where
+  pub enters-last : x .ok ≡ true → 1 ≤ n → n ≤ b → leb 1 (x .chunks) ≡ enters-ok b n x
+  unfolding enters-ok
+  enters-last e h g = rw (e, le-leb 1 n h, le-leb n b g)
+
+  pub enters-many : x .ok ≡ true → 1 ≤ n → b < n → false ≡ enters-ok b n x
+  unfolding enters-ok
+  enters-many e h g = rw (e, le-leb 1 n h, lt-leb n b g)
+
+  pub enters-none : x .ok ≡ true → n < 1 → false ≡ enters-ok b n x
+  unfolding enters-ok
+  enters-none e h = rw (e, lt-leb 1 n h)
+
+  pub enters-bad : x .ok ≡ false → false ≡ enters-ok b n x
+  unfolding enters-ok
+  enters-bad e = rw e
+
+  pub stops-bad : x .ok ≡ false → true ≡ stops-at b n x
+  unfolding stops-at
+  stops-bad e = rw e
+
+  pub stops-short : x .ok ≡ true → ltb n b ≡ stops-at b n x
+  unfolding stops-at
+  stops-short e = rw e
+
+pub ended-first : (i : ℕ) (x w : Seen) → w ≡ wrong-seen → i ≡ 0 → w ≡ ended-seen i x
+unfolding ended-seen
+ended-first i x w e z = rw (eq-eqb _ _ z) e
+
+pub ended-later : (i : ℕ) (x : Seen) → (i ≡ 0 → ⊥) → x ≡ ended-seen i x
+unfolding ended-seen
+ended-later i x z = rw (ne-eqb _ _ z)
+
+pub entered-made : (x : Seen) → _≡_ {A = Seen} (record { ok = x .ok; low = x .low; orders = x .orders; chunks = x .chunks - 1 }) (entered-seen x)
+unfolding entered-seen
+entered-made x = refl

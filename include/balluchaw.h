@@ -1,0 +1,64 @@
+/* Balluchaw: an open-order table in a caller's byte buffer. Its bytes depend on the open orders alone, never on how they came about.
+ *
+ * Every call is proved to do exactly what is said here, for every input. None allocates, keeps a pointer, or reads or writes outside the
+ * buffers that it is lent. A pointer may be NULL where its length is 0. A buffer that a call writes must not overlap another buffer of the
+ * same call, and nobody else may write a buffer while a call runs. Keys are order numbers.
+ *
+ * Each call answers the number of the first question that turns it down, or 0. On a refusal no lent byte changes and all other parts of the
+ * answer are 0.
+ *
+ *    1  is the seed 40 bytes, each of its ten big-endian numbers below 2,147,483,647?
+ *    2  are the sizes allowed?
+ *    3  is the table exactly of the length that the sizes ask for?
+ *    4  are the bytes an image: a table that some make, puts and cancels give?
+ *    5  is each key 1 to 2,147,483,646?
+ *    9  is the key held?
+ *   10  is lo at most hi?
+ *   11  has the output 12 bytes for each held key in lo..hi?
+ *   12  is there an order in lo..hi with total - displayed at least the reserve?
+ */
+#ifndef BALLUCHAW_H
+#define BALLUCHAW_H
+
+#include <stddef.h>
+#include <stdint.h>
+
+#ifdef __cplusplus
+extern "C" {
+#endif
+
+/* The answer of a reading. The caller owns it. */
+typedef struct {
+    uint32_t number;    /* 0, or the number of the question that turned the call down */
+    uint32_t key;       /* lookup, seek: the order's number */
+    uint32_t total;     /* lookup, seek: its total quantity; span: how many orders were written */
+    uint32_t displayed; /* lookup, seek: its displayed quantity */
+} balluchaw_reply;
+
+/* The bytes of a table of these sizes: the length that make asks for. */
+#define BALLUCHAW_LENGTH(nodes, blocks) ((size_t)53 + (size_t)(blocks) * (8 + 12 * (size_t)(nodes)))
+
+/* Makes a table without orders in a buffer. gamma 2..64; nodes in a block 2..32; most orders 1..65,535; blocks at least beta, at most
+ * 65,535, where beta is 2 and the smallest e with gamma^e at least orders. The seed is 40 bytes; it is read only.
+ * Asks 1, 2, 3. On success every byte of the table is overwritten. */
+uint32_t balluchaw_make(uint8_t *table, size_t length, uint32_t gamma, uint32_t nodes, uint32_t orders, uint32_t blocks,
+                        const uint8_t *seed, size_t seed_length);
+
+/* Are these bytes a table, whoever made them? Asks 4. */
+uint32_t balluchaw_check(const uint8_t *table, size_t length);
+
+/* The quantities of an order. Asks 4, 5, 9. */
+balluchaw_reply balluchaw_lookup(const uint8_t *table, size_t length, uint32_t key);
+
+/* The orders with keys in lo..hi, by rising key: key, total, displayed, four bytes each, big-endian, from the output's front on. Bytes of
+ * the output beyond them keep their values. Asks 4, 5, 10, 11. */
+balluchaw_reply balluchaw_span(const uint8_t *table, size_t length, uint32_t lo, uint32_t hi, uint8_t *output, size_t output_length);
+
+/* Some order in lo..hi whose total less its displayed quantity is at least the reserve. Asks 4, 5, 10, 12. */
+balluchaw_reply balluchaw_seek(const uint8_t *table, size_t length, uint32_t lo, uint32_t hi, uint32_t reserve);
+
+#ifdef __cplusplus
+}
+#endif
+
+#endif
