@@ -14,11 +14,10 @@ pub struct Book {
 
 impl Book {
     pub fn new(made: Made) -> Book {
-        Book { made, orders: Orders::new() }
-    }
-
-    pub fn made(&self) -> &Made {
-        &self.made
+        Book {
+            made,
+            orders: Orders::new(),
+        }
     }
 
     /// The set of orders now.
@@ -31,9 +30,12 @@ impl Book {
     /// number of the question that turns it down, or 0.
     pub fn put(&mut self, key: u32, total: u32, displayed: u32) -> u32 {
         let questions = [
-            (5, 1 <= key && key <= P - 1),
+            (5, (1..=P - 1).contains(&key)),
             (6, total >= 1 && displayed <= total),
-            (7, self.orders.contains_key(&key) || self.n() < self.made.sizes.orders),
+            (
+                7,
+                self.orders.contains_key(&key) || self.n() < self.made.sizes.orders,
+            ),
         ];
         let refusal = first_no(&questions);
         if refusal != 0 {
@@ -53,7 +55,7 @@ impl Book {
     /// order goes."
     pub fn cancel(&mut self, key: u32) -> u32 {
         let questions = [
-            (5, 1 <= key && key <= P - 1),
+            (5, (1..=P - 1).contains(&key)),
             (9, self.orders.contains_key(&key)),
         ];
         let refusal = first_no(&questions);

@@ -19,7 +19,10 @@ pub struct Reply {
 
 impl Reply {
     pub fn refused(number: u32) -> Reply {
-        Reply { number, ..Reply::default() }
+        Reply {
+            number,
+            ..Reply::default()
+        }
     }
 
     pub fn done() -> Reply {
@@ -28,11 +31,19 @@ impl Reply {
 
     pub fn order(key: u32, quantities: &Quantities) -> Reply {
         let Quantities { total, displayed } = *quantities;
-        Reply { number: 0, key, total, displayed }
+        Reply {
+            number: 0,
+            key,
+            total,
+            displayed,
+        }
     }
 
     pub fn count(count: usize) -> Reply {
-        Reply { total: count as u32, ..Reply::default() }
+        Reply {
+            total: count as u32,
+            ..Reply::default()
+        }
     }
 }
 
@@ -45,7 +56,12 @@ pub fn make(
     seed: &[u8],
     table: &mut [u8],
 ) -> Reply {
-    let sizes = Sizes { gamma, nodes, orders, blocks };
+    let sizes = Sizes {
+        gamma,
+        nodes,
+        orders,
+        blocks,
+    };
     let Some(seed) = Seed::from_bytes(seed) else {
         return Reply::refused(1);
     };

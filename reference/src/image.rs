@@ -100,7 +100,11 @@ fn write_block(sizes: &Sizes, chunk: Option<&Chunk>, bytes: &mut Vec<u8>) {
 /// has no others.
 fn write_node(level: u32, key: u32, quantities: Quantities, bytes: &mut Vec<u8>) {
     let Quantities { total, displayed } = quantities;
-    let numbers = if level == 1 { [key, total, displayed] } else { [key, 0, 0] };
+    let numbers = if level == 1 {
+        [key, total, displayed]
+    } else {
+        [key, 0, 0]
+    };
     for number in numbers {
         bytes.extend(number.to_be_bytes());
     }
@@ -128,7 +132,10 @@ impl Block<'_> {
         let places = self.bytes[BLOCK_HEAD..].chunks_exact(NODE);
         places.take(self.count as usize).map(|bytes| Node {
             key: number_at(bytes, 0),
-            quantities: Quantities { total: number_at(bytes, 4), displayed: number_at(bytes, 8) },
+            quantities: Quantities {
+                total: number_at(bytes, 4),
+                displayed: number_at(bytes, 8),
+            },
         })
     }
 }
@@ -149,7 +156,10 @@ fn read_block(bytes: &[u8]) -> Option<Block<'_>> {
 
 /// Blocks 0..M−1 of a table of the right length.
 fn read_blocks<'a>(sizes: &Sizes, table: &'a [u8]) -> Vec<Option<Block<'a>>> {
-    table[HEADER..].chunks_exact(sizes.block_length()).map(read_block).collect()
+    table[HEADER..]
+        .chunks_exact(sizes.block_length())
+        .map(read_block)
+        .collect()
 }
 
 /// The blocks of a table for showing them; None where rule 1 fails.
@@ -185,9 +195,15 @@ pub fn is_image(table: &[u8]) -> bool {
 pub fn held(table: &[u8]) -> Option<(Made, Orders)> {
     let Header { made, held } = rule_1(table)?;
     let blocks = read_blocks(&made.sizes, table);
-    let orders = level_1_orders(&blocks)?;
-    let labels: Vec<_> = blocks.iter().map(|block| block.map(|block| block.label)).collect();
-    let obeyed = orders.len() == held && rule_2(&made, &orders, &blocks) && rule_3(&made, &labels);
+    let orders = level_1_orders(&blocks);
+    let labels: Vec<_> = blocks
+        .iter()
+        .map(|block| block.map(|block| block.label))
+        .collect();
+    let obeyed = orders.len() == held
+        && are_orders(&orders)
+        && rule_2(&made, &orders, &blocks)
+        && rule_3(&made, &labels);
     obeyed.then_some((made, orders))
 }
 
@@ -209,26 +225,30 @@ fn rule_1(table: &[u8]) -> Option<Header> {
         && length == made.sizes.length()
         && length == table.len()
         && held <= made.sizes.orders;
-    obeyed.then_some(Header { made, held: held as usize })
+    obeyed.then_some(Header {
+        made,
+        held: held as usize,
+    })
 }
 
-/// The orders in the blocks of level 1. L_1 has all keys, so rule 2 can hold for
-/// no other set. None when one is no order or two have the same key.
-fn level_1_orders(blocks: &[Option<Block>]) -> Option<Orders> {
-    let level_1 = blocks.iter().flatten().filter(|block| block.label.level == 1);
-    let nodes: Vec<Node> =
-        level_1.flat_map(Block::nodes).filter(|node| node.key != FRONT).collect();
-    let count = nodes.len();
-    let orders = orders_of(nodes.into_iter());
-    (orders.len() == count && are_orders(&orders)).then_some(orders)
-}
-
-fn orders_of(nodes: impl Iterator<Item = Node>) -> Orders {
+/// What stands in the blocks of level 1 beside the front. L_1 has all keys, so
+/// rule 2 can hold for no other set; nor can it if a key stands there twice.
+fn level_1_orders(blocks: &[Option<Block>]) -> Orders {
+    let level_1 = blocks
+        .iter()
+        .flatten()
+        .filter(|block| block.label.level == 1);
+    let nodes = level_1
+        .flat_map(Block::nodes)
+        .filter(|node| node.key != FRONT);
     nodes.map(|node| (node.key, node.quantities)).collect()
 }
 
+/// "key 1..p−1, total 1..4,294,967,295, displayed 0..total", all of them.
 fn are_orders(orders: &Orders) -> bool {
-    orders.iter().all(|(&key, order)| is_key(key) && are_quantities(order.total, order.displayed))
+    orders
+        .iter()
+        .all(|(&key, order)| is_key(key) && are_quantities(order.total, order.displayed))
 }
 
 /// "The non-empty blocks, in the byte form above, are exactly the chunks of the
@@ -254,12 +274,17 @@ fn rule_2(made: &Made, orders: &Orders, blocks: &[Option<Block>]) -> bool {
 /// the blocks, None for an empty one.
 pub fn rule_3(made: &Made, labels: &[Option<Label>]) -> bool {
     // An empty block holds no smaller label, so it counts as above them all.
-    let ranks: Vec<u64> =
-        labels.iter().map(|label| label.as_ref().map_or(u64::MAX, Label::rank)).collect();
+    let ranks: Vec<u64> = labels
+        .iter()
+        .map(|label| label.as_ref().map_or(u64::MAX, Label::rank))
+        .collect();
     labels.iter().enumerate().all(|(block, label)| match label {
         Some(label) => {
             let (before_end, from_0) = going_round(&ranks, home(made, label), block);
-            before_end.iter().chain(from_0).all(|&passed| passed < label.rank())
+            before_end
+                .iter()
+                .chain(from_0)
+                .all(|&passed| passed < label.rank())
         }
         None => true,
     })
@@ -280,13 +305,13 @@ fn going_round<T>(blocks: &[T], start: usize, end: usize) -> (&[T], &[T]) {
 /// Whether the bytes are the image of the orders that can be read from them. It
 /// says the same as `is_image`, since one arrangement alone obeys rule 3.
 pub fn is_image_by_rebuilding(table: &[u8]) -> bool {
-    let Some(made) = read_made(table) else { return false };
+    let Some(made) = read_made(table) else {
+        return false;
+    };
     if !made.sizes.allowed() || made.sizes.length() != table.len() {
         return false;
     }
-    let blocks = read_blocks(&made.sizes, table);
-    let level_1 = blocks.iter().flatten().filter(|block| block.label.level == 1);
-    let orders = orders_of(level_1.flat_map(Block::nodes).filter(|node| node.key != FRONT));
+    let orders = level_1_orders(&read_blocks(&made.sizes, table));
     are_orders(&orders)
         && orders.len() <= made.sizes.orders as usize
         && image(&made, &orders).as_deref() == Some(table)

@@ -57,15 +57,30 @@ pub fn lists(made: &Made, orders: &Orders) -> Vec<List> {
 
 /// The front and all held keys, rising.
 fn all_elements(made: &Made, orders: &Orders) -> List {
-    let element = |key, quantities| Element { key, quantities, level: made.level(key) };
-    let front = element(FRONT, Quantities { total: 0, displayed: 0 });
-    let held = orders.iter().map(|(&key, &quantities)| element(key, quantities));
+    let element = |key, quantities| Element {
+        key,
+        quantities,
+        level: made.level(key),
+    };
+    let front = element(
+        FRONT,
+        Quantities {
+            total: 0,
+            displayed: 0,
+        },
+    );
+    let held = orders
+        .iter()
+        .map(|(&key, &quantities)| element(key, quantities));
     std::iter::once(front).chain(held).collect()
 }
 
 /// L_k, "the rising list of the front and all held keys of level k or more".
 fn list(all: &[Element], k: u32) -> List {
-    all.iter().filter(|element| element.level >= k).copied().collect()
+    all.iter()
+        .filter(|element| element.level >= k)
+        .copied()
+        .collect()
 }
 
 /// "For k < β a partition of L_k starts at each element that is also in
@@ -81,7 +96,11 @@ fn cut<'a>(made: &Made, level: u32, partition: &'a [Element]) -> impl Iterator<I
     let first_key = partition[0].key;
     let pieces = partition.chunks(made.sizes.nodes as usize);
     (0..).zip(pieces).map(move |(chunk_number, nodes)| Chunk {
-        label: Label { level, first_key, chunk_number },
+        label: Label {
+            level,
+            first_key,
+            chunk_number,
+        },
         nodes,
     })
 }

@@ -37,12 +37,30 @@ pub fn run(mut input: impl BufRead, mut output: impl Write) -> io::Result<()> {
 
 /// A line that asks for something.
 enum Line {
-    Make { sizes: Sizes, seed: Vec<u8> },
-    Put { key: u32, total: u32, displayed: u32 },
-    Cancel { key: u32 },
-    Show { key: u32 },
-    Span { lo: u32, hi: u32 },
-    Seek { lo: u32, hi: u32, r: u32 },
+    Make {
+        sizes: Sizes,
+        seed: Vec<u8>,
+    },
+    Put {
+        key: u32,
+        total: u32,
+        displayed: u32,
+    },
+    Cancel {
+        key: u32,
+    },
+    Show {
+        key: u32,
+    },
+    Span {
+        lo: u32,
+        hi: u32,
+    },
+    Seek {
+        lo: u32,
+        hi: u32,
+        r: u32,
+    },
     Blocks,
 }
 
@@ -54,12 +72,24 @@ fn read_line(line: &[u8]) -> Option<Line> {
     let fields = parts.map(field).collect::<Option<Vec<u32>>>()?;
     match (word, fields.as_slice()) {
         (b"make", &[gamma, nodes, orders, blocks, ref seed @ ..]) if seed.len() == 10 => {
-            let sizes = Sizes { gamma, nodes, orders, blocks };
-            let seed = seed.iter().flat_map(|number| number.to_be_bytes()).collect();
+            let sizes = Sizes {
+                gamma,
+                nodes,
+                orders,
+                blocks,
+            };
+            let seed = seed
+                .iter()
+                .flat_map(|number| number.to_be_bytes())
+                .collect();
             let too_long = sizes.allowed() && sizes.length() > BUFFER;
             (!too_long).then_some(Line::Make { sizes, seed })
         }
-        (b"put", &[key, total, displayed]) => Some(Line::Put { key, total, displayed }),
+        (b"put", &[key, total, displayed]) => Some(Line::Put {
+            key,
+            total,
+            displayed,
+        }),
         (b"cancel", &[key]) => Some(Line::Cancel { key }),
         (b"show", &[key]) => Some(Line::Show { key }),
         (b"span", &[lo, hi]) => Some(Line::Span { lo, hi }),
@@ -91,7 +121,10 @@ struct Console {
 impl Console {
     /// "Before a successful make the table has length 0".
     fn new() -> Console {
-        Console { table: Vec::new(), found: vec![0; BUFFER] }
+        Console {
+            table: Vec::new(),
+            found: vec![0; BUFFER],
+        }
     }
 
     fn answer(&mut self, line: &Line, output: &mut impl Write) -> io::Result<()> {
@@ -100,7 +133,11 @@ impl Console {
                 let number = self.make(&sizes, seed);
                 writeln!(output, "{number}")
             }
-            Line::Put { key, total, displayed } => {
+            Line::Put {
+                key,
+                total,
+                displayed,
+            } => {
                 let reply = calls::put(&mut self.table, key, total, displayed);
                 writeln!(output, "{}", reply.number)
             }
@@ -109,7 +146,12 @@ impl Console {
                 writeln!(output, "{}", reply.number)
             }
             Line::Show { key } => {
-                let Reply { number, total, displayed, .. } = calls::lookup(&self.table, key);
+                let Reply {
+                    number,
+                    total,
+                    displayed,
+                    ..
+                } = calls::lookup(&self.table, key);
                 match number {
                     0 => writeln!(output, "0 {total} {displayed}"),
                     _ => writeln!(output, "{number}"),
@@ -117,7 +159,12 @@ impl Console {
             }
             Line::Span { lo, hi } => self.span(lo, hi, output),
             Line::Seek { lo, hi, r } => {
-                let Reply { number, key, total, displayed } = calls::seek(&self.table, lo, hi, r);
+                let Reply {
+                    number,
+                    key,
+                    total,
+                    displayed,
+                } = calls::seek(&self.table, lo, hi, r);
                 match number {
                     0 => writeln!(output, "0 {key} {total} {displayed}"),
                     _ => writeln!(output, "{number}"),
@@ -131,7 +178,12 @@ impl Console {
     fn make(&mut self, sizes: &Sizes, seed: &[u8]) -> u32 {
         let length = if sizes.allowed() { sizes.length() } else { 0 };
         let mut table = vec![0; length];
-        let Sizes { gamma, nodes, orders, blocks } = *sizes;
+        let Sizes {
+            gamma,
+            nodes,
+            orders,
+            blocks,
+        } = *sizes;
         let reply = calls::make(gamma, nodes, orders, blocks, seed, &mut table);
         if reply.number == 0 {
             self.table = table;
@@ -173,8 +225,17 @@ impl Console {
 /// Level, chunk number, first key, count, and the keys.
 fn shown(block: &Block) -> String {
     let label = &block.label;
-    let head = [label.level, label.chunk_number, label.first_key, block.count];
+    let head = [
+        label.level,
+        label.chunk_number,
+        label.first_key,
+        block.count,
+    ];
     let keys = block.nodes().map(|node| node.key);
-    let fields: Vec<String> = head.into_iter().chain(keys).map(|n| n.to_string()).collect();
+    let fields: Vec<String> = head
+        .into_iter()
+        .chain(keys)
+        .map(|n| n.to_string())
+        .collect();
     fields.join(" ")
 }

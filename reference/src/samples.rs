@@ -9,13 +9,13 @@ impl Xorshift {
     pub fn new(start: u64) -> Xorshift {
         let mut generator = Xorshift(start.wrapping_mul(0x9e37_79b9_7f4a_7c15) | 1);
         for _ in 0..8 {
-            generator.next();
+            generator.draw();
         }
         generator
     }
 
     /// The next 32 bits.
-    pub fn next(&mut self) -> u32 {
+    pub fn draw(&mut self) -> u32 {
         self.0 ^= self.0 << 13;
         self.0 ^= self.0 >> 7;
         self.0 ^= self.0 << 17;
@@ -24,13 +24,13 @@ impl Xorshift {
 
     /// A number below the bound, which is at least 1.
     pub fn below(&mut self, bound: u32) -> u32 {
-        self.next() % bound
+        self.draw() % bound
     }
 
     /// A number in low..=high.
     pub fn within(&mut self, low: u32, high: u32) -> u32 {
         let width = u64::from(high) - u64::from(low) + 1;
-        low + (u64::from(self.next()) % width) as u32
+        low + (u64::from(self.draw()) % width) as u32
     }
 
     pub fn one_in(&mut self, times: u32) -> bool {
@@ -54,22 +54,34 @@ pub const EDGE_KEYS: [u32; 5] = [0, 1, P - 1, P, u32::MAX];
 
 /// h(x) = g(x) = 0: every key has level β.
 pub fn zero_seed() -> Seed {
-    Seed { a: [0; 5], b: [0; 5] }
+    Seed {
+        a: [0; 5],
+        b: [0; 5],
+    }
 }
 
 /// h(x) = g(x) = x, the seed of the document's run.
 pub fn identity_seed() -> Seed {
-    Seed { a: [0, 1, 0, 0, 0], b: [0, 1, 0, 0, 0] }
+    Seed {
+        a: [0, 1, 0, 0, 0],
+        b: [0, 1, 0, 0, 0],
+    }
 }
 
 /// h and g constant: all keys have one level, and homes hardly differ.
 pub fn constant_seed(h: u32, g: u32) -> Seed {
-    Seed { a: [h, 0, 0, 0, 0], b: [g, 0, 0, 0, 0] }
+    Seed {
+        a: [h, 0, 0, 0, 0],
+        b: [g, 0, 0, 0, 0],
+    }
 }
 
 pub fn random_seed(generator: &mut Xorshift) -> Seed {
     let mut number = |_| generator.below(P);
-    Seed { a: std::array::from_fn(&mut number), b: std::array::from_fn(&mut number) }
+    Seed {
+        a: std::array::from_fn(&mut number),
+        b: std::array::from_fn(&mut number),
+    }
 }
 
 /// One of the kinds above.
@@ -78,7 +90,10 @@ pub fn some_seed(generator: &mut Xorshift) -> Seed {
         0 => zero_seed(),
         1 => identity_seed(),
         2 => constant_seed(generator.below(P), generator.below(P)),
-        3 => Seed { a: [1, 1, 0, 0, 0], b: [P - 1; 5] },
+        3 => Seed {
+            a: [1, 1, 0, 0, 0],
+            b: [P - 1; 5],
+        },
         _ => random_seed(generator),
     }
 }

@@ -26,7 +26,7 @@ pub struct Sizes {
 }
 
 impl Sizes {
-    /// "γ 2..64; B 2..32; N 1..65,535; M β..65,535".
+    /// γ 2..64, B 2..32, N 1..65,535, M β..65,535.
     pub fn allowed(&self) -> bool {
         // β has a meaning only once γ and N are in range.
         (2..=64).contains(&self.gamma)
@@ -57,7 +57,7 @@ impl Sizes {
     }
 }
 
-/// a0..a4 and b0..b4, "each below p".
+/// a0..a4 and b0..b4, "each four bytes big-endian and below p".
 #[derive(Clone, Copy, Debug, PartialEq, Eq)]
 pub struct Seed {
     pub a: [u32; 5],
@@ -78,7 +78,7 @@ impl Seed {
         seed.numbers().all(|n| n < P).then_some(seed)
     }
 
-    /// The 40 bytes, "each four bytes big-endian".
+    /// The 40 bytes.
     pub fn bytes(&self) -> Vec<u8> {
         self.numbers().flat_map(u32::to_be_bytes).collect()
     }
@@ -115,7 +115,7 @@ impl Made {
         }
         let mut j = 0;
         let mut rest = self.seed.h(key); // h(x) / γ^j; 0 can be divided for ever
-        while j < beta - 1 && rest % self.sizes.gamma == 0 {
+        while j < beta - 1 && rest.is_multiple_of(self.sizes.gamma) {
             j += 1;
             rest /= self.sizes.gamma;
         }

@@ -57,7 +57,9 @@ fn the_console_on_many_lines() {
 // ---- vectors ---------------------------------------------------------------
 
 fn vectors(lines: usize) -> String {
-    let output = Command::new(env!("CARGO_BIN_EXE_vectors")).arg(lines.to_string()).output();
+    let output = Command::new(env!("CARGO_BIN_EXE_vectors"))
+        .arg(lines.to_string())
+        .output();
     let output = output.expect("the program starts");
     assert!(output.status.success());
     String::from_utf8(output.stdout).unwrap()
@@ -118,7 +120,12 @@ impl Reader {
         let (asked, answer) = line.split_once(" = ").expect("a call has an answer");
         let asked: Vec<&str> = asked.split(' ').collect();
         let (reply, output) = self.ask(&asked);
-        let Reply { number, key, total, displayed } = reply;
+        let Reply {
+            number,
+            key,
+            total,
+            displayed,
+        } = reply;
         let store = fnv_1a(&self.store);
         let mut found = format!("{number} {key} {total} {displayed} {store:016x}");
         if asked[0] == "span" {
@@ -173,7 +180,9 @@ fn vectors_can_be_read() {
     let text = vectors(4000);
     let mut reader = Reader::default();
     text.lines().for_each(|line| reader.line(line));
-    let words = ["room", "xor", "set", "make", "check", "put", "cancel", "lookup", "span", "seek"];
+    let words = [
+        "room", "xor", "set", "make", "check", "put", "cancel", "lookup", "span", "seek",
+    ];
     for word in words {
         let times = reader.words.get(word).copied().unwrap_or(0);
         assert!(times >= 15, "{word}: {times}");
@@ -186,6 +195,11 @@ fn vectors_can_be_read() {
     assert!(reader.odd_seeds >= 5);
     for key in ["0", "1", "2147483646", "2147483647", "4294967295"] {
         let puts = text.lines().filter(|line| line.starts_with("put "));
-        assert!(puts.filter(|line| line.split(' ').nth(2) == Some(key)).count() >= 3, "{key}");
+        assert!(
+            puts.filter(|line| line.split(' ').nth(2) == Some(key))
+                .count()
+                >= 3,
+            "{key}"
+        );
     }
 }

@@ -27,7 +27,15 @@ fn refused(table: &[u8], call: impl Fn(&mut [u8]) -> Reply) -> u32 {
     let mut copy = table.to_vec();
     let reply = call(&mut copy);
     assert_ne!(reply.number, 0);
-    assert_eq!(reply, Reply { number: reply.number, key: 0, total: 0, displayed: 0 });
+    assert_eq!(
+        reply,
+        Reply {
+            number: reply.number,
+            key: 0,
+            total: 0,
+            displayed: 0
+        }
+    );
     assert_eq!(copy, table);
     reply.number
 }
@@ -44,9 +52,13 @@ fn make_asks_in_order() {
         assert_eq!(refused(&wrong_length, |t| make(1, 2, 2, 4, seed, t)), 1);
         assert_eq!(refused(&length, |t| make(2, 2, 2, 4, seed, t)), 1);
     }
-    for (gamma, nodes, orders, blocks) in
-        [(1, 2, 2, 4), (2, 33, 2, 4), (2, 2, 0, 4), (2, 2, 2, 2), (2, 2, 2, 65_536)]
-    {
+    for (gamma, nodes, orders, blocks) in [
+        (1, 2, 2, 4),
+        (2, 33, 2, 4),
+        (2, 2, 0, 4),
+        (2, 2, 2, 2),
+        (2, 2, 2, 65_536),
+    ] {
         let call = |table: &mut [u8]| make(gamma, nodes, orders, blocks, &seed, table);
         assert_eq!(refused(&wrong_length, call), 2);
         assert_eq!(refused(&length, call), 2);
@@ -104,8 +116,24 @@ fn put_replaces() {
     let mut table = full_table();
     for (total, displayed) in [(1, 0), (u32::MAX, u32::MAX), (7, 7)] {
         assert_eq!(put(&mut table, 6, total, displayed), Reply::done());
-        assert_eq!(lookup(&table, 6), Reply { number: 0, key: 6, total, displayed });
-        assert_eq!(lookup(&table, 3), Reply { number: 0, key: 3, total: 100, displayed: 20 });
+        assert_eq!(
+            lookup(&table, 6),
+            Reply {
+                number: 0,
+                key: 6,
+                total,
+                displayed
+            }
+        );
+        assert_eq!(
+            lookup(&table, 3),
+            Reply {
+                number: 0,
+                key: 3,
+                total: 100,
+                displayed: 20
+            }
+        );
     }
     assert_eq!(put(&mut table, 6, 50, 50), Reply::done());
     assert_eq!(table, full_table());
@@ -126,7 +154,15 @@ fn cancel_and_lookup_ask_in_order() {
     let mut table = full;
     assert_eq!(cancel(&mut table, 6), Reply::done());
     assert_eq!(refused(&table, |t| cancel(t, 6)), 9);
-    assert_eq!(lookup(&table, 3), Reply { number: 0, key: 3, total: 100, displayed: 20 });
+    assert_eq!(
+        lookup(&table, 3),
+        Reply {
+            number: 0,
+            key: 3,
+            total: 100,
+            displayed: 20
+        }
+    );
 }
 
 #[test]
@@ -143,7 +179,15 @@ fn span_asks_in_order() {
         number
     };
     assert_eq!(ask(&damaged_table(), 0, 0, 0), 4);
-    for (lo, hi) in [(0, 5), (5, 0), (P, 5), (5, P), (0, 0), (P, P), (u32::MAX, 1)] {
+    for (lo, hi) in [
+        (0, 5),
+        (5, 0),
+        (P, 5),
+        (5, P),
+        (0, 0),
+        (P, P),
+        (u32::MAX, 1),
+    ] {
         assert_eq!(ask(&full, lo, hi, 0), 5, "{lo} {hi}");
     }
     assert_eq!(ask(&full, 7, 2, 0), 10);
@@ -185,12 +229,20 @@ fn seek_asks_in_order() {
 /// Of the orders that fit, the lowest key is given.
 #[test]
 fn seek_gives_the_lowest_key() {
-    let made = Made { sizes: sizes(2, 4, 10, 60), ..document() };
+    let made = Made {
+        sizes: sizes(2, 4, 10, 60),
+        ..document()
+    };
     let mut table = made_table(&made);
     for (key, total, displayed) in [(9, 10, 0), (2, 5, 5), (4, 30, 10), (7, 20, 0)] {
         assert_eq!(put(&mut table, key, total, displayed), Reply::done());
     }
-    let order = |key, total, displayed| Reply { number: 0, key, total, displayed };
+    let order = |key, total, displayed| Reply {
+        number: 0,
+        key,
+        total,
+        displayed,
+    };
     assert_eq!(seek(&table, 1, P - 1, 0), order(2, 5, 5));
     assert_eq!(seek(&table, 1, P - 1, 1), order(4, 30, 10));
     assert_eq!(seek(&table, 1, P - 1, 20), order(4, 30, 10));
@@ -205,7 +257,12 @@ fn seek_gives_the_lowest_key() {
 fn seek_reaches_the_largest_r() {
     let mut table = made_table(&document());
     put(&mut table, 3, u32::MAX, 0);
-    let found = Reply { number: 0, key: 3, total: u32::MAX, displayed: 0 };
+    let found = Reply {
+        number: 0,
+        key: 3,
+        total: u32::MAX,
+        displayed: 0,
+    };
     assert_eq!(seek(&table, 3, 3, u32::MAX), found);
     put(&mut table, 3, u32::MAX, 1);
     assert_eq!(seek(&table, 3, 3, u32::MAX), Reply::refused(12));
@@ -214,12 +271,25 @@ fn seek_reaches_the_largest_r() {
 /// The largest sizes of all, and the length field of such a table.
 #[test]
 fn the_largest_table() {
-    let sizes = Sizes { gamma: 64, nodes: 32, orders: 65_535, blocks: 65_535 };
-    let made = Made { sizes, seed: identity_seed() };
+    let sizes = Sizes {
+        gamma: 64,
+        nodes: 32,
+        orders: 65_535,
+        blocks: 65_535,
+    };
+    let made = Made {
+        sizes,
+        seed: identity_seed(),
+    };
     let mut table = made_table(&made);
     assert_eq!(table.len(), 53 + 65_535 * (8 + 12 * 32));
     assert_eq!(table[1..5], (table.len() as u32).to_be_bytes());
     assert_eq!(put(&mut table, P - 1, u32::MAX, 1), Reply::done());
-    let found = Reply { number: 0, key: P - 1, total: u32::MAX, displayed: 1 };
+    let found = Reply {
+        number: 0,
+        key: P - 1,
+        total: u32::MAX,
+        displayed: 1,
+    };
     assert_eq!(lookup(&table, P - 1), found);
 }

@@ -46,7 +46,7 @@ fn every_byte_changed() {
         let mut changed = image.clone();
         for place in 0..image.len() {
             let old = image[place];
-            let random = generator.next() as u8;
+            let random = generator.draw() as u8;
             let near = [old.wrapping_add(1), old.wrapping_sub(1), old ^ 0x80, !old];
             for value in near.into_iter().chain([0, 1, 2, 0xff, random]) {
                 changed[place] = value;
@@ -138,7 +138,10 @@ fn larger_damage() {
 fn spoil(generator: &mut Xorshift, made: &Made, table: &mut [u8]) {
     let width = made.sizes.block_length();
     let blocks = made.sizes.blocks;
-    let (one, two) = (generator.below(blocks) as usize, generator.below(blocks) as usize);
+    let (one, two) = (
+        generator.below(blocks) as usize,
+        generator.below(blocks) as usize,
+    );
     let (one, two) = (53 + one * width, 53 + two * width);
     match generator.below(6) {
         0 => {
@@ -195,7 +198,7 @@ fn bytes_of_any_kind_and_length() {
     for length in 0..400 {
         assert!(!judged(&vec![0; length]));
         assert!(!judged(&vec![1; length]));
-        let random: Vec<u8> = (0..length).map(|_| generator.next() as u8).collect();
+        let random: Vec<u8> = (0..length).map(|_| generator.draw() as u8).collect();
         assert!(!judged(&random));
     }
 }
@@ -252,7 +255,10 @@ fn rule_1_parts() {
 #[test]
 fn sizes_that_change_no_block() {
     // γ = 3: N = 2 and N = 3 both give β = 3.
-    let made = Made { sizes: sizes(3, 2, 2, 4), seed: identity_seed() };
+    let made = Made {
+        sizes: sizes(3, 2, 2, 4),
+        seed: identity_seed(),
+    };
     let table = made_table(&made);
     assert!(judged(&with(&table, 7, &[0, 3])));
     assert!(!judged(&with(&table, 7, &[0, 4])));
@@ -276,15 +282,39 @@ fn rule_2_parts() {
         ("first key", block_2 + 4, vec![0, 0, 0, 5]),
         ("bytes behind the count", block_2 + SECOND + 11, vec![1]),
         ("bytes behind the count", block_3 + SECOND, vec![1]),
-        ("a total for the front", block_0 + FIRST + 4, vec![0, 0, 0, 1]),
-        ("quantities above level 1", block_1 + SECOND + 4, vec![0, 0, 0, 50, 0, 0, 0, 50]),
-        ("a displayed above level 1", block_1 + SECOND + 8, vec![0, 0, 0, 1]),
+        (
+            "a total for the front",
+            block_0 + FIRST + 4,
+            vec![0, 0, 0, 1],
+        ),
+        (
+            "quantities above level 1",
+            block_1 + SECOND + 4,
+            vec![0, 0, 0, 50, 0, 0, 0, 50],
+        ),
+        (
+            "a displayed above level 1",
+            block_1 + SECOND + 8,
+            vec![0, 0, 0, 1],
+        ),
         ("total 0", block_0 + SECOND + 4, vec![0; 8]),
-        ("displayed above total", block_0 + SECOND + 8, vec![0, 0, 0, 101]),
+        (
+            "displayed above total",
+            block_0 + SECOND + 8,
+            vec![0, 0, 0, 101],
+        ),
         ("the other's key", block_0 + SECOND, vec![0, 0, 0, 6]),
         ("a key of another level", block_0 + SECOND, vec![0, 0, 0, 4]),
-        ("a key that is none", block_0 + SECOND, vec![0x7f, 0xff, 0xff, 0xff]),
-        ("a key behind the next partition", block_0 + SECOND, vec![0, 0, 0, 7]),
+        (
+            "a key that is none",
+            block_0 + SECOND,
+            vec![0x7f, 0xff, 0xff, 0xff],
+        ),
+        (
+            "a key behind the next partition",
+            block_0 + SECOND,
+            vec![0, 0, 0, 7],
+        ),
         ("no front", block_0 + FIRST, vec![0, 0, 0, 1]),
         ("the front twice", block_0 + SECOND, vec![0; 12]),
         ("an empty block", block_2, vec![0; 32]),
@@ -313,20 +343,30 @@ fn a_chunk_twice() {
 #[test]
 fn a_key_twice() {
     // One partition of level 1: front, 1, 1.
-    let made = Made { sizes: sizes(2, 3, 2, 4), seed: identity_seed() };
+    let made = Made {
+        sizes: sizes(2, 3, 2, 4),
+        seed: identity_seed(),
+    };
     let orders: Orders = [(1, order(9, 9)), (3, order(9, 9))].into();
     let table = image(&made, &orders).unwrap();
     assert!(judged(&table));
     let third_node = 53 + 8 + 24;
     assert_eq!(table[third_node..third_node + 4], [0, 0, 0, 3]);
     assert!(!judged(&with(&table, third_node, &[0, 0, 0, 1])));
-    assert!(!judged(&with(&with(&table, third_node, &[0, 0, 0, 1]), 11, &[0, 1])));
+    assert!(!judged(&with(
+        &with(&table, third_node, &[0, 0, 0, 1]),
+        11,
+        &[0, 1]
+    )));
 }
 
 /// Keys that do not rise, each chunk otherwise well formed.
 #[test]
 fn keys_out_of_order() {
-    let made = Made { sizes: sizes(2, 3, 2, 4), seed: identity_seed() };
+    let made = Made {
+        sizes: sizes(2, 3, 2, 4),
+        seed: identity_seed(),
+    };
     let orders: Orders = [(1, order(9, 9)), (3, order(9, 9))].into();
     let mut table = image(&made, &orders).unwrap();
     for i in 0..12 {
@@ -337,25 +377,38 @@ fn keys_out_of_order() {
 
 /// The levels of the blocks, 0 for an empty one.
 fn levels(made: &Made, table: &[u8]) -> Vec<u8> {
-    table[53..].chunks(made.sizes.block_length()).map(|block| block[0]).collect()
+    table[53..]
+        .chunks(made.sizes.block_length())
+        .map(|block| block[0])
+        .collect()
 }
 
 /// The table with its blocks in another order.
 fn rearranged(made: &Made, table: &[u8], order: &[usize]) -> Vec<u8> {
     let blocks: Vec<&[u8]> = table[53..].chunks(made.sizes.block_length()).collect();
     let mut changed = table[..53].to_vec();
-    order.iter().for_each(|&block| changed.extend(blocks[block]));
+    order
+        .iter()
+        .for_each(|&block| changed.extend(blocks[block]));
     changed
 }
 
 #[test]
 fn no_empty_block_before_a_chunk() {
     // 65,536 mod 6 is 4, 131,072 mod 6 is 2, 196,608 mod 6 is 0: all are at home.
-    let made = Made { sizes: sizes(2, 2, 2, 6), seed: zero_seed() };
+    let made = Made {
+        sizes: sizes(2, 2, 2, 6),
+        seed: zero_seed(),
+    };
     let table = made_table(&made);
     assert_eq!(levels(&made, &table), [3, 0, 2, 0, 1, 0]);
     assert!(judged(&table));
-    for order in [[1, 0, 2, 3, 4, 5], [0, 1, 3, 2, 4, 5], [0, 1, 2, 3, 5, 4], [4, 1, 2, 3, 0, 5]] {
+    for order in [
+        [1, 0, 2, 3, 4, 5],
+        [0, 1, 3, 2, 4, 5],
+        [0, 1, 2, 3, 5, 4],
+        [4, 1, 2, 3, 0, 5],
+    ] {
         assert!(!judged(&rearranged(&made, &table, &order)), "{order:?}");
     }
 }
@@ -364,7 +417,10 @@ fn no_empty_block_before_a_chunk() {
 fn no_larger_label_before_a_chunk() {
     // 65,536 mod 3 is 1, 131,072 mod 3 is 2, 196,608 mod 3 is 0: a full table, so
     // no chunk passes over an empty block wherever it stands.
-    let made = Made { sizes: sizes(2, 2, 2, 3), seed: zero_seed() };
+    let made = Made {
+        sizes: sizes(2, 2, 2, 3),
+        seed: zero_seed(),
+    };
     let table = made_table(&made);
     assert_eq!(levels(&made, &table), [3, 1, 2]);
     assert!(judged(&table));
@@ -376,7 +432,10 @@ fn no_larger_label_before_a_chunk() {
 /// Rule 3 across the end: home in block M−1, placed in block 0.
 #[test]
 fn going_round_the_end() {
-    let made = Made { sizes: sizes(2, 2, 8, 9), seed: zero_seed() };
+    let made = Made {
+        sizes: sizes(2, 2, 8, 9),
+        seed: zero_seed(),
+    };
     let mut table = made_table(&made);
     let before = table.clone();
     // Levels 1 to 5 have the homes 7, 5, 3, 1, 8. Key 5 has level 5, so it opens
@@ -387,7 +446,10 @@ fn going_round_the_end() {
     assert!(judged(&table));
     for turn in 1..9 {
         let order: Vec<usize> = (0..9).map(|block| (block + turn) % 9).collect();
-        assert!(!judged(&rearranged(&made, &table, &order)), "turned by {turn}");
+        assert!(
+            !judged(&rearranged(&made, &table, &order)),
+            "turned by {turn}"
+        );
     }
     // "pull later chunks back toward home"
     assert_eq!(calls::cancel(&mut table, 5).number, 0);

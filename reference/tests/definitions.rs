@@ -19,8 +19,18 @@ fn slow_beta(gamma: u32, orders: u32) -> u32 {
 fn slow_hash(c: &[u32; 5], x: u32) -> u32 {
     let p = u128::from(P);
     let x = u128::from(x);
-    let powers = [1, x % p, x * x % p, x * x * x % p, (x * x % p) * (x * x % p) % p];
-    let sum: u128 = c.iter().zip(powers).map(|(&c, power)| u128::from(c) * power).sum();
+    let powers = [
+        1,
+        x % p,
+        x * x % p,
+        x * x * x % p,
+        (x * x % p) * (x * x % p) % p,
+    ];
+    let sum: u128 = c
+        .iter()
+        .zip(powers)
+        .map(|(&c, power)| u128::from(c) * power)
+        .sum();
     (sum % p) as u32
 }
 
@@ -53,13 +63,18 @@ fn slow_chunks(made: &Made, orders: &Orders) -> Vec<((u32, u32, u32), Vec<u32>)>
         let starts = if k == beta { vec![0] } else { list(k + 1) };
         for (i, &first) in starts.iter().enumerate() {
             let next = starts.get(i + 1).copied().unwrap_or(u32::MAX);
-            let partition: Vec<u32> =
-                list(k).into_iter().filter(|&key| first <= key && key < next).collect();
+            let partition: Vec<u32> = list(k)
+                .into_iter()
+                .filter(|&key| first <= key && key < next)
+                .collect();
             let m = partition.len() as u32;
             for chunk in 0..m.div_ceil(made.sizes.nodes) {
                 let from = chunk * made.sizes.nodes;
                 let to = m.min(from + made.sizes.nodes);
-                found.push(((k, first, chunk), partition[from as usize..to as usize].to_vec()));
+                found.push((
+                    (k, first, chunk),
+                    partition[from as usize..to as usize].to_vec(),
+                ));
             }
         }
     }
@@ -77,7 +92,11 @@ fn slow_image(made: &Made, orders: &Orders, generator: &mut Xorshift) -> Vec<u8>
     for mut chunk in chunks {
         let mut block = slow_home(made, chunk.0);
         while let Some(other) = placed[block].take() {
-            let (smaller, larger) = if chunk < other { (chunk, other) } else { (other, chunk) };
+            let (smaller, larger) = if chunk < other {
+                (chunk, other)
+            } else {
+                (other, chunk)
+            };
             placed[block] = Some(smaller);
             chunk = larger;
             block = (block + 1) % blocks;
@@ -109,7 +128,9 @@ fn slow_bytes(made: &Made, orders: &Orders, placed: &[Placed]) -> Vec<u8> {
         write(33 + 4 * i, 4, made.seed.b[i]);
     }
     for (number, block) in placed.iter().enumerate() {
-        let Some(((level, first_key, chunk_number), keys)) = block else { continue };
+        let Some(((level, first_key, chunk_number), keys)) = block else {
+            continue;
+        };
         let place = 53 + number * block_length;
         write(place, 1, *level);
         write(place + 1, 1, keys.len() as u32);
@@ -137,7 +158,11 @@ fn beta_for_every_gamma() {
             orders.extend([power - 1, power, power + 1].map(|n| n as u32));
         }
         for n in orders {
-            assert_eq!(sizes(gamma, 2, n, 20).beta(), slow_beta(gamma, n), "γ {gamma} N {n}");
+            assert_eq!(
+                sizes(gamma, 2, n, 20).beta(),
+                slow_beta(gamma, n),
+                "γ {gamma} N {n}"
+            );
         }
     }
 }
@@ -169,23 +194,43 @@ fn hashes_and_levels() {
     for _ in 0..20_000 {
         let gamma = generator.pick(&[2, 3, 5, 16, 40, 64]);
         let orders = generator.pick(&[1, 2, 10, 1000, 65_535]);
-        let made = Made { sizes: sizes(gamma, 2, orders, 20), seed: some_seed(&mut generator) };
+        let made = Made {
+            sizes: sizes(gamma, 2, orders, 20),
+            seed: some_seed(&mut generator),
+        };
         let small = generator.within(0, 5000);
         let large = generator.within(1, P - 1);
         let key = generator.pick(&[small, large, 1, P - 1]);
-        assert_eq!(made.seed.h(key), slow_hash(&made.seed.a, key), "{made:?} {key}");
-        assert_eq!(made.seed.g(key), slow_hash(&made.seed.b, key), "{made:?} {key}");
+        assert_eq!(
+            made.seed.h(key),
+            slow_hash(&made.seed.a, key),
+            "{made:?} {key}"
+        );
+        assert_eq!(
+            made.seed.g(key),
+            slow_hash(&made.seed.b, key),
+            "{made:?} {key}"
+        );
         assert_eq!(made.level(key), slow_level(&made, key), "{made:?} {key}");
         seen[made.level(key) as usize] += 1;
     }
-    assert!(seen[1..=5].iter().all(|&times| times > 100), "levels seen: {seen:?}");
+    assert!(
+        seen[1..=5].iter().all(|&times| times > 100),
+        "levels seen: {seen:?}"
+    );
 }
 
 /// h(x) = 0 for a key that is not the front, and the front where h(0) is not 0.
 #[test]
 fn levels_of_zero_and_the_front() {
-    let root = Seed { a: [P - 77, 1, 0, 0, 0], b: [0; 5] };
-    let made = Made { sizes: sizes(3, 2, 100, 20), seed: root };
+    let root = Seed {
+        a: [P - 77, 1, 0, 0, 0],
+        b: [0; 5],
+    };
+    let made = Made {
+        sizes: sizes(3, 2, 100, 20),
+        seed: root,
+    };
     assert_eq!(made.sizes.beta(), 7);
     assert_eq!(made.seed.h(77), 0);
     assert_eq!(made.level(77), 7);
@@ -214,10 +259,24 @@ fn homes() {
     let mut generator = Xorshift::new(13);
     for _ in 0..20_000 {
         let blocks = generator.within(20, 65_535);
-        let made = Made { sizes: sizes(2, 2, 1000, blocks), seed: some_seed(&mut generator) };
-        let label = (generator.within(1, 18), generator.below(P), generator.below(32_768));
+        let made = Made {
+            sizes: sizes(2, 2, 1000, blocks),
+            seed: some_seed(&mut generator),
+        };
+        let label = (
+            generator.within(1, 18),
+            generator.below(P),
+            generator.below(32_768),
+        );
         let (level, first_key, chunk_number) = label;
-        let found = home(&made, &Label { level, first_key, chunk_number });
+        let found = home(
+            &made,
+            &Label {
+                level,
+                first_key,
+                chunk_number,
+            },
+        );
         assert_eq!(found, slow_home(&made, label), "{made:?} {label:?}");
     }
 }
@@ -234,7 +293,11 @@ fn chunks_by_definition() {
         let found: Vec<_> = chunks(&made, &lists)
             .iter()
             .map(|chunk| {
-                let Label { level, first_key, chunk_number } = chunk.label;
+                let Label {
+                    level,
+                    first_key,
+                    chunk_number,
+                } = chunk.label;
                 let keys: Vec<u32> = chunk.nodes.iter().map(|node| node.key).collect();
                 ((level, first_key, chunk_number), keys)
             })
@@ -256,7 +319,11 @@ fn images_by_ordered_probing() {
         let made = some_made(&mut generator);
         let orders = some_orders(&mut generator, &made, 60);
         let expected = slow_image(&made, &orders, &mut generator);
-        assert_eq!(image(&made, &orders).unwrap(), expected, "{made:?} {orders:?}");
+        assert_eq!(
+            image(&made, &orders).unwrap(),
+            expected,
+            "{made:?} {orders:?}"
+        );
         let chunks = slow_chunks(&made, &orders).len();
         full += u32::from(chunks == made.sizes.blocks as usize);
     }
@@ -267,9 +334,15 @@ fn images_by_ordered_probing() {
 #[test]
 fn large_images() {
     let mut generator = Xorshift::new(16);
-    let all_level_1 = Seed { a: [1, 0, 0, 0, 0], ..random_seed(&mut generator) };
+    let all_level_1 = Seed {
+        a: [1, 0, 0, 0, 0],
+        ..random_seed(&mut generator)
+    };
     for seed in [random_seed(&mut generator), all_level_1] {
-        let made = Made { sizes: sizes(64, 2, 700, 800), seed };
+        let made = Made {
+            sizes: sizes(64, 2, 700, 800),
+            seed,
+        };
         let mut orders = Orders::new();
         for _ in 0..700 {
             let key = generator.within(1, P - 1);
@@ -278,8 +351,15 @@ fn large_images() {
         let table = image(&made, &orders).unwrap();
         assert_eq!(table, slow_image(&made, &orders, &mut generator));
     }
-    let made = Made { sizes: sizes(64, 2, 700, 800), seed: all_level_1 };
-    let label = Label { level: 1, first_key: 0, chunk_number: 300 };
+    let made = Made {
+        sizes: sizes(64, 2, 700, 800),
+        seed: all_level_1,
+    };
+    let label = Label {
+        level: 1,
+        first_key: 0,
+        chunk_number: 300,
+    };
     assert_eq!(home(&made, &label), slow_home(&made, (1, 0, 300)));
 }
 
@@ -290,14 +370,20 @@ fn images_end_at_the_number_of_blocks() {
     let (mut fitting, mut exact) = (0, 0);
     for _ in 0..3000 {
         let made = some_made(&mut generator);
-        let loose = Made { sizes: sizes(made.sizes.gamma, made.sizes.nodes, made.sizes.orders, 2000), ..made };
+        let loose = Made {
+            sizes: sizes(made.sizes.gamma, made.sizes.nodes, made.sizes.orders, 2000),
+            ..made
+        };
         let orders = some_orders(&mut generator, &loose, 60);
         let chunks = slow_chunks(&made, &orders).len() as u32;
         assert_eq!(image(&made, &orders).is_some(), chunks <= made.sizes.blocks);
         fitting += u32::from(chunks <= made.sizes.blocks);
         exact += u32::from(chunks == made.sizes.blocks);
     }
-    assert!(exact > 20 && fitting > exact && fitting < 3000, "{exact} {fitting}");
+    assert!(
+        exact > 20 && fitting > exact && fitting < 3000,
+        "{exact} {fitting}"
+    );
 }
 
 /// Taking an order away never makes more chunks, so cancel has no question 8.
@@ -331,7 +417,10 @@ fn seeds_from_bytes() {
     for number in EDGE_KEYS {
         let mut bytes = seed.bytes();
         bytes[36..].copy_from_slice(&number.to_be_bytes());
-        let expected = (number < P).then_some(Seed { b: [0, 1, 0, 0, number], ..seed });
+        let expected = (number < P).then_some(Seed {
+            b: [0, 1, 0, 0, number],
+            ..seed
+        });
         assert_eq!(Seed::from_bytes(&bytes), expected);
     }
 }

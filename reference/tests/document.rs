@@ -35,9 +35,17 @@ fn shown(table: &[u8]) -> Vec<Shown> {
     let show = |block: &reference::image::Block| {
         let keys: Vec<u32> = block.nodes().map(|node| node.key).collect();
         assert_eq!(keys.len() as u32, block.count);
-        (block.label.level, block.label.chunk_number, block.label.first_key, keys)
+        (
+            block.label.level,
+            block.label.chunk_number,
+            block.label.first_key,
+            keys,
+        )
     };
-    blocks.iter().map(|block| block.as_ref().map(show)).collect()
+    blocks
+        .iter()
+        .map(|block| block.as_ref().map(show))
+        .collect()
 }
 
 fn p4() -> Vec<Shown> {
@@ -50,7 +58,15 @@ fn p4() -> Vec<Shown> {
 }
 
 fn make(sizes: &Sizes, seed: &[u8], table: &mut [u8]) -> u32 {
-    calls::make(sizes.gamma, sizes.nodes, sizes.orders, sizes.blocks, seed, table).number
+    calls::make(
+        sizes.gamma,
+        sizes.nodes,
+        sizes.orders,
+        sizes.blocks,
+        seed,
+        table,
+    )
+    .number
 }
 
 #[test]
@@ -157,9 +173,16 @@ fn p7_keys_at_the_edges() {
     let mut table = empty;
     assert_eq!(calls::put(&mut table, 2_147_483_646, 1, 0), Reply::done());
     assert_eq!(document().level(2_147_483_646), 2);
-    let label = Label { level: 1, first_key: 2_147_483_646, chunk_number: 0 };
+    let label = Label {
+        level: 1,
+        first_key: 2_147_483_646,
+        chunk_number: 0,
+    };
     assert_eq!(home(&document(), &label), 3);
-    assert_eq!(shown(&table)[3], Some((1, 0, 2_147_483_646, vec![2_147_483_646])));
+    assert_eq!(
+        shown(&table)[3],
+        Some((1, 0, 2_147_483_646, vec![2_147_483_646]))
+    );
 }
 
 #[test]
@@ -167,7 +190,12 @@ fn p8_quantities() {
     let mut table = made_table(&document());
     assert_eq!(calls::put(&mut table, 3, 100, 101), Reply::refused(6));
     assert_eq!(calls::put(&mut table, 3, 100, 100), Reply::done());
-    let found = Reply { number: 0, key: 3, total: 100, displayed: 100 };
+    let found = Reply {
+        number: 0,
+        key: 3,
+        total: 100,
+        displayed: 100,
+    };
     assert_eq!(calls::lookup(&table, 3), found);
 }
 
@@ -187,7 +215,10 @@ fn p9_seed_numbers_and_blocks() {
     }
     for (blocks, number) in [(2, 2), (3, 0)] {
         let sizes = Sizes { blocks, ..sizes };
-        assert_eq!(make(&sizes, &seed.bytes(), &mut vec![0; sizes.length()]), number);
+        assert_eq!(
+            make(&sizes, &seed.bytes(), &mut vec![0; sizes.length()]),
+            number
+        );
     }
 }
 
@@ -197,7 +228,10 @@ fn run_only() {
     assert_eq!(calls::span(&table, 1, P - 1, &mut []), Reply::count(0));
     calls::put(&mut table, 3, 100, 20);
     let mut eleven = [7; 11];
-    assert_eq!(calls::span(&table, 1, P - 1, &mut eleven), Reply::refused(11));
+    assert_eq!(
+        calls::span(&table, 1, P - 1, &mut eleven),
+        Reply::refused(11)
+    );
     assert_eq!(eleven, [7; 11]);
     let mut twelve = [7; 12];
     assert_eq!(calls::span(&table, 1, P - 1, &mut twelve), Reply::count(1));
@@ -222,7 +256,10 @@ fn later_chunks_are_pulled_back() {
 /// new partition count from 0 again.
 #[test]
 fn a_split_partition_counts_again() {
-    let made = Made { sizes: sizes(2, 2, 8, 12), seed: document().seed };
+    let made = Made {
+        sizes: sizes(2, 2, 8, 12),
+        seed: document().seed,
+    };
     let mut orders: Orders = [1, 3, 5, 9, 11].map(|key| (key, order(1, 0))).into();
     let labels = |orders: &Orders| {
         let mut found: Vec<Shown> = shown(&image(&made, orders).unwrap());
@@ -230,7 +267,11 @@ fn a_split_partition_counts_again() {
         found.sort();
         found.into_iter().flatten().collect::<Vec<_>>()
     };
-    let whole = [(1, 0, 0, vec![0, 1]), (1, 1, 0, vec![3, 5]), (1, 2, 0, vec![9, 11])];
+    let whole = [
+        (1, 0, 0, vec![0, 1]),
+        (1, 1, 0, vec![3, 5]),
+        (1, 2, 0, vec![9, 11]),
+    ];
     assert_eq!(labels(&orders), whole);
     orders.insert(6, order(1, 0));
     let split = [
@@ -245,9 +286,19 @@ fn a_split_partition_counts_again() {
 /// "They take mod M before mod p": also for a seed whose g reaches p − 1.
 #[test]
 fn home_takes_p_before_blocks() {
-    let seed = Seed { a: [0; 5], b: [P - 1, 0, 0, 0, 0] };
-    let made = Made { sizes: sizes(2, 2, 2, 10), seed };
-    let label = Label { level: 3, first_key: 0, chunk_number: 2 };
+    let seed = Seed {
+        a: [0; 5],
+        b: [P - 1, 0, 0, 0, 0],
+    };
+    let made = Made {
+        sizes: sizes(2, 2, 2, 10),
+        seed,
+    };
+    let label = Label {
+        level: 3,
+        first_key: 0,
+        chunk_number: 2,
+    };
     // p − 1 + 196,608 + 2 is 196,609 over a multiple of p.
     assert_eq!(home(&made, &label), 9);
 }

@@ -12,7 +12,10 @@ fn answers(input: &[u8]) -> String {
 /// The answer to one line after the document's make.
 fn answer(line: &str) -> String {
     let output = answers(format!("{MAKE}{line}\n").as_bytes());
-    output.strip_prefix("0\n").expect("make succeeds").to_string()
+    output
+        .strip_prefix("0\n")
+        .expect("make succeeds")
+        .to_string()
 }
 
 fn refused_line(line: &str) {
@@ -33,7 +36,10 @@ fn every_word() {
 
 #[test]
 fn empty_blocks_are_a_dash() {
-    assert_eq!(answer("blocks"), "0\n0 1 0 0 1 0\n1 2 0 0 1 0\n2 3 0 0 1 0\n3 -\n");
+    assert_eq!(
+        answer("blocks"),
+        "0\n0 1 0 0 1 0\n1 2 0 0 1 0\n2 3 0 0 1 0\n3 -\n"
+    );
 }
 
 #[test]
@@ -43,7 +49,10 @@ fn leading_zeros_count_for_nothing() {
         "make 02 002 0002 {zeros}4 00 1 0 0 0 0 {zeros}1 0 0 0\nput {zeros}7 0100 {zeros}\n\
          show 007\nshow {zeros}7\nseek 00000000001 00000000000000000009 0\n"
     );
-    assert_eq!(answers(input.as_bytes()), "0\n0\n0 100 0\n0 100 0\n0 7 100 0\n");
+    assert_eq!(
+        answers(input.as_bytes()),
+        "0\n0\n0 100 0\n0 100 0\n0 7 100 0\n"
+    );
 }
 
 #[test]
@@ -52,7 +61,13 @@ fn fields_end_at_4294967295() {
     assert_eq!(answer("put 3 0004294967295 0"), "0\n");
     assert_eq!(answer("put 4294967295 1 1"), "5\n");
     assert_eq!(answer("seek 1 2 4294967295"), "12\n");
-    for field in ["4294967296", "04294967296", "4294967300", "4300000000", "9999999999"] {
+    for field in [
+        "4294967296",
+        "04294967296",
+        "4294967300",
+        "4300000000",
+        "9999999999",
+    ] {
         refused_line(&format!("put {field} 1 1"));
         refused_line(&format!("put 3 {field} 1"));
         refused_line(&format!("put 3 1 {field}"));
@@ -78,10 +93,31 @@ fn large_fields_before_a_make() {
 #[test]
 fn one_blank_is_one_space() {
     for line in [
-        "show  3", "show\t3", " show 3", "show 3 ", "show 3\r", "show 3\t", "\tshow 3", "show 3\0",
-        "show\0 3", "show\u{a0}3", "show\u{b}3", "show\u{c}3", "show,3", "show3", "put 3  1 1",
-        "put 3 1 1 ", "put  3 1 1", "put 3\t1 1", "blocks ", " blocks", "blocks\r", "blocks\t",
-        "blocks\0", "  ", " ",
+        "show  3",
+        "show\t3",
+        " show 3",
+        "show 3 ",
+        "show 3\r",
+        "show 3\t",
+        "\tshow 3",
+        "show 3\0",
+        "show\0 3",
+        "show\u{a0}3",
+        "show\u{b}3",
+        "show\u{c}3",
+        "show,3",
+        "show3",
+        "put 3  1 1",
+        "put 3 1 1 ",
+        "put  3 1 1",
+        "put 3\t1 1",
+        "blocks ",
+        " blocks",
+        "blocks\r",
+        "blocks\t",
+        "blocks\0",
+        "  ",
+        " ",
     ] {
         refused_line(line);
     }
@@ -90,14 +126,58 @@ fn one_blank_is_one_space() {
 #[test]
 fn other_words_and_fields() {
     for line in [
-        "", "?", "0", "3", "show", "show ", "show 3 4", "show x", "show 3x", "show x3", "show +3",
-        "show -3", "show 3.0", "show 0x3", "show 3e1", "show 1_0", "show 1,000", "SHOW 3",
-        "Show 3", "shows 3", "sho 3", "lookup 3", "check", "quit", "cancel", "cancel 3 4", "put",
-        "put 3", "put 3 1", "put 3 1 1 1", "put -3 1 1", "span", "span 1", "span 1 2 3", "seek 1",
-        "seek 1 2", "seek 1 2 3 4", "blocks 0", "blocks x", "Blocks", "block", "blockss", "make",
-        "make 2 2 2 4", "make 2 2 2 4 0 1 0 0 0 0 1 0 0", "make 2 2 2 4 0 1 0 0 0 0 1 0 0 0 0",
-        "make 2 2 2 4 0 1 0 0 0 0 1 0 0 x", "Make 2 2 2 4 0 1 0 0 0 0 1 0 0 0", "# blocks",
-        "show ٣", "show ３", "ѕhow 3",
+        "",
+        "?",
+        "0",
+        "3",
+        "show",
+        "show ",
+        "show 3 4",
+        "show x",
+        "show 3x",
+        "show x3",
+        "show +3",
+        "show -3",
+        "show 3.0",
+        "show 0x3",
+        "show 3e1",
+        "show 1_0",
+        "show 1,000",
+        "SHOW 3",
+        "Show 3",
+        "shows 3",
+        "sho 3",
+        "lookup 3",
+        "check",
+        "quit",
+        "cancel",
+        "cancel 3 4",
+        "put",
+        "put 3",
+        "put 3 1",
+        "put 3 1 1 1",
+        "put -3 1 1",
+        "span",
+        "span 1",
+        "span 1 2 3",
+        "seek 1",
+        "seek 1 2",
+        "seek 1 2 3 4",
+        "blocks 0",
+        "blocks x",
+        "Blocks",
+        "block",
+        "blockss",
+        "make",
+        "make 2 2 2 4",
+        "make 2 2 2 4 0 1 0 0 0 0 1 0 0",
+        "make 2 2 2 4 0 1 0 0 0 0 1 0 0 0 0",
+        "make 2 2 2 4 0 1 0 0 0 0 1 0 0 x",
+        "Make 2 2 2 4 0 1 0 0 0 0 1 0 0 0",
+        "# blocks",
+        "show ٣",
+        "show ３",
+        "ѕhow 3",
     ] {
         refused_line(line);
     }
@@ -149,7 +229,11 @@ fn input_in_pieces() {
     let input = format!("{MAKE}put 3 100 20\nshow 3\n\nspan 1 9");
     for length in 1..20 {
         let mut output = Vec::new();
-        run(BufReader::with_capacity(length, input.as_bytes()), &mut output).unwrap();
+        run(
+            BufReader::with_capacity(length, input.as_bytes()),
+            &mut output,
+        )
+        .unwrap();
         assert_eq!(output, b"0\n0\n0 100 20\n?\n0 1\n3 100 20\n", "{length}");
     }
 }
@@ -179,7 +263,14 @@ fn make_answers_1_and_2() {
     }
     let sizes = |sizes: &str, seed: &str| answers(format!("make {sizes} {seed}\n").as_bytes());
     let (good, bad) = ("0 1 0 0 0 0 1 0 0 0", "0 1 0 0 0 0 1 0 0 2147483647");
-    for wrong in ["1 2 2 4", "65 2 2 4", "2 1 2 4", "2 33 2 4", "2 2 0 4", "2 2 65536 65535"] {
+    for wrong in [
+        "1 2 2 4",
+        "65 2 2 4",
+        "2 1 2 4",
+        "2 33 2 4",
+        "2 2 0 4",
+        "2 2 65536 65535",
+    ] {
         assert_eq!(sizes(wrong, good), "2\n", "{wrong}");
         assert_eq!(sizes(wrong, bad), "1\n", "{wrong}");
     }
@@ -193,7 +284,8 @@ fn make_answers_1_and_2() {
 #[test]
 fn tables_over_the_buffer() {
     let (good, bad) = ("0 1 0 0 0 0 1 0 0 0", "0 1 0 0 0 0 1 0 0 2147483647");
-    let ask = |sizes: &str, seed: &str| answers(format!("make {sizes} {seed}\nblocks\n").as_bytes());
+    let ask =
+        |sizes: &str, seed: &str| answers(format!("make {sizes} {seed}\nblocks\n").as_bytes());
     // 53 + 2046·32 = 65,525; 53 + 167·392 = 65,517.
     for fits in ["2 2 2 2046", "2 32 2 167"] {
         assert!(ask(fits, good).starts_with("0\n0\n0 "), "{fits}");
@@ -221,11 +313,18 @@ fn which_make_counts() {
         ("make 2 2 2 4\n", "?\n"),
     ] {
         let input = format!("{MAKE}{put}{}show 3\n", failed.0);
-        assert_eq!(answers(input.as_bytes()), format!("0\n0\n{}0 100 20\n", failed.1));
+        assert_eq!(
+            answers(input.as_bytes()),
+            format!("0\n0\n{}0 100 20\n", failed.1)
+        );
     }
-    let input = format!("{MAKE}{put}{MAKE}show 3\nspan 1 9\nmake 2 3 2 3 0 1 0 0 0 0 1 0 0 0\nblocks\n");
+    let input =
+        format!("{MAKE}{put}{MAKE}show 3\nspan 1 9\nmake 2 3 2 3 0 1 0 0 0 0 1 0 0 0\nblocks\n");
     let blocks = "0\n0 3 0 0 1 0\n1 1 0 0 1 0\n2 2 0 0 1 0\n";
-    assert_eq!(answers(input.as_bytes()), format!("0\n0\n0\n9\n0 0\n0\n{blocks}"));
+    assert_eq!(
+        answers(input.as_bytes()),
+        format!("0\n0\n0\n9\n0 0\n0\n{blocks}")
+    );
 }
 
 /// As many orders as the buffer can hold, all of them in one span.

@@ -26,7 +26,7 @@ enum Call {
 fn any_key(generator: &mut Xorshift, made: &Made) -> u32 {
     match generator.below(20) {
         0 => generator.pick(&EDGE_KEYS),
-        1 => generator.next(),
+        1 => generator.draw(),
         _ => some_key(generator, made),
     }
 }
@@ -38,7 +38,11 @@ fn any_range(generator: &mut Xorshift, made: &Made) -> (u32, u32) {
         0 => lo.saturating_add(generator.below(8)),
         _ => any_key(generator, made),
     };
-    if generator.one_in(6) { (lo, hi) } else { (lo.min(hi), lo.max(hi)) }
+    if generator.one_in(6) {
+        (lo, hi)
+    } else {
+        (lo.min(hi), lo.max(hi))
+    }
 }
 
 fn any_call(generator: &mut Xorshift, made: &Made) -> Call {
@@ -62,7 +66,7 @@ fn any_call(generator: &mut Xorshift, made: &Made) -> Call {
         }
         _ => {
             let (lo, hi) = any_range(generator, made);
-            let far = generator.next();
+            let far = generator.draw();
             Call::Seek(lo, hi, generator.pick(&[0, 1, 40, far, u32::MAX]))
         }
     }
@@ -95,8 +99,13 @@ fn are_keys(lo: u32, hi: u32) -> bool {
 
 /// The orders of the book in lo..hi.
 fn in_range(book: &Book, lo: u32, hi: u32) -> Vec<(u32, u32, u32)> {
-    let inside = book.orders().iter().filter(|(&key, _)| lo <= key && key <= hi);
-    inside.map(|(&key, order)| (key, order.total, order.displayed)).collect()
+    let inside = book
+        .orders()
+        .iter()
+        .filter(|(&key, _)| lo <= key && key <= hi);
+    inside
+        .map(|(&key, order)| (key, order.total, order.displayed))
+        .collect()
 }
 
 /// What the book decides for the call.
@@ -138,7 +147,13 @@ fn expected_span(book: &Book, lo: u32, hi: u32, length: usize) -> (Reply, Vec<u8
         return (Reply::refused(11), output);
     }
     output[..written.len()].copy_from_slice(&written);
-    (Reply { total: found.len() as u32, ..Reply::done() }, output)
+    (
+        Reply {
+            total: found.len() as u32,
+            ..Reply::done()
+        },
+        output,
+    )
 }
 
 fn expected_seek(book: &Book, lo: u32, hi: u32, r: u32) -> Reply {
@@ -150,7 +165,12 @@ fn expected_seek(book: &Book, lo: u32, hi: u32, r: u32) -> Reply {
     }
     let fits = |&(_, total, displayed): &(u32, u32, u32)| total - displayed >= r;
     match in_range(book, lo, hi).into_iter().find(fits) {
-        Some((key, total, displayed)) => Reply { number: 0, key, total, displayed },
+        Some((key, total, displayed)) => Reply {
+            number: 0,
+            key,
+            total,
+            displayed,
+        },
         None => Reply::refused(12),
     }
 }
@@ -165,8 +185,15 @@ fn history(generator: &mut Xorshift, made: Made, calls: u32, seen: &mut [u32; 13
         let before = table.clone();
         let found = ask(&mut table, call);
         assert_eq!(found, expected(&mut book, call), "{call:?} {made:?}");
-        assert_eq!(table, image(&made, book.orders()).unwrap(), "{call:?} {made:?}");
-        assert!(is_image(&table) && is_image_by_rebuilding(&table), "{call:?} {made:?}");
+        assert_eq!(
+            table,
+            image(&made, book.orders()).unwrap(),
+            "{call:?} {made:?}"
+        );
+        assert!(
+            is_image(&table) && is_image_by_rebuilding(&table),
+            "{call:?} {made:?}"
+        );
         let edit = matches!(call, Call::Put(..) | Call::Cancel(_));
         if found.0.number != 0 || !edit {
             assert_eq!(table, before, "{call:?} {made:?}");
@@ -184,7 +211,10 @@ fn tables_follow_the_book() {
         history(&mut generator, made, 150, &mut seen);
     }
     let expected = [0, 5, 6, 7, 8, 9, 10, 11, 12];
-    assert!(expected.iter().all(|&number: &usize| seen[number] > 300), "{seen:?}");
+    assert!(
+        expected.iter().all(|&number: &usize| seen[number] > 300),
+        "{seen:?}"
+    );
     assert_eq!(seen[1] + seen[2] + seen[3] + seen[4], 0, "{seen:?}");
 }
 
@@ -192,7 +222,10 @@ fn tables_follow_the_book() {
 fn a_larger_table_follows_the_book() {
     let mut generator = Xorshift::new(32);
     let mut seen = [0; 13];
-    let made = Made { sizes: sizes(3, 4, 300, 260), seed: random_seed(&mut generator) };
+    let made = Made {
+        sizes: sizes(3, 4, 300, 260),
+        seed: random_seed(&mut generator),
+    };
     history(&mut generator, made, 2500, &mut seen);
     assert!(seen[0] > 1000 && seen[7] + seen[8] > 50, "{seen:?}");
 }
@@ -314,16 +347,22 @@ fn text(book: &mut Book, call: Call) -> Option<(String, String)> {
         other => other,
     };
     let (reply, _) = expected(book, call);
-    let Reply { number, key, total, displayed } = reply;
+    let Reply {
+        number,
+        key,
+        total,
+        displayed,
+    } = reply;
     let refused = number != 0;
     let (line, answer) = match call {
         Call::Check => return None,
         Call::Put(key, total, displayed) => (format!("put {key} {total} {displayed}"), "0".into()),
         Call::Cancel(key) => (format!("cancel {key}"), "0".into()),
         Call::Lookup(key) => (format!("show {key}"), format!("0 {total} {displayed}")),
-        Call::Seek(lo, hi, r) => {
-            (format!("seek {lo} {hi} {r}"), format!("0 {key} {total} {displayed}"))
-        }
+        Call::Seek(lo, hi, r) => (
+            format!("seek {lo} {hi} {r}"),
+            format!("0 {key} {total} {displayed}"),
+        ),
         Call::Span(lo, hi, _) => {
             let mut answer = format!("0 {total}");
             for (key, total, displayed) in in_range(book, lo, hi) {

@@ -6,8 +6,8 @@ mod common;
 use common::{order, sizes, some_made, some_orders};
 use reference::image::{image, is_image, place, rule_3, table, Arrangement};
 use reference::lists::{chunks, home, lists, Chunk, Label, Orders};
-use reference::samples::{some_seed, Xorshift};
-use reference::sizes::Made;
+use reference::samples::{some_seed, zero_seed, Xorshift};
+use reference::sizes::{Made, Seed};
 
 /// All ways to put the chunks into blocks, each in one.
 fn all_arrangements<'a>(chunks: &[Chunk<'a>], blocks: usize) -> Vec<Arrangement<'a>> {
@@ -26,14 +26,19 @@ fn all_arrangements<'a>(chunks: &[Chunk<'a>], blocks: usize) -> Vec<Arrangement<
 }
 
 fn labels(arrangement: &Arrangement) -> Vec<Option<Label>> {
-    arrangement.iter().map(|block| block.map(|chunk| chunk.label)).collect()
+    arrangement
+        .iter()
+        .map(|block| block.map(|chunk| chunk.label))
+        .collect()
 }
 
 /// Rule 3, block by block.
 fn slow_rule_3(made: &Made, arrangement: &Arrangement) -> bool {
     let blocks = arrangement.len();
     for block in 0..blocks {
-        let Some(chunk) = arrangement[block] else { continue };
+        let Some(chunk) = arrangement[block] else {
+            continue;
+        };
         let home = home(made, &chunk.label);
         let distance = (block + blocks - home) % blocks;
         for step in 0..distance {
@@ -56,7 +61,10 @@ fn tiny(generator: &mut Xorshift) -> (Made, Orders) {
             continue;
         }
         let blocks = generator.within(least, 5);
-        let made = Made { sizes: sizes(gamma, nodes, n, blocks), seed: some_seed(generator) };
+        let made = Made {
+            sizes: sizes(gamma, nodes, n, blocks),
+            seed: some_seed(generator),
+        };
         let orders = some_orders(generator, &made, n);
         return (made, orders);
     }
@@ -98,7 +106,7 @@ fn search(made: &Made, labels: &[Option<Label>], wanted: &Label) -> Option<usize
     let home = home(made, wanted);
     let blocks = labels.len();
     let mut round = (0..blocks).map(|step| (home + step) % blocks);
-    let end = round.find(|&block| !labels[block].is_some_and(|label| label < *wanted))?;
+    let end = round.find(|&block| labels[block].is_none_or(|label| label >= *wanted))?;
     (labels[end] == Some(*wanted)).then_some(end)
 }
 
@@ -136,13 +144,34 @@ fn searches_end_at_the_label() {
 #[test]
 fn the_smaller_label_stands_nearer_home() {
     // h(x) = x, g = 0: every chunk of one level has one home.
+    let seed = Seed {
+        a: [0, 1, 0, 0, 0],
+        b: [0; 5],
+    };
     let made = Made {
         sizes: sizes(2, 2, 4, 16),
-        seed: reference::sizes::Seed { a: [0, 1, 0, 0, 0], b: [0; 5] },
+        seed,
     };
     let orders: Orders = [(2, order(1, 0)), (6, order(1, 0))].into();
     let table = image(&made, &orders).unwrap();
     let first_key = |block: usize| table[53 + block * 32 + 7];
     // 65,536 mod 16 is 0: the level 1 chunks of 0, 2 and 6 stand in 0, 1 and 2.
     assert_eq!([first_key(0), first_key(1), first_key(2)], [0, 2, 6]);
+}
+
+/// A label equal to its own is not smaller, whether or not rule 2 allows two.
+#[test]
+fn an_equal_label_is_not_smaller() {
+    let made = Made {
+        sizes: sizes(2, 2, 2, 4),
+        seed: zero_seed(),
+    };
+    let label = Label {
+        level: 1,
+        first_key: 0,
+        chunk_number: 0,
+    };
+    assert_eq!(home(&made, &label), 0);
+    assert!(rule_3(&made, &[Some(label), None, None, None]));
+    assert!(!rule_3(&made, &[Some(label), Some(label), None, None]));
 }

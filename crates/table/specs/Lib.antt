@@ -2,3 +2,4 @@ pub mod Walk
 pub mod Check
 pub mod Calls
 pub mod Visit
+pub mod Promise

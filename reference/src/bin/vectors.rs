@@ -67,7 +67,11 @@ struct Recorder {
 
 impl Recorder {
     fn new(wanted: usize) -> Recorder {
-        Recorder { store: Vec::new(), lines: Vec::new(), wanted }
+        Recorder {
+            store: Vec::new(),
+            lines: Vec::new(),
+            wanted,
+        }
     }
 
     fn done(&self) -> bool {
@@ -84,10 +88,17 @@ impl Recorder {
         if self.done() {
             return reply;
         }
-        let Reply { number, key, total, displayed } = reply;
+        let Reply {
+            number,
+            key,
+            total,
+            displayed,
+        } = reply;
         let store = fnv_1a(&self.store);
         let written = written.map_or(String::new(), |hash| format!(" {hash:016x}"));
-        self.line(format!("{text} = {number} {key} {total} {displayed} {store:016x}{written}"));
+        self.line(format!(
+            "{text} = {number} {key} {total} {displayed} {store:016x}{written}"
+        ));
         reply
     }
 
@@ -107,11 +118,20 @@ impl Recorder {
     }
 
     fn make(&mut self, sizes: &Sizes, seed: &[u8], length: usize) -> Reply {
-        let Sizes { gamma, nodes, orders, blocks } = *sizes;
+        let Sizes {
+            gamma,
+            nodes,
+            orders,
+            blocks,
+        } = *sizes;
         let table = &mut self.store[..length];
         let reply = calls::make(gamma, nodes, orders, blocks, seed, table);
         let seed = hex(seed);
-        self.call(format!("make {gamma} {nodes} {orders} {blocks} {seed} {length}"), reply, None)
+        self.call(
+            format!("make {gamma} {nodes} {orders} {blocks} {seed} {length}"),
+            reply,
+            None,
+        )
     }
 
     fn check(&mut self, length: usize) -> Reply {
@@ -121,7 +141,11 @@ impl Recorder {
 
     fn put(&mut self, length: usize, key: u32, total: u32, displayed: u32) -> Reply {
         let reply = calls::put(&mut self.store[..length], key, total, displayed);
-        self.call(format!("put {length} {key} {total} {displayed}"), reply, None)
+        self.call(
+            format!("put {length} {key} {total} {displayed}"),
+            reply,
+            None,
+        )
     }
 
     fn cancel(&mut self, length: usize, key: u32) -> Reply {
@@ -178,12 +202,19 @@ fn record_all(recorder: &mut Recorder) {
 
 /// Every γ of 2, 3, 16, 64 with every B of 2, 3, 16, 32.
 fn pairs() -> impl Iterator<Item = (u32, u32)> {
-    [2, 3, 16, 64].into_iter().flat_map(|gamma| [2, 3, 16, 32].map(|nodes| (gamma, nodes)))
+    [2, 3, 16, 64]
+        .into_iter()
+        .flat_map(|gamma| [2, 3, 16, 32].map(|nodes| (gamma, nodes)))
 }
 
-/// P3 to P9 and "Run only".
+/// P3 to P8 and "Run only".
 fn examples(recorder: &mut Recorder) {
-    let sizes = Sizes { gamma: 2, nodes: 2, orders: 2, blocks: 4 };
+    let sizes = Sizes {
+        gamma: 2,
+        nodes: 2,
+        orders: 2,
+        blocks: 4,
+    };
     let seed = identity_seed().bytes();
     let length = sizes.length();
     recorder.room(length, 0xa5);
@@ -213,7 +244,12 @@ fn examples(recorder: &mut Recorder) {
 
 /// Each question of make answered "no", alone and with later ones.
 fn refused_makes(recorder: &mut Recorder) {
-    let sizes = Sizes { gamma: 2, nodes: 2, orders: 2, blocks: 4 };
+    let sizes = Sizes {
+        gamma: 2,
+        nodes: 2,
+        orders: 2,
+        blocks: 4,
+    };
     let seed = identity_seed().bytes();
     let length = sizes.length();
     recorder.room(length + 60, 0x3c);
@@ -243,7 +279,12 @@ fn refused_makes(recorder: &mut Recorder) {
 
 /// Sizes each just outside what is allowed, or far.
 fn wrong_sizes() -> Vec<Sizes> {
-    let sizes = Sizes { gamma: 2, nodes: 2, orders: 2, blocks: 4 };
+    let sizes = Sizes {
+        gamma: 2,
+        nodes: 2,
+        orders: 2,
+        blocks: 4,
+    };
     let mut wrong = Vec::new();
     wrong.extend([0, 1, 65, 256 + 2, u32::MAX].map(|gamma| Sizes { gamma, ..sizes }));
     wrong.extend([0, 1, 33, 256 + 2, u32::MAX].map(|nodes| Sizes { nodes, ..sizes }));
@@ -261,8 +302,16 @@ fn long_history(
     orders: u32,
     blocks: u32,
 ) {
-    let sizes = Sizes { gamma, nodes, orders, blocks };
-    let made = Made { sizes, seed: random_seed(generator) };
+    let sizes = Sizes {
+        gamma,
+        nodes,
+        orders,
+        blocks,
+    };
+    let made = Made {
+        sizes,
+        seed: random_seed(generator),
+    };
     let keys = pool(generator, orders);
     history(recorder, generator, &made, keys, 300);
 }
@@ -282,9 +331,20 @@ fn small_history(
         2 => identity_seed(),
         _ => some_seed(generator),
     };
-    let unbounded = Sizes { gamma, nodes, orders, blocks: 65_535 };
+    let unbounded = Sizes {
+        gamma,
+        nodes,
+        orders,
+        blocks: 65_535,
+    };
     let least = unbounded.beta();
-    let exact = chunks_of_first(&Made { sizes: unbounded, seed }, &keys);
+    let exact = chunks_of_first(
+        &Made {
+            sizes: unbounded,
+            seed,
+        },
+        &keys,
+    );
     let blocks = match generator.below(8) {
         0 => least,
         1 => least + 1 + orders / nodes,
@@ -293,8 +353,17 @@ fn small_history(
         4 => (least * (orders + 1)).min(1000),
         _ => exact,
     };
-    let sizes = Sizes { blocks, ..unbounded };
-    history(recorder, generator, &Made { sizes, seed }, keys, 60 + orders as usize);
+    let sizes = Sizes {
+        blocks,
+        ..unbounded
+    };
+    history(
+        recorder,
+        generator,
+        &Made { sizes, seed },
+        keys,
+        60 + orders as usize,
+    );
 }
 
 /// How many chunks the first N different keys make: with so many blocks they
@@ -303,7 +372,13 @@ fn chunks_of_first(made: &Made, keys: &[u32]) -> u32 {
     let mut orders = Orders::new();
     for &key in keys {
         if orders.len() < made.sizes.orders as usize {
-            orders.insert(key, Quantities { total: 1, displayed: 0 });
+            orders.insert(
+                key,
+                Quantities {
+                    total: 1,
+                    displayed: 0,
+                },
+            );
         }
     }
     chunks(made, &lists(made, &orders)).len() as u32
@@ -320,7 +395,7 @@ fn history(
 ) {
     let sizes = &made.sizes;
     let length = sizes.length();
-    recorder.room(length + generator.below(3) as usize, generator.next() as u8);
+    recorder.room(length + generator.below(3) as usize, generator.draw() as u8);
     recorder.check(length);
     recorder.make(sizes, &made.seed.bytes(), length);
     fill(recorder, generator, length, &keys);
@@ -342,7 +417,11 @@ fn history(
 
 /// Some more keys than N: neighbours or far apart, with both ends.
 fn pool(generator: &mut Xorshift, orders: u32) -> Vec<u32> {
-    let highest = if generator.one_in(2) { 2 * orders + 8 } else { P - 1 };
+    let highest = if generator.one_in(2) {
+        2 * orders + 8
+    } else {
+        P - 1
+    };
     let mut keys = vec![1, P - 1];
     keys.extend((0..orders + orders / 4 + 4).map(|_| generator.within(1, highest)));
     generator.shuffle(&mut keys);
@@ -379,7 +458,7 @@ fn empty(recorder: &mut Recorder, length: usize, keys: &[u32]) {
 fn some_key(generator: &mut Xorshift, keys: &[u32]) -> u32 {
     match generator.below(12) {
         0 => generator.pick(&EDGE_KEYS),
-        1 => generator.next(),
+        1 => generator.draw(),
         _ => generator.pick(keys),
     }
 }
@@ -419,7 +498,11 @@ fn random_step(recorder: &mut Recorder, generator: &mut Xorshift, length: usize,
 /// One lookup, span or seek.
 fn reading(recorder: &mut Recorder, generator: &mut Xorshift, length: usize, keys: &[u32]) {
     let (one, two) = (some_key(generator, keys), some_key(generator, keys));
-    let (lo, hi) = if generator.one_in(8) { (one, two) } else { (one.min(two), one.max(two)) };
+    let (lo, hi) = if generator.one_in(8) {
+        (one, two)
+    } else {
+        (one.min(two), one.max(two))
+    };
     match generator.below(3) {
         0 => recorder.lookup(length, one),
         1 => {
@@ -484,11 +567,7 @@ fn damage(recorder: &mut Recorder, generator: &mut Xorshift, sizes: &Sizes, keys
 
 /// One of the first `bound` bytes changed. Gives the place and width to restore,
 /// as the next two do.
-fn damaged_byte(
-    recorder: &mut Recorder,
-    generator: &mut Xorshift,
-    bound: usize,
-) -> (usize, usize) {
+fn damaged_byte(recorder: &mut Recorder, generator: &mut Xorshift, bound: usize) -> (usize, usize) {
     let place = generator.below(bound as u32) as usize;
     recorder.xor(place, generator.pick(&[1, 2, 3, 0x80, 0xff]));
     (place, 1)
@@ -509,11 +588,7 @@ fn damaged_node(
 }
 
 /// Two neighbouring blocks exchanged, or one copied over the other.
-fn moved_block(
-    recorder: &mut Recorder,
-    generator: &mut Xorshift,
-    sizes: &Sizes,
-) -> (usize, usize) {
+fn moved_block(recorder: &mut Recorder, generator: &mut Xorshift, sizes: &Sizes) -> (usize, usize) {
     let width = sizes.block_length();
     let place = HEADER + generator.below(sizes.blocks - 1) as usize * width;
     let one = recorder.store[place..place + width].to_vec();

@@ -11,11 +11,19 @@ use reference::sizes::{Made, Sizes, P};
 
 /// Sizes and seed of the document's run.
 pub fn document() -> Made {
-    Made { sizes: sizes(2, 2, 2, 4), seed: identity_seed() }
+    Made {
+        sizes: sizes(2, 2, 2, 4),
+        seed: identity_seed(),
+    }
 }
 
 pub fn sizes(gamma: u32, nodes: u32, orders: u32, blocks: u32) -> Sizes {
-    Sizes { gamma, nodes, orders, blocks }
+    Sizes {
+        gamma,
+        nodes,
+        orders,
+        blocks,
+    }
 }
 
 pub fn order(total: u32, displayed: u32) -> Quantities {
@@ -24,7 +32,12 @@ pub fn order(total: u32, displayed: u32) -> Quantities {
 
 /// A table made by the call.
 pub fn made_table(made: &Made) -> Vec<u8> {
-    let Sizes { gamma, nodes, orders, blocks } = made.sizes;
+    let Sizes {
+        gamma,
+        nodes,
+        orders,
+        blocks,
+    } = made.sizes;
     let mut table = vec![0xa5; made.sizes.length()];
     let reply = calls::make(gamma, nodes, orders, blocks, &made.seed.bytes(), &mut table);
     assert_eq!(reply.number, 0, "{made:?}");
@@ -44,7 +57,10 @@ pub fn some_made(generator: &mut Xorshift) -> Made {
         3 => beta + orders,
         _ => beta * (orders + 1),
     };
-    Made { sizes: sizes(gamma, nodes, orders, blocks), seed: some_seed(generator) }
+    Made {
+        sizes: sizes(gamma, nodes, orders, blocks),
+        seed: some_seed(generator),
+    }
 }
 
 /// A key from a range that a table of this size can fill densely, or from anywhere.
