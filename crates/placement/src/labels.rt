@@ -7,13 +7,14 @@ ghost use Rattle.placement.specs.Sizes.{seed-good};
 ghost use Rattle.placement.specs.Place.{Shaped, label-in, before-label, same-label, passes-label, home-of};
 use crate::Label;
 use crate::Sizes;
+use crate::header::Header;
 
 // The bytes of a block.
 pub fn block_length(s: Sizes) -> u32
     requires { ⌜ s .nodes ≤ 32 ⌝ }
     ensures { λ r. ⌜ (r ≡ block-long s) × (r ≤ 392) ⌝ }
 {
-    8 + 12 * s.nodes
+    Header::HEAD + 12 * s.nodes
 }
 
 // Where a block starts.
@@ -21,7 +22,7 @@ pub fn offset(s: Sizes, i: u32) -> usize
     requires { ⌜ (i < s .blocks) × (s .blocks ≤ 65535) × (s .nodes ≤ 32) ⌝ }
     ensures { λ r. ⌜ (r ≡ 53 + i * block-long s) × (r + block-long s ≤ 53 + s .blocks * block-long s) ⌝ }
 {
-    53 + i as usize * (block_length(s) as usize)
+    Header::LENGTH + i as usize * (block_length(s) as usize)
 }
 
 pub fn label_at(table: &[u8], s: Sizes, i: u32) -> Label
