@@ -15,3 +15,10 @@ pub mod Sound
 pub mod Walked
 pub mod Complete
 pub mod Decides
+pub mod Makes
+pub mod Runs
+pub mod Alike
+pub mod Meeting
+pub mod Reached
+pub mod Demands
+pub mod Wrong

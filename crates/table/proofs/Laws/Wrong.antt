@@ -1,0 +1,232 @@
+-- The wrong programs of document 01, "Contracts", and the clause that excludes each: on every table, and then on tables of the run.
+use mathlib.Core.Path.{_≡_, refl, sym, ap, _∙_}
+use mathlib.Core.Bool.{Bool, true, false, _&&_, cond, not, false≢true}
+use mathlib.Core.List.{List, [], _∷_, _++_}
+use Prim.Native.Nat.{ℕ, zero, suc}
+use native.Mathlib.Omega.{arith}
+use borrow.Author.Tests.{eqb-false, eq-eqb}
+use lib.Dec.{ltb, eqb}
+use lib.ListN.{length, take, replicate}
+use Rattle.placement.specs.Numbers.{big, value-from, field, rows, rows-in}
+use Rattle.placement.specs.Sizes.{least-power, beta, sizes-good, seed-good, made}
+use Rattle.placement.specs.Hash.{hash-from, h, g, divides-from, level}
+use Rattle.placement.specs.Header.{block-long, table-long, header, sizes-in, held-in, rule-1}
+use Rattle.placement.specs.Blocks.{around, stored, place-from, placed}
+use Rattle.placement.specs.Chunks.{home, node-bytes, block-bytes}
+use Rattle.placement.specs.Decode.{node-in, chunk-of, block-of, blocks-in}
+use Rattle.placement.specs.declared.Sizes.{Sizes}
+use Rattle.placement.specs.declared.Order.{Order}
+use Rattle.placement.proofs.Laws.Sizes.{and-parts, limits}
+use Rattle.skiplist.specs.Lists.{front, at-least, list-at, starts-one, run, rest, partitions, first-key, masked, chunks-of, all-chunks, chunks-from, chunks, blocks}
+use Rattle.skiplist.specs.Image.{image, into, all-into, gathered, orders-in, quantities-good, orders-good, fits, same, is-image}
+use Rattle.skiplist.specs.Questions.{Question, ask, first-no, is-key, held, without, with-order, order, between, reserve, any-reserve, asks-image, asks-put, asks-key, asks-range, asks-span, asks-seek}
+use Rattle.skiplist.specs.Book.{cancel, put-refusal, key-refusal, booked, refusal, done}
+use Rattle.skiplist.specs.Examples.{run-seed, run-sizes, empty-table, put-3, put-6}
+use Rattle.skiplist.proofs.Parts.{or-left, or-right, good-up}
+use Rattle.skiplist.proofs.Kept.{held-without, kept-none, kept-put, kept-cancel}
+use Rattle.skiplist.proofs.Third.{image-parts}
+use Rattle.table.specs.Calls.{says, Edit-says, Put-says, Cancel-says, check-number, Look-says, Look-as, Span-says, Span-as, Seek-says, Seek-as}
+use Rattle.table.specs.declared.Reply.{Reply}
+use Rattle.table.proofs.Laws.Makes.{passes}
+use Rattle.table.proofs.Laws.Runs.{Holds, holds-image}
+use Rattle.table.proofs.Laws.Alike.{Tells, here, there}
+
+-- ---- THE CLAUSE ON THE TABLE. A put or cancel that returns 0 leaves the book's orders
+pub put-holds : (k t d : ℕ) (x z : List ℕ) → Put-says k t d 0 x z → Holds (sizes-in x) (with-order (order k t d) (orders-in x)) z
+unfolding Put-says Edit-says refusal done booked
+put-holds k t d x z w =
+    let i = passes 3 (is-image x) (put-refusal (sizes-in x) k t d (orders-in x)) (sym (w .0)) in
+    let p = image-parts x (i .0) in
+    holds-image (sizes-in x) (with-order (order k t d) (orders-in x)) z (p .sizes-made) (kept-put (sizes-in x) k t d (orders-in x) (p .orders-kept) (i .1)) (w .1 ∙ rw (i .0, i .1))
+
+-- a put: its order, with its quantities
+into-tells : (o : Order) (os : List Order) → held (o .key) os ≡ false → Tells (o .key) (o .total) (o .displayed) (into o os)
+unfolding into held
+into-tells o [] e = here o []
+into-tells o (q ∷ os) e = go (ltb (o .key) (q .key)) (into-tells o os (or-right (eqb (q .key) (o .key)) (held (o .key) os) e))
+  where
+    go : (t : Bool) → Tells (o .key) (o .total) (o .displayed) (into o os) → Tells (o .key) (o .total) (o .displayed) (cond t (o ∷ q ∷ os) (q ∷ into o os))
+    go true w = here o (q ∷ os)
+    go false w =
+        let n = there (o .key) q (into o os) (eqb-false (q .key) (o .key) (or-left (eqb (q .key) (o .key)) (held (o .key) os) e)) in
+        (n .0 ∙ w .0, n .1 ∙ w .1, n .2 ∙ w .2)
+
+pub put-tells : (k t d : ℕ) (x z : List ℕ) → Put-says k t d 0 x z → Tells k t d (orders-in z)
+unfolding with-order Put-says Edit-says refusal
+put-tells k t d x z w =
+    let p = image-parts x (passes 3 (is-image x) (put-refusal (sizes-in x) k t d (orders-in x)) (sym (w .0)) .0) in
+    rw (put-holds k t d x z w .orders) (into-tells (order k t d) (without k (orders-in x)) (held-without k 1 (orders-in x) (good-up 1 (orders-in x) (p .orders-kept .good))))
+
+-- a cancel: an order was there, and is gone
+key-held : (k : ℕ) (os : List Order) → key-refusal k os ≡ 0 → held k os ≡ true
+unfolding key-refusal first-no asks-key
+key-held k os e = passes 8 (held k os) 0 (passes 4 (is-key k) _ e .1) .0
+
+pub cancel-tells : (k : ℕ) (x z : List ℕ) → Cancel-says k 0 x z → (held k (orders-in x) ≡ true) × (held k (orders-in z) ≡ false)
+unfolding Cancel-says Edit-says refusal done booked
+cancel-tells k x z w =
+    let s = sizes-in x in
+    let os = orders-in x in
+    let i = passes 3 (is-image x) (key-refusal k os) (sym (w .0)) in
+    let p = image-parts x (i .0) in
+    let l = holds-image s (without k os) z (p .sizes-made) (kept-cancel s (limits s (p .sizes-made)) k os (p .orders-kept) (i .1)) (w .1 ∙ rw (i .0, i .1)) in
+    (key-held k os (i .1), ap (held k) (l .orders) ∙ held-without k 1 os (good-up 1 os (p .orders-kept .good)))
+
+-- a put that returns 0 and leaves the table, whatever it did before
+pub idle-put : (k t d : ℕ) (x : List ℕ) → held k (orders-in x) ≡ false → Put-says k t d 0 x x → ⊥
+idle-put k t d x e w = false≢true (sym e ∙ put-tells k t d x x w .0)
+
+-- such a cancel
+pub idle-cancel : (k : ℕ) (x : List ℕ) → Cancel-says k 0 x x → ⊥
+idle-cancel k x w = let t = cancel-tells k x x w in false≢true (sym (t .1) ∙ t .0)
+
+-- a table always written as P3
+none-held : (k : ℕ) → held k [] ≡ false
+unfolding held
+none-held k = refl
+
+pub always-empty : (k t d : ℕ) (x : List ℕ) (s : Sizes) → made s ≡ true → Put-says k t d 0 x (image s []) → ⊥
+always-empty k t d x s m w =
+    let e = holds-image s [] (image s []) m (kept-none s (limits s m)) refl .orders in
+    false≢true (sym (none-held k) ∙ ap (held k) (sym e) ∙ put-tells k t d x (image s []) w .0)
+
+-- ---- THE CLAUSES ON THE ANSWER
+look-number : (n k : ℕ) (os : List Order) (r : Reply) → Look-as n k os r → r .number ≡ n
+unfolding Look-as says
+look-number zero k os r w = w .0
+look-number (suc n) k os r w = w .0
+
+span-number : (n : ℕ) (os : List Order) (r : Reply) (o z : List ℕ) → Span-as n os r o z → r .number ≡ n
+unfolding Span-as says
+span-number zero os r o z w = w .0 .0
+span-number (suc n) os r o z w = w .0 .0
+
+seek-number : (n : ℕ) (os : List Order) (lo hi l : ℕ) (r : Reply) → Seek-as n os lo hi l r → r .number ≡ n
+unfolding Seek-as says
+seek-number zero os lo hi l r w = w .number
+seek-number (suc n) os lo hi l r w = w .0
+
+-- a span whose count is invented: it is the number of orders in lo..hi
+counted : (n : ℕ) (os : List Order) (r : Reply) (o z : List ℕ) → Span-as n os r o z → r .number ≡ 0 → r .total ≡ length os
+unfolding Span-as says
+counted zero os r o z w e = w .0 .2
+counted (suc n) os r o z w e = absurd (omega (arith, w .0 .0))
+
+pub span-counts : (x : List ℕ) (lo hi : ℕ) (r : Reply) (o z : List ℕ) → Span-says x lo hi r o z → r .number ≡ 0 → r .total ≡ length (between lo hi (orders-in x))
+unfolding Span-says
+span-counts x lo hi r o z w e = counted _ (between lo hi (orders-in x)) r o z w e
+
+-- A NUMBER IS GIVEN FOR ITS OWN QUESTION, where no other question has it
+unfoldable apart : (n : ℕ) → List Question → Bool
+apart n [] = not (eqb n 0)
+apart n (ask m t ∷ qs) = not (eqb m n) && apart n qs
+
+never : (n : ℕ) (qs : List Question) → apart n qs ≡ true → first-no qs ≡ n → ⊥
+unfolding apart first-no
+never n [] a e = false≢true (sym (ap not (eq-eqb n 0 (sym e))) ∙ a)
+never n (ask m true ∷ qs) a e = never n qs (and-parts (not (eqb m n)) (apart n qs) a .1) e
+never n (ask m false ∷ qs) a e = false≢true (sym (ap not (eq-eqb m n e)) ∙ and-parts (not (eqb m n)) (apart n qs) a .0)
+
+own-question : (n : ℕ) (qs rs : List Question) (t : Bool) → apart n (qs ++ rs) ≡ true → first-no (qs ++ ask n t ∷ rs) ≡ n → t ≡ false
+unfolding apart first-no
+own-question n [] rs true a e = absurd (never n rs a e)
+own-question n [] rs false a e = refl
+own-question n (ask m true ∷ qs) rs t a e = own-question n qs rs t (and-parts (not (eqb m n)) (apart n (qs ++ rs)) a .1) e
+own-question n (ask m false ∷ qs) rs t a e = absurd (false≢true (sym (ap not (eq-eqb m n e)) ∙ and-parts (not (eqb m n)) (apart n (qs ++ rs)) a .0))
+
+-- an 8 given without looking
+pub blind-8 : (k t d : ℕ) (x z : List ℕ) → Put-says k t d 8 x z → fits (sizes-in x) (with-order (order k t d) (orders-in x)) ≡ false
+unfolding Put-says Edit-says refusal put-refusal first-no asks-image asks-put apart
+blind-8 k t d x z w = own-question 8 (take 4 (asks-image x ++ asks-put (sizes-in x) k t d (orders-in x))) [] _ refl (sym (w .0))
+
+-- a 12 given without looking
+pub blind-12 : (x : List ℕ) (lo hi l : ℕ) (r : Reply) → Seek-says x lo hi l r → r .number ≡ 12 → any-reserve l (between lo hi (orders-in x)) ≡ false
+unfolding Seek-says first-no asks-image asks-range asks-seek apart
+blind-12 x lo hi l r w e = own-question 12 (asks-image x ++ asks-range lo hi) [] _ refl (sym (seek-number _ (orders-in x) lo hi l r w) ∙ e)
+
+-- a call that gives 4 to all: 4 is given only of bytes that are no image
+pub put-4 : (k t d : ℕ) (x z : List ℕ) → Put-says k t d 4 x z → is-image x ≡ false
+unfolding Put-says Edit-says refusal put-refusal first-no asks-put apart
+put-4 k t d x z w = own-question 4 [] (asks-put (sizes-in x) k t d (orders-in x)) _ refl (sym (w .0))
+
+pub cancel-4 : (k : ℕ) (x z : List ℕ) → Cancel-says k 4 x z → is-image x ≡ false
+unfolding Cancel-says Edit-says refusal key-refusal first-no asks-key apart
+cancel-4 k x z w = own-question 4 [] (asks-key k (orders-in x)) _ refl (sym (w .0))
+
+pub look-4 : (x : List ℕ) (k : ℕ) (r : Reply) → Look-says x k r → r .number ≡ 4 → is-image x ≡ false
+unfolding Look-says asks-image asks-key apart
+look-4 x k r w e = own-question 4 [] (asks-key k (orders-in x)) _ refl (sym (look-number _ k (orders-in x) r w) ∙ e)
+
+pub span-4 : (x : List ℕ) (lo hi : ℕ) (r : Reply) (o z : List ℕ) → Span-says x lo hi r o z → r .number ≡ 4 → is-image x ≡ false
+unfolding Span-says asks-image asks-range asks-span apart
+span-4 x lo hi r o z w e = own-question 4 [] (asks-span lo hi (length o) (orders-in x)) _ refl (sym (span-number _ (between lo hi (orders-in x)) r o z w) ∙ e)
+
+pub seek-4 : (x : List ℕ) (lo hi l : ℕ) (r : Reply) → Seek-says x lo hi l r → r .number ≡ 4 → is-image x ≡ false
+unfolding Seek-says asks-image asks-range asks-seek apart
+seek-4 x lo hi l r w e = own-question 4 [] (asks-seek lo hi l (orders-in x)) _ refl (sym (seek-number _ (orders-in x) lo hi l r w) ∙ e)
+
+pub check-4 : (x : List ℕ) → check-number x ≡ 4 → is-image x ≡ false
+unfolding check-number asks-image apart
+check-4 x e = own-question 4 [] [] _ refl e
+
+-- ---- ON TABLES OF THE RUN, where no question turns these calls down
+unfoldable pub with-6 : List ℕ
+with-6 = done put-6 empty-table
+
+unfoldable pub with-both : List ℕ
+with-both = done put-3 with-6
+
+record Computed : Type 0 where
+  six : refusal put-6 empty-table ≡ 0
+  three : refusal put-3 with-6 ≡ 0
+  not-yet : held 3 (orders-in with-6) ≡ false
+  cancels : refusal (cancel 6) with-6 ≡ 0
+  allowed : made run-sizes ≡ true
+  spans : first-no (asks-image with-both ++ asks-span 1 9 24 (orders-in with-both)) ≡ 0
+  finds : length (between 1 9 (orders-in with-both)) ≡ 2
+  seeks : first-no (asks-image with-both ++ asks-seek 1 9 80 (orders-in with-both)) ≡ 0
+
+computed : Computed
+unfolding big value-from field rows rows-in least-power beta sizes-good seed-good made hash-from h g divides-from level block-long table-long header sizes-in held-in rule-1 around stored place-from placed home node-bytes block-bytes node-in chunk-of block-of blocks-in front at-least list-at starts-one run rest partitions first-key masked chunks-of all-chunks chunks-from chunks blocks image into all-into gathered orders-in quantities-good orders-good fits same is-image first-no is-key held without with-order between reserve any-reserve asks-image asks-put asks-key asks-range asks-span asks-seek put-refusal key-refusal booked refusal done run-seed run-sizes empty-table put-3 put-6 with-6 with-both
+computed = record { six = refl; three = refl; not-yet = refl; cancels = refl; allowed = refl; spans = refl; finds = refl; seeks = refl }
+
+-- a put that edits properly once and later only returns 0, or returns whatever it likes
+pub once-right : Put-says 6 50 50 0 empty-table with-6
+unfolding Put-says Edit-says put-6 with-6
+once-right = (sym (computed .six), refl)
+
+pub later-idle : (r : ℕ) → Put-says 3 100 20 r with-6 with-6 → ⊥
+unfolding Put-says Edit-says put-3
+later-idle r w = idle-put 3 100 20 with-6 (computed .not-yet) (sym (computed .three), w .1)
+
+-- a put or cancel that leaves the table
+pub put-idle : (r : ℕ) → Put-says 6 50 50 r empty-table empty-table → ⊥
+unfolding Put-says Edit-says put-6 empty-table
+put-idle r w = always-empty 6 50 50 empty-table run-sizes (computed .allowed) (sym (computed .six), w .1)
+
+pub cancel-idle : (r : ℕ) → Cancel-says 6 r with-6 with-6 → ⊥
+unfolding Cancel-says Edit-says
+cancel-idle r w = idle-cancel 6 with-6 (sym (computed .cancels), w .1)
+
+-- a table always written as P3
+pub written-empty : (r : ℕ) → Put-says 3 100 20 r with-6 empty-table → ⊥
+unfolding Put-says Edit-says put-3 empty-table
+written-empty r w = always-empty 3 100 20 with-6 run-sizes (computed .allowed) (sym (computed .three), w .1)
+
+-- a span whose count is invented
+pub span-two : (r : Reply) (z : List ℕ) → Span-says with-both 1 9 r (replicate 24 7) z → r .total ≡ 2
+unfolding Span-says
+span-two r z w = span-counts with-both 1 9 r (replicate 24 7) z w (span-number _ (between 1 9 (orders-in with-both)) r (replicate 24 7) z w ∙ computed .spans) ∙ computed .finds
+
+-- an 8, a 4, a 12 without looking
+pub not-8 : (z : List ℕ) → Put-says 6 50 50 8 empty-table z → ⊥
+unfolding Put-says Edit-says put-6
+not-8 z w = omega (arith, w .0, computed .six)
+
+pub not-4 : (z : List ℕ) → Put-says 6 50 50 4 empty-table z → ⊥
+unfolding Put-says Edit-says put-6
+not-4 z w = omega (arith, w .0, computed .six)
+
+pub not-12 : (r : Reply) → Seek-says with-both 1 9 80 r → r .number ≡ 12 → ⊥
+unfolding Seek-says
+not-12 r w e = omega (arith, seek-number _ (orders-in with-both) 1 9 80 r w, computed .seeks)

@@ -1,0 +1,32 @@
+//! Writes the image of made-up orders to standard output, for benchmarks.
+//!
+//!     sample γ B N ORDERS PERCENT
+//!
+//! ORDERS random orders under a random seed, in as many blocks as make the chunks
+//! PERCENT of them.
+
+use reference::image::image;
+use reference::lists::{chunks, lists, Orders, Quantities};
+use reference::samples::{random_seed, some_quantities, Xorshift};
+use reference::sizes::{Made, Sizes, P};
+use std::io::{self, Write};
+
+fn main() -> io::Result<()> {
+    let numbers: Vec<u32> =
+        std::env::args().skip(1).map(|text| text.parse().expect("a number")).collect();
+    let [gamma, nodes, orders, held, percent] = numbers[..] else {
+        panic!("sample γ B N ORDERS PERCENT");
+    };
+    let mut generator = Xorshift::new(u64::from(held));
+    let seed = random_seed(&mut generator);
+    let mut book = Orders::new();
+    while book.len() < held as usize {
+        let (total, displayed) = some_quantities(&mut generator);
+        book.insert(generator.within(1, P - 1), Quantities { total, displayed });
+    }
+    let mut made = Made { sizes: Sizes { gamma, nodes, orders, blocks: 0 }, seed };
+    let count = chunks(&made, &lists(&made, &book)).len() as u32;
+    made.sizes.blocks = (count * 100).div_ceil(percent).max(made.sizes.beta());
+    let bytes = image(&made, &book).expect("as many blocks as chunks at least");
+    io::stdout().write_all(&bytes)
+}
