@@ -1,25 +1,60 @@
 # Balluchaw: `make run` and `make test` do everything on a fresh machine with the Rattle kit; each installs what else it needs and says so.
 PREFIX ?= /usr/local
+CC ?= cc
+CFLAGS ?= -O2 -Wall -Wextra -Werror
 CARGO = CARGO_TARGET_DIR=build/reference cargo
-REFERENCE = $(CARGO) build --quiet --release --offline --manifest-path reference/Cargo.toml
+REFERENCE = build/reference/release
+ARCHIVE = target/staticlib/libballuchaw.a
 
-.PHONY: run test bench install clean need
+.PHONY: all run test bench install uninstall clean need reference archive
+
+all: archive
 
 need:
-	@scripts/need cargo:cargo cc:gcc
+	@scripts/need cargo:cargo cc:gcc valgrind:valgrind
+
+reference: need
+	@mkdir -p build
+	@$(CARGO) build --quiet --release --offline --manifest-path reference/Cargo.toml
+
+archive:
+	rt staticlib balluchaw
 
 # Document 01's full run.
-run: need
-	@$(REFERENCE)
-	@build/reference/release/console < examples/full-run.txt | tee build/full-run.out
+run: reference
+	@$(REFERENCE)/console < examples/full-run.txt | tee build/full-run.out
 	@diff examples/full-run.out build/full-run.out && echo "as document 01 has it"
 
+build/vectors: tests/c/vectors.c include/balluchaw.h archive
+	@mkdir -p build
+	$(CC) $(CFLAGS) -g -Iinclude tests/c/vectors.c $(ARCHIVE) -o $@
+
 # All tests, and last the proofs: the last line is rt ci's own.
-test: need
+test: reference build/vectors
 	$(CARGO) test --quiet --release --offline --manifest-path reference/Cargo.toml
-	@mkdir -p build && $(REFERENCE) && build/reference/release/console < examples/full-run.txt | diff examples/full-run.out -
+	$(REFERENCE)/console < examples/full-run.txt | diff examples/full-run.out -
+	$(REFERENCE)/vectors 60000 readings | build/vectors
+	$(REFERENCE)/vectors 1500 readings | valgrind --quiet --error-exitcode=9 build/vectors
 	rt fmt --check
 	rt ci
+
+# The check beside checks in C, in one process.
+bench: reference archive
+	@mkdir -p build
+	clang -O3 -march=native -c bench/peers/check.c -o build/check.o 2>/dev/null || $(CC) -O3 -march=native -c bench/peers/check.c -o build/check.o
+	clang -O3 -march=native -DTUNED -c bench/peers/check.c -o build/tuned.o 2>/dev/null || $(CC) -O3 -march=native -DTUNED -c bench/peers/check.c -o build/tuned.o
+	$(CC) -O2 -Iinclude -Ibench bench/bench.c build/check.o build/tuned.o $(ARCHIVE) -o build/bench
+	for n in 1000 10000 60000; do $(REFERENCE)/sample 16 16 $$n $$n 80 > build/table-$$n; done
+	build/bench build/table-1000 build/table-10000 build/table-60000
+
+install: archive
+	install -d $(DESTDIR)$(PREFIX)/lib/pkgconfig $(DESTDIR)$(PREFIX)/include
+	install -m 644 $(ARCHIVE) $(DESTDIR)$(PREFIX)/lib/
+	install -m 644 include/balluchaw.h $(DESTDIR)$(PREFIX)/include/
+	sed 's|@PREFIX@|$(PREFIX)|' balluchaw.pc.in > $(DESTDIR)$(PREFIX)/lib/pkgconfig/balluchaw.pc
+
+uninstall:
+	rm -f $(DESTDIR)$(PREFIX)/lib/libballuchaw.a $(DESTDIR)$(PREFIX)/include/balluchaw.h $(DESTDIR)$(PREFIX)/lib/pkgconfig/balluchaw.pc
 
 clean:
 	rm -rf build target

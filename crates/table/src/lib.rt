@@ -1,4 +1,5 @@
 // The open-order table: the calls of document 01 on plain slices.
+pub mod checking;
 pub mod sweep;
 pub mod walk;
 

@@ -12,8 +12,10 @@ use reference::sizes::{Made, Sizes, P};
 use std::io::{self, Write};
 
 fn main() -> io::Result<()> {
-    let numbers: Vec<u32> =
-        std::env::args().skip(1).map(|text| text.parse().expect("a number")).collect();
+    let numbers: Vec<u32> = std::env::args()
+        .skip(1)
+        .map(|text| text.parse().expect("a number"))
+        .collect();
     let [gamma, nodes, orders, held, percent] = numbers[..] else {
         panic!("sample γ B N ORDERS PERCENT");
     };
@@ -24,7 +26,15 @@ fn main() -> io::Result<()> {
         let (total, displayed) = some_quantities(&mut generator);
         book.insert(generator.within(1, P - 1), Quantities { total, displayed });
     }
-    let mut made = Made { sizes: Sizes { gamma, nodes, orders, blocks: 0 }, seed };
+    let mut made = Made {
+        sizes: Sizes {
+            gamma,
+            nodes,
+            orders,
+            blocks: 0,
+        },
+        seed,
+    };
     let count = chunks(&made, &lists(&made, &book)).len() as u32;
     made.sizes.blocks = (count * 100).div_ceil(percent).max(made.sizes.beta());
     let bytes = image(&made, &book).expect("as many blocks as chunks at least");

@@ -1,0 +1,28 @@
+-- The answer of a check. Assumes nothing.
+use mathlib.Core.Path.{_≡_, sym, _∙_}
+use mathlib.Core.Bool.{Bool, true, false}
+use mathlib.Core.List.{List, [], _∷_}
+use Prim.Native.Nat.{ℕ, suc, _<_}
+use lib.ListN.{getD}
+use Rattle.placement.proofs.Laws.Numbers.{Bytes}
+use Rattle.skiplist.specs.Image.{is-image}
+use Rattle.skiplist.specs.Questions.{first-no, asks-image}
+use Rattle.table.specs.Check.{check-passes}
+use Rattle.table.specs.Calls.{check-number}
+use Rattle.table.proofs.Laws.Decides.{check-decides}
+
+pub bytes-all : (bs : List ℕ) → ((i : ℕ) → getD bs i 0 < 256) → Bytes bs
+bytes-all [] h = tt
+bytes-all (x ∷ xs) h = (h 0, bytes-all xs (λ i. h (suc i)))
+
+module _ (bs : List ℕ) (small : (i : ℕ) → getD bs i 0 < 256) (t : Bool) (et : t ≡ check-passes bs) where
+  decided : (u : Bool) → t ≡ u → is-image bs ≡ u
+  decided u e = sym (check-decides bs (bytes-all bs small)) ∙ sym et ∙ e
+
+  pub check-yes : t ≡ true → 0 ≡ check-number bs
+  unfolding check-number first-no asks-image
+  check-yes e = sym (rw (decided true e))
+
+  pub check-no : t ≡ false → 4 ≡ check-number bs
+  unfolding check-number first-no asks-image
+  check-no e = sym (rw (decided false e))

@@ -1,0 +1,61 @@
+// The check: question 4.
+ghost use mathlib.Core.Path.{_≡_};
+ghost use Prim.Native.Nat.{_/_, _^_, _≤_};
+ghost use Rattle.placement.specs.Sizes.{beta};
+ghost use Rattle.table.specs.Check.{check-passes};
+ghost use Rattle.table.specs.Calls.{check-number};
+use crate::Seen;
+use crate::sweep::finished;
+use crate::sweep::sweep;
+use crate::walk::walk_partition;
+use placement::Sizes;
+use placement::hash::highest;
+use placement::header::Header;
+use placement::header::rule_one;
+
+// Do the bytes pass rule 1, the pass over the blocks and the walk?
+fn passes(table: &[u8]) -> bool
+    ensures { λ r. ⌜ r ≡ check-passes (now (table .entry)) ⌝ }
+{
+    if !rule_one(table) {
+        return false;
+    }
+    let h = Header::read(table);
+    let s = h.sizes;
+    let t = sweep(table, s);
+    if !t.clean {
+        return false;
+    }
+    let top = highest(s);
+    let x = Seen {
+        ok: true,
+        low: 0,
+        orders: h.held + 1,
+        chunks: t.full,
+    };
+    finished(walk_partition(table, s, top, top, power(s, top), 0, x))
+}
+
+// Check: question 4.
+pub fn check(table: &[u8]) -> u32
+    ensures { λ r. ⌜ (r ≡ check-number (now (table .entry))) × (now (table .exit) ≡ now (table .entry)) ⌝ }
+{
+    if passes(table) {
+        return 0;
+    }
+    4
+}
+
+// gamma^top / gamma. It fits: top is 2, or gamma^(top - 3) is below the number of orders.
+fn power(s: Sizes, top: u32) -> u32
+    requires { ⌜ (2 ≤ s .gamma) × (s .gamma ≤ 64) × (s .orders ≤ 65535) × (top ≡ beta s) ⌝ }
+    ensures { λ r. ⌜ r ≡ s .gamma ^ top / s .gamma ⌝ }
+{
+    let mut p: u32 = 1;
+    let mut i: u32 = 1;
+    while i < top {
+        p = p * s.gamma;
+        i += 1;
+    }
+    p
+}
