@@ -42,7 +42,7 @@ test: reference build/vectors
 bench: reference archive
 	@mkdir -p build
 	clang -O3 -march=native -c bench/peers/check.c -o build/check.o 2>/dev/null || $(CC) -O3 -march=native -c bench/peers/check.c -o build/check.o
-	clang -O3 -march=native -DTUNED -c bench/peers/check.c -o build/tuned.o 2>/dev/null || $(CC) -O3 -march=native -DTUNED -c bench/peers/check.c -o build/tuned.o
+	clang -O3 -march=native -DTUNED -Dcheck_plain=check_tuned -c bench/peers/check.c -o build/tuned.o 2>/dev/null || $(CC) -O3 -march=native -DTUNED -Dcheck_plain=check_tuned -c bench/peers/check.c -o build/tuned.o
 	$(CC) -O2 -Iinclude -Ibench bench/bench.c build/check.o build/tuned.o $(ARCHIVE) -o build/bench
 	for n in 1000 10000 60000; do $(REFERENCE)/sample 16 16 $$n $$n 80 > build/table-$$n; done
 	build/bench build/table-1000 build/table-10000 build/table-60000

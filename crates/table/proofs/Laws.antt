@@ -25,3 +25,6 @@ pub mod Wrong
 pub mod Powers
 pub mod Checking
 pub mod Decided
+pub mod Seeds
+pub mod Fronts
+pub mod Making

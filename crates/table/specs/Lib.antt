@@ -1,5 +1,6 @@
 pub mod Walk
 pub mod Check
+pub mod Make
 pub mod Calls
 pub mod Visit
 pub mod Promise

@@ -1,5 +1,6 @@
 // The open-order table: the calls of document 01 on plain slices.
 pub mod checking;
+pub mod making;
 pub mod sweep;
 pub mod walk;
 
