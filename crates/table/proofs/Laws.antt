@@ -28,3 +28,10 @@ pub mod Decided
 pub mod Seeds
 pub mod Fronts
 pub mod Making
+pub mod Visits
+pub mod Rows
+pub mod Chunked
+pub mod Tours
+pub mod Tallies
+pub mod Answers
+pub mod Replies

@@ -1,7 +1,9 @@
 // The open-order table: the calls of document 01 on plain slices.
 pub mod checking;
 pub mod making;
+pub mod readings;
 pub mod sweep;
+pub mod visits;
 pub mod walk;
 
 // A walk under way: no key below `low` may come, and so many orders and chunks are still to come.

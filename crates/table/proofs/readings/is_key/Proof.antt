@@ -1,0 +1,12 @@
+-- `table::readings::is_key` meets its contract: each need follows from the laws listed. Assumes nothing.
+use borrow.Author.Needs.{needs}
+use Rattle.table.proofs.Laws.Answers.{key-zero, key-some}
+use Rattle.table.proofs.readings.is_key.Statement.{statement}
+use Rattle.table.proofs.readings.is_key.Tie as tie
+
+ruleset laws = (needs, key-zero, key-some)
+
+pub is-key-spec : {M : Type 1} → statement M
+is-key-spec =
+    tie.close
+    (tie.spec (λ c. search laws) (λ c. search laws))
