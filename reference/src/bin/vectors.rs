@@ -157,18 +157,22 @@ impl Recorder {
         self.edit(text, |store| calls::cancel(&mut store[..length], key))
     }
 
-    /// An edit as a call, or as the bytes from the first to the last that it changed.
+    /// An edit as a call, or as the runs of bytes that it changed.
     fn edit(&mut self, text: String, call: impl Fn(&mut [u8]) -> Reply) -> Reply {
         let before = self.store.clone();
         let reply = call(&mut self.store);
         if !self.readings {
             return self.call(text, reply, None);
         }
-        let differs = |i: &usize| before[*i] != self.store[*i];
-        let places: Vec<usize> = (0..before.len()).filter(differs).collect();
-        if let (Some(first), Some(last)) = (places.first(), places.last()) {
-            let bytes = self.store[*first..=*last].to_vec();
-            self.set(*first, &bytes);
+        let after = self.store.clone();
+        let mut place = 0;
+        while place < after.len() {
+            let run = (place..after.len()).take_while(|i| before[*i] != after[*i]);
+            let end = place + run.count();
+            if place < end {
+                self.set(place, &after[place..end]);
+            }
+            place = end + 1;
         }
         reply
     }

@@ -1,0 +1,46 @@
+// The C interface: each call as document 01 has it, on numbers and byte slices. include/balluchaw.h says the same in C.
+ghost use mathlib.Core.Path.{_≡_};
+ghost use Rattle.table.specs.Calls.{Make-says, check-number, Look-says, Span-says, Seek-says};
+use table::Reply;
+
+#[no_mangle]
+pub extern "C" fn balluchaw_make(
+    table: &mut [u8],
+    gamma: u32,
+    nodes: u32,
+    orders: u32,
+    blocks: u32,
+    seed: &[u8],
+) -> u32
+    ensures { λ r. ⌜ Make-says gamma nodes orders blocks (now (seed .entry)) r (now (table .entry)) (now (table .exit)) × (now (seed .exit) ≡ now (seed .entry)) ⌝ }
+{
+    table::making::make(table, gamma, nodes, orders, blocks, seed)
+}
+
+#[no_mangle]
+pub extern "C" fn balluchaw_check(table: &[u8]) -> u32
+    ensures { λ r. ⌜ (r ≡ check-number (now (table .entry))) × (now (table .exit) ≡ now (table .entry)) ⌝ }
+{
+    table::checking::check(table)
+}
+
+#[no_mangle]
+pub extern "C" fn balluchaw_lookup(table: &[u8], key: u32) -> Reply
+    ensures { λ r. ⌜ Look-says (now (table .entry)) key r × (now (table .exit) ≡ now (table .entry)) ⌝ }
+{
+    table::readings::lookup(table, key)
+}
+
+#[no_mangle]
+pub extern "C" fn balluchaw_span(table: &[u8], lo: u32, hi: u32, output: &mut [u8]) -> Reply
+    ensures { λ r. ⌜ Span-says (now (table .entry)) lo hi r (now (output .entry)) (now (output .exit)) × (now (table .exit) ≡ now (table .entry)) ⌝ }
+{
+    table::readings::span(table, lo, hi, output)
+}
+
+#[no_mangle]
+pub extern "C" fn balluchaw_seek(table: &[u8], lo: u32, hi: u32, reserve: u32) -> Reply
+    ensures { λ r. ⌜ Seek-says (now (table .entry)) lo hi reserve r × (now (table .exit) ≡ now (table .entry)) ⌝ }
+{
+    table::readings::seek(table, lo, hi, reserve)
+}
