@@ -12,6 +12,9 @@
  *    3  is the table exactly of the length that the sizes ask for?
  *    4  are the bytes an image: a table that some make, puts and cancels give?
  *    5  is each key 1 to 2,147,483,646?
+ *    6  is total at least 1 and displayed at most total?
+ *    7  is the key held, or are there fewer orders than the table may hold?
+ *    8  do the resulting orders have at most as many chunks as the table has blocks?
  *    9  is the key held?
  *   10  is lo at most hi?
  *   11  has the output 12 bytes for each held key in lo..hi?
@@ -46,6 +49,12 @@ uint32_t balluchaw_make(uint8_t *table, size_t length, uint32_t gamma, uint32_t 
 
 /* Are these bytes a table, whoever made them? Asks 4. */
 uint32_t balluchaw_check(const uint8_t *table, size_t length);
+
+/* Adds an order, or replaces both quantities of a held one. Asks 4, 5, 6, 7, 8. */
+uint32_t balluchaw_put(uint8_t *table, size_t length, uint32_t key, uint32_t total, uint32_t displayed);
+
+/* Takes an order out. Nothing in the bytes tells that it was there. Asks 4, 5, 9. */
+uint32_t balluchaw_cancel(uint8_t *table, size_t length, uint32_t key);
 
 /* The quantities of an order. Asks 4, 5, 9. */
 balluchaw_reply balluchaw_lookup(const uint8_t *table, size_t length, uint32_t key);

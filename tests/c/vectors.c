@@ -126,6 +126,22 @@ static void step(char *line) {
         uint32_t n = balluchaw_check(t, length);
         take_back(t, length);
         expect("check", only(n));
+    } else if (strcmp(word, "put") == 0) {
+        size_t length = number();
+        uint32_t key = number(), total = number(), displayed = number();
+        uint8_t *t = lend(length);
+        equals_sign();
+        uint32_t n = balluchaw_put(t, length, key, total, displayed);
+        take_back(t, length);
+        expect("put", only(n));
+    } else if (strcmp(word, "cancel") == 0) {
+        size_t length = number();
+        uint32_t key = number();
+        uint8_t *t = lend(length);
+        equals_sign();
+        uint32_t n = balluchaw_cancel(t, length, key);
+        take_back(t, length);
+        expect("cancel", only(n));
     } else if (strcmp(word, "lookup") == 0) {
         size_t length = number();
         uint32_t key = number();

@@ -1,6 +1,6 @@
 // The C interface: each call as document 01 has it, on numbers and byte slices. include/balluchaw.h says the same in C.
 ghost use mathlib.Core.Path.{_≡_};
-ghost use Rattle.table.specs.Calls.{Make-says, check-number, Look-says, Span-says, Seek-says};
+ghost use Rattle.table.specs.Calls.{Make-says, check-number, Put-says, Cancel-says, Look-says, Span-says, Seek-says};
 use table::Reply;
 
 #[no_mangle]
@@ -22,6 +22,20 @@ pub extern "C" fn balluchaw_check(table: &[u8]) -> u32
     ensures { λ r. ⌜ (r ≡ check-number (now (table .entry))) × (now (table .exit) ≡ now (table .entry)) ⌝ }
 {
     table::checking::check(table)
+}
+
+#[no_mangle]
+pub extern "C" fn balluchaw_put(table: &mut [u8], key: u32, total: u32, displayed: u32) -> u32
+    ensures { λ r. ⌜ Put-says key total displayed r (now (table .entry)) (now (table .exit)) ⌝ }
+{
+    edits::changes::put(table, key, total, displayed)
+}
+
+#[no_mangle]
+pub extern "C" fn balluchaw_cancel(table: &mut [u8], key: u32) -> u32
+    ensures { λ r. ⌜ Cancel-says key r (now (table .entry)) (now (table .exit)) ⌝ }
+{
+    edits::changes::cancel(table, key)
 }
 
 #[no_mangle]

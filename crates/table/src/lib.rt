@@ -1,7 +1,11 @@
 // The open-order table: the calls of document 01 on plain slices.
 pub mod checking;
+pub mod growth;
+pub mod levels;
 pub mod making;
+pub mod pour;
 pub mod readings;
+pub mod spots;
 pub mod sweep;
 pub mod visits;
 pub mod walk;
@@ -42,4 +46,11 @@ pub struct Reply {
     pub key: u32,
     pub total: u32,
     pub displayed: u32,
+}
+
+// Where a key comes in a partition: how many nodes are below it, the key of the last of them, and how many nodes there are.
+pub struct Spot {
+    pub below: u32,
+    pub last: u32,
+    pub size: u32,
 }

@@ -69,7 +69,7 @@ fn visit_all(
 }
 
 // Is it a key?
-fn is_key(k: u32) -> bool
+pub fn is_key(k: u32) -> bool
     ensures { λ r. ⌜ r ≡ is-key k ⌝ }
 {
     if k == 0 {
@@ -104,7 +104,7 @@ pub enum Sought {
 }
 
 // The first order in lo..hi that has the reserve.
-fn first_with(table: &[u8], lo: u32, hi: u32, least: u32) -> Sought
+pub fn first_with(table: &[u8], lo: u32, hi: u32, least: u32) -> Sought
     requires { ⌜ (is-image (now table) ≡ true) × (1 ≤ lo) × (lo ≤ hi) ⌝ }
     ensures { λ r. ⌜ r ≡ first-enough least (between lo hi (orders-in (now (table .entry)))) ⌝ }
 {

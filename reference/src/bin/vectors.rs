@@ -1,10 +1,9 @@
 //! Prints recorded vectors for a test of the seven calls from C.
 //!
-//!     vectors [LINES] [readings]
+//!     vectors [LINES]
 //!
 //! LINES is 20,000 when left out. The same LINES gives the same text every time,
-//! and a smaller one gives its beginning. With `readings` there is no put and no
-//! cancel: a `set` line has the bytes that it changed instead.
+//! and a smaller one gives its beginning.
 //!
 //! The reader keeps a store of bytes. Each line is one step; its fields are
 //! parted by one blank. Numbers are decimal. BYTES and SEED are two hex digits
@@ -48,10 +47,7 @@ fn main() -> io::Result<()> {
         Some(text) => text.parse().expect("a number of lines"),
         None => 20_000,
     };
-    let readings = std::env::args()
-        .nth(2)
-        .is_some_and(|word| word == "readings");
-    let mut recorder = Recorder::new(lines, readings);
+    let mut recorder = Recorder::new(lines);
     record_all(&mut recorder);
     let mut output = BufWriter::new(io::stdout().lock());
     for line in &recorder.lines {
@@ -67,16 +63,14 @@ struct Recorder {
     store: Vec<u8>,
     lines: Vec<String>,
     wanted: usize,
-    readings: bool,
 }
 
 impl Recorder {
-    fn new(wanted: usize, readings: bool) -> Recorder {
+    fn new(wanted: usize) -> Recorder {
         Recorder {
             store: Vec::new(),
             lines: Vec::new(),
             wanted,
-            readings,
         }
     }
 
@@ -146,35 +140,17 @@ impl Recorder {
     }
 
     fn put(&mut self, length: usize, key: u32, total: u32, displayed: u32) -> Reply {
-        let text = format!("put {length} {key} {total} {displayed}");
-        self.edit(text, |store| {
-            calls::put(&mut store[..length], key, total, displayed)
-        })
+        let reply = calls::put(&mut self.store[..length], key, total, displayed);
+        self.call(
+            format!("put {length} {key} {total} {displayed}"),
+            reply,
+            None,
+        )
     }
 
     fn cancel(&mut self, length: usize, key: u32) -> Reply {
-        let text = format!("cancel {length} {key}");
-        self.edit(text, |store| calls::cancel(&mut store[..length], key))
-    }
-
-    /// An edit as a call, or as the runs of bytes that it changed.
-    fn edit(&mut self, text: String, call: impl Fn(&mut [u8]) -> Reply) -> Reply {
-        let before = self.store.clone();
-        let reply = call(&mut self.store);
-        if !self.readings {
-            return self.call(text, reply, None);
-        }
-        let after = self.store.clone();
-        let mut place = 0;
-        while place < after.len() {
-            let run = (place..after.len()).take_while(|i| before[*i] != after[*i]);
-            let end = place + run.count();
-            if place < end {
-                self.set(place, &after[place..end]);
-            }
-            place = end + 1;
-        }
-        reply
+        let reply = calls::cancel(&mut self.store[..length], key);
+        self.call(format!("cancel {length} {key}"), reply, None)
     }
 
     fn lookup(&mut self, length: usize, key: u32) -> Reply {

@@ -1,0 +1,46 @@
+-- A key is held exactly where the search for an order with that key alone finds one. Assumes nothing.
+use mathlib.Core.Path.{_≡_, sym, ap, _∙_, subst}
+use mathlib.Core.Bool.{Bool, true, false}
+use mathlib.Core.List.{List}
+use Prim.Native.Nat.{ℕ}
+use native.Mathlib.Omega.{arith}
+use borrow.Author.Tests.{eq-eqb}
+use lib.Dec.{eqb}
+use Rattle.placement.specs.declared.Order.{Order}
+use Rattle.skiplist.specs.Image.{orders-in}
+use Rattle.skiplist.specs.Questions.{is-key, held, between}
+use Rattle.table.specs.Calls.{Cancel-says}
+use Rattle.table.specs.Visit.{first-enough}
+use Rattle.table.specs.declared.readings.Sought.{Sought}
+use Rattle.table.specs.declared.readings.Sought.the-variants.{Is, Nothing}
+use Rattle.table.proofs.Laws.Replies.{first-is, first-empty, spot-inside, spot-held, none-held}
+
+module _ (k : ℕ) (os : List Order) (q : Sought) (e : q ≡ first-enough 0 (between k k os)) where
+  module _ (o : Order) (z : q ≡ Is o) where
+    pub seen-key : o .key ≡ k
+    seen-key = let w = spot-inside k k o os (first-is 0 (between k k os) o (sym z ∙ e) .spot) in omega (arith, w .low, w .high)
+
+    pub seen-held : held (o .key) os ≡ true
+    seen-held = spot-held o os (spot-inside k k o os (first-is 0 (between k k os) o (sym z ∙ e) .spot) .spot)
+
+    pub seen-is : eqb (o .key) k ≡ held k os
+    seen-is = eq-eqb (o .key) k seen-key ∙ sym seen-held ∙ ap (λ (i : ℕ). held i os) seen-key
+
+    pub seen-is-key : (b : Bool) → b ≡ is-key k → b ≡ true → is-key (o .key) ≡ true
+    seen-is-key b eb h = ap is-key seen-key ∙ sym eb ∙ h
+
+    pub seen-cancels : (bs bs′ : List ℕ) → Cancel-says (o .key) 0 bs bs′ → Cancel-says k 0 bs bs′
+    seen-cancels bs bs′ h = subst (λ (i : ℕ). Cancel-says i 0 bs bs′) seen-key h
+
+  pub unseen-held : q ≡ Nothing → held k os ≡ false
+  unseen-held z = none-held k os (first-empty (between k k os) (sym z ∙ e))
+
+  pub unseen-is : q ≡ Nothing → false ≡ held k os
+  unseen-is z = sym (unseen-held z)
+
+-- as a function's answer tells it
+pub told-held : (k : ℕ) (os : List Order) (b : Bool) → b ≡ held k os → b ≡ true → held k os ≡ true
+told-held k os b e h = sym e ∙ h
+
+pub told-free : (k : ℕ) (os : List Order) (b : Bool) → b ≡ held k os → b ≡ false → held k os ≡ false
+told-free k os b e h = sym e ∙ h

@@ -1,0 +1,18 @@
+-- `table::changes::cancel_held` meets its contract: each need follows from the laws listed. Assumes nothing.
+use borrow.Author.Needs.{needs}
+use Rattle.table.proofs.Laws.TurnLoops.{Cancelling, cancelling-start, cancelling-more, cancelling-end}
+use Rattle.edits.proofs.changes.cancel_held.Statement.{statement}
+use Rattle.edits.proofs.changes.cancel_held.Tie as tie
+
+ruleset laws = (needs, cancelling-start, cancelling-more, cancelling-end)
+
+abbrev Inv-loop : tie.InvT-loop
+Inv-loop table₀ s top l y first₀ level₀ table first level = Cancelling s top l y table₀ level first table
+
+abbrev μ-loop : tie.MeasureT-loop
+μ-loop table₀ s top l y first₀ level₀ table first level = level
+
+pub cancel-held-spec : {M : Type 1} → statement M
+cancel-held-spec =
+    tie.close
+    (tie.spec Inv-loop μ-loop (λ c. search laws) (λ c κs. search laws) (λ c. search laws) (λ c. search laws) (λ c. search laws) (λ c. search laws) (λ c. search laws))

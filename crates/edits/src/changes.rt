@@ -1,0 +1,205 @@
+// Put and cancel, each with its questions in document 01's order.
+ghost use mathlib.Core.Path.{_≡_};
+ghost use mathlib.Core.Bool.{true};
+ghost use Prim.Native.Nat.{ℕ, _≤_, _<_};
+ghost use Rattle.placement.specs.Header.{held-in};
+ghost use Rattle.skiplist.specs.Image.{is-image, orders-in};
+ghost use Rattle.skiplist.specs.Questions.{is-key, held};
+ghost use Rattle.placement.specs.Place.{Shaped};
+ghost use Rattle.table.specs.Calls.{Put-says, Cancel-says};
+ghost use Rattle.table.specs.Change.{Put-turn, Put-new, Put-held, Cancel-turn, Cancel-held, Put-sure, Sized, Put-free};
+use placement::Order;
+use placement::Sizes;
+use placement::hash::highest;
+use placement::hash::level_of;
+use placement::header::Header;
+use placement::numbers::put2;
+use table::checking::check;
+use table::growth::bottom;
+use table::growth::growth;
+use table::levels::cancel_below;
+use table::levels::cancel_in;
+use table::levels::put_below;
+use table::levels::put_in;
+use table::levels::replace;
+use table::readings::Sought;
+use table::readings::first_with;
+use table::readings::is_key;
+use table::spots::scan;
+use table::sweep::sweep;
+
+// One level of a put; the first key of the partition one level down.
+fn put_level(table: &mut [u8], s: Sizes, level: u32, l: u32, first: u32, o: Order) -> u32
+    requires { ⌜ Shaped s (now table) × (2 ≤ s .nodes) × (level < 256) ⌝ }
+    ensures { λ r. ⌜ Put-turn s level l first o (now (table .entry)) (now (table .exit)) r ⌝ }
+{
+    let x = scan(table, s, level, first, o.key);
+    if level == l {
+        put_in(table, s, level, first, x, o);
+        return x.last;
+    }
+    if level < l {
+        put_below(table, s, level, first, x, o);
+        return x.last;
+    }
+    x.last
+}
+
+// A new key comes in at each level, from the top.
+fn put_new(table: &mut [u8], s: Sizes, top: u32, l: u32, o: Order)
+    requires { ⌜ Shaped s (now table) × (2 ≤ s .nodes) × (top ≤ 19) ⌝ }
+    ensures { λ r. ⌜ Put-new s top l o (now (table .entry)) (now (table .exit)) ⌝ }
+{
+    let mut first: u32 = 0;
+    let mut level = top;
+    while 0 < level {
+        first = put_level(table, s, level, l, first, o);
+        level -= 1;
+    }
+}
+
+// Both quantities of a held key are replaced. A key of a level above 1 heads its partition of level 1.
+fn put_held(table: &mut [u8], s: Sizes, top: u32, l: u32, o: Order)
+    requires { ⌜ Shaped s (now table) × (2 ≤ s .nodes) × (top ≤ 19) ⌝ }
+    ensures { λ r. ⌜ Put-held s top l o (now (table .entry)) (now (table .exit)) ⌝ }
+{
+    if 1 < l {
+        replace(table, s, o.key, 0, o);
+        return;
+    }
+    let first = bottom(table, s, top, o.key);
+    let x = scan(table, s, 1, first, o.key);
+    replace(table, s, first, x.below, o);
+}
+
+// Is the key held?
+fn is_held(table: &[u8], key: u32) -> bool
+    requires { ⌜ (is-image (now table) ≡ true) × (is-key key ≡ true) × (1 ≤ key) ⌝ }
+    ensures { λ r. ⌜ r ≡ held key (orders-in (now (table .entry))) ⌝ }
+{
+    let Sought::Is(o) = first_with(table, key, key, 0) else {
+        return false;
+    };
+    o.key == key
+}
+
+// A put of a key that is not held, while there are fewer orders than N: 8 is counted before any change.
+fn put_free(table: &mut [u8], s: Sizes, held: u32, top: u32, l: u32, o: Order) -> u32
+    requires { ⌜ Put-sure (now table) (o .key) (o .total) (o .displayed) × Sized (now table) s top l (o .key) × Put-free (now table) s (o .key) × (held ≡ held-in (now table)) × (top ≤ 19) ⌝ }
+    ensures { λ r. ⌜ Put-says (o .key) (o .total) (o .displayed) r (now (table .entry)) (now (table .exit)) ⌝ }
+{
+    let t = sweep(table, s);
+    let more = growth(table, s, top, l, o.key);
+    if s.blocks < t.full + more {
+        return 8;
+    }
+    put_new(table, s, top, l, o);
+    put2(table, 11, held + 1);
+    0
+}
+
+// A put that questions 4, 5 and 6 let pass: 7 and 8 are asked of a key that is not held.
+fn put_sure(table: &mut [u8], o: Order) -> u32
+    requires { ⌜ Put-sure (now table) (o .key) (o .total) (o .displayed) × (1 ≤ o .key) ⌝ }
+    ensures { λ r. ⌜ Put-says (o .key) (o .total) (o .displayed) r (now (table .entry)) (now (table .exit)) ⌝ }
+{
+    let h = Header::read(table);
+    let s = h.sizes;
+    let top = highest(s);
+    let l = level_of(s, top, o.key);
+    if is_held(table, o.key) {
+        put_held(table, s, top, l, o);
+        return 0;
+    }
+    if s.orders <= h.held {
+        return 7;
+    }
+    put_free(table, s, h.held, top, l, o)
+}
+
+// Put: 4, 5, 6, 7, 8.
+pub fn put(table: &mut [u8], key: u32, total: u32, displayed: u32) -> u32
+    ensures { λ r. ⌜ Put-says key total displayed r (now (table .entry)) (now (table .exit)) ⌝ }
+{
+    if check(table) != 0 {
+        return 4;
+    }
+    if !is_key(key) {
+        return 5;
+    }
+    if total == 0 {
+        return 6;
+    }
+    if total < displayed {
+        return 6;
+    }
+    put_sure(
+        table,
+        Order {
+            key: key,
+            total: total,
+            displayed: displayed,
+        },
+    )
+}
+
+// One level of a cancel; the first key of the partition one level down.
+fn cancel_level(table: &mut [u8], s: Sizes, level: u32, l: u32, first: u32, y: u32) -> u32
+    requires { ⌜ Shaped s (now table) × (2 ≤ s .nodes) × (level < 256) ⌝ }
+    ensures { λ r. ⌜ Cancel-turn s level l first y (now (table .entry)) (now (table .exit)) r ⌝ }
+{
+    let x = scan(table, s, level, first, y);
+    if level == l {
+        cancel_in(table, s, level, first, x);
+        return x.last;
+    }
+    if level < l {
+        let own = scan(table, s, level, y, y);
+        cancel_below(table, s, level, first, x, y, own.size);
+        return x.last;
+    }
+    x.last
+}
+
+// A key goes out at each level, from the top.
+fn cancel_held(table: &mut [u8], s: Sizes, top: u32, l: u32, y: u32)
+    requires { ⌜ Shaped s (now table) × (2 ≤ s .nodes) × (top ≤ 19) ⌝ }
+    ensures { λ r. ⌜ Cancel-held s top l y (now (table .entry)) (now (table .exit)) ⌝ }
+{
+    let mut first: u32 = 0;
+    let mut level = top;
+    while 0 < level {
+        first = cancel_level(table, s, level, l, first, y);
+        level -= 1;
+    }
+}
+
+// A cancel of a held key.
+fn cancel_sure(table: &mut [u8], key: u32)
+    requires { ⌜ (is-image (now table) ≡ true) × (is-key key ≡ true) × (held key (orders-in (now table)) ≡ true) ⌝ }
+    ensures { λ r. ⌜ Cancel-says key 0 (now (table .entry)) (now (table .exit)) ⌝ }
+{
+    let h = Header::read(table);
+    let s = h.sizes;
+    let top = highest(s);
+    let l = level_of(s, top, key);
+    cancel_held(table, s, top, l, key);
+    put2(table, 11, h.held - 1);
+}
+
+// Cancel: 4, 5, 9.
+pub fn cancel(table: &mut [u8], key: u32) -> u32
+    ensures { λ r. ⌜ Cancel-says key r (now (table .entry)) (now (table .exit)) ⌝ }
+{
+    if check(table) != 0 {
+        return 4;
+    }
+    if !is_key(key) {
+        return 5;
+    }
+    let Sought::Is(o) = first_with(table, key, key, 0) else {
+        return 9;
+    };
+    cancel_sure(table, o.key);
+    0
+}

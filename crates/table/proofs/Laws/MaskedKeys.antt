@@ -1,0 +1,84 @@
+-- Masked nodes have the keys of the nodes; and how long a partition can be. Assumes nothing.
+use mathlib.Core.Path.{_≡_, refl}
+use mathlib.Core.Bool.{Bool, true, false, _&&_, cond}
+use mathlib.Core.List.{List, [], _∷_, _++_, map}
+use Prim.Native.Nat.{ℕ, suc, _+_, _≤_, _<_}
+use native.Mathlib.Omega.{arith}
+use borrow.Author.Tests.{ltb-true}
+use lib.Dec.{ltb, leb}
+use lib.ListN.{length, length-append}
+use Rattle.placement.specs.Hash.{level}
+use Rattle.placement.specs.declared.Sizes.{Sizes}
+use Rattle.placement.specs.declared.Order.{Order}
+use Rattle.skiplist.specs.Lists.{front, at-least, starts-one, run, first-key, masked}
+use Rattle.skiplist.proofs.Runs.{opened}
+use Rattle.skiplist.proofs.Parts.{Up, and-left, below}
+use Rattle.skiplist.proofs.Descent.{last-from, head-below}
+use Rattle.skiplist.proofs.Edits.{head-part, tail-part, head-part-long}
+
+pub below-masked : (k y : ℕ) (ps : List Order) → below y ps ≡ true → below y (map (masked k) ps) ≡ true
+unfolding below masked
+below-masked k y [] e = e
+below-masked k y (p ∷ ps) e = go (ltb (p .key) y) (λ h. below-masked k y ps h) e
+  where
+    go : (t : Bool) → (below y ps ≡ true → below y (map (masked k) ps) ≡ true) → (t && below y ps) ≡ true → (t && below y (map (masked k) ps)) ≡ true
+    go true ih h = ih h
+    go false ih h = h
+
+pub up-masked : (k a : ℕ) (qs : List Order) → Up a qs → Up a (map (masked k) qs)
+unfolding masked
+up-masked k a [] u = u
+up-masked k a (q ∷ qs) u = (u .0, up-masked k (suc (q .key)) qs (u .1))
+
+pub last-masked : (k a : ℕ) (ps : List Order) → last-from a (map (masked k) ps) ≡ last-from a ps
+unfolding last-from masked
+last-masked k a [] = refl
+last-masked k a (p ∷ ps) = last-masked k (p .key) ps
+
+-- ---- how long
+
+opened-most : (st : Order → Bool) (p xs : List Order) → 0 < length p → length (opened st p xs) ≤ length p + length xs
+unfolding opened
+opened-most st p [] h = omega arith
+opened-most st p (x ∷ xs) h = go (st x) (opened-most st (x ∷ []) xs (omega arith)) (rw length-append at (opened-most st (p ++ x ∷ []) xs (simp length-append (omega arith))))
+  where
+    go : (t : Bool) → length (opened st (x ∷ []) xs) ≤ 1 + length xs → length (opened st (p ++ x ∷ []) xs) ≤ length p + 1 + length xs →
+        length (cond t (opened st (x ∷ []) xs) (opened st (p ++ x ∷ []) xs)) ≤ length p + suc (length xs)
+    go true a b = omega arith
+    go false a b = omega arith
+
+run-most : (st : Order → Bool) (xs : List Order) → length (run st xs) ≤ length xs
+unfolding run
+run-most st [] = omega arith
+run-most st (x ∷ xs) = go (st x) (run-most st xs)
+  where
+    go : (t : Bool) → length (run st xs) ≤ length xs → length (cond t [] (x ∷ run st xs)) ≤ suc (length xs)
+    go true a = omega arith
+    go false a = omega arith
+
+pub least-most : (s : Sizes) (k : ℕ) (xs : List Order) → length (at-least s k xs) ≤ length xs
+unfolding at-least
+least-most s k [] = omega arith
+least-most s k (x ∷ xs) = go (leb k (level s (x .key))) (least-most s k xs)
+  where
+    go : (t : Bool) → length (at-least s k xs) ≤ length xs → length (cond t (x ∷ at-least s k xs) (at-least s k xs)) ≤ suc (length xs)
+    go true a = omega arith
+    go false a = omega arith
+
+pub head-most : (s : Sizes) (k : ℕ) (xs : List Order) → length (head-part s k xs) ≤ suc (length xs)
+unfolding head-part
+head-most s k xs = omega (arith, opened-most (starts-one s k) (front ∷ []) (at-least s k xs) (omega arith), least-most s k xs)
+
+pub tail-most : (s : Sizes) (k : ℕ) (zs : List Order) → length (tail-part s k zs) ≤ length zs
+unfolding tail-part
+tail-most s k zs = omega (arith, run-most (starts-one s k) (at-least s k zs), least-most s k zs)
+
+-- ---- the first key
+
+first-below : (y : ℕ) (p : List Order) → 0 < length p → below y p ≡ true → first-key p < y
+unfolding first-key below
+first-below y [] h e = absurd (omega arith)
+first-below y (x ∷ p) h e = ltb-true (x .key) y (and-left (ltb (x .key) y) (below y p) e)
+
+pub head-first-below : (s : Sizes) (k y : ℕ) (xs : List Order) → 0 < y → below y xs ≡ true → first-key (head-part s k xs) < y
+head-first-below s k y xs h e = first-below y (head-part s k xs) (head-part-long s k xs) (head-below s k y xs h e)

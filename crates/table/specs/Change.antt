@@ -1,0 +1,81 @@
+-- A table on its way from some orders to others, level by level from the top, and what one level of a put and of a cancel does to it. Assumes nothing: these are definitions.
+use mathlib.Core.Path.{_≡_}
+use mathlib.Core.Bool.{true, false}
+use mathlib.Core.List.{List, _∷_, _++_}
+use Prim.Native.Nat.{ℕ, _+_, _-_, _≤_, _<_}
+use lib.ListN.{length}
+use lib.Seq.{sets}
+use Rattle.placement.specs.Numbers.{big}
+use Rattle.placement.specs.Sizes.{beta, made}
+use Rattle.placement.specs.Hash.{level}
+use Rattle.placement.specs.Header.{header, sizes-in, held-in}
+use Rattle.placement.specs.Maps.{Map, map-of, Table}
+use Rattle.placement.specs.declared.Sizes.{Sizes}
+use Rattle.placement.specs.declared.Order.{Order}
+use Rattle.skiplist.specs.Lists.{first-key, chunks}
+use Rattle.skiplist.specs.Image.{image, orders-good, fits, is-image, orders-in, quantities-good}
+use Rattle.skiplist.proofs.Count.{counts}
+use Rattle.skiplist.proofs.Edits.{head-part}
+use Rattle.skiplist.specs.Questions.{is-key, held}
+
+-- an order between others, and room for all of them
+pub record Setting (s : Sizes) (xs : List Order) (o : Order) (zs : List Order) : Type 0 where
+  pub sizes : made s ≡ true
+  pub good : orders-good 1 (xs ++ o ∷ zs) ≡ true
+  pub fit : fits s (xs ++ o ∷ zs) ≡ true
+
+-- the header is that of the old orders; levels above k are those of the new orders, and levels up to k those of the old ones
+pub record Between (s : Sizes) (old new : List Order) (k : ℕ) (bs : List ℕ) : Type 0 where
+  pub map : Map
+  pub full : ℕ
+  pub table : Table s map full (header s (length old)) bs
+  pub above : (l f i : ℕ) → k < l → map l f i ≡ map-of (chunks s new) l f i
+  pub upto : (l f i : ℕ) → l ≤ k → map l f i ≡ map-of (chunks s old) l f i
+  pub count : full + counts k 1 s new ≡ length (chunks s new) + counts k 1 s old
+
+-- ONE LEVEL OF A PUT, and of a cancel; r is the first key of the partition one level down
+unfoldable pub Put-turn : Sizes → (k l f : ℕ) → Order → (bs bs′ : List ℕ) → (r : ℕ) → Type 0
+Put-turn s k l f o bs bs′ r =
+    (xs zs : List Order) → Setting s xs o zs → l ≡ level s (o .key) → 0 < k → k ≤ beta s → f ≡ first-key (head-part s k xs) → Between s (xs ++ zs) (xs ++ o ∷ zs) k bs →
+    (r ≡ first-key (head-part s (k - 1) xs)) × Between s (xs ++ zs) (xs ++ o ∷ zs) (k - 1) bs′
+
+unfoldable pub Cancel-turn : Sizes → (k l f y : ℕ) → (bs bs′ : List ℕ) → (r : ℕ) → Type 0
+Cancel-turn s k l f y bs bs′ r =
+    (xs : List Order) (o : Order) (zs : List Order) → Setting s xs o zs → o .key ≡ y → l ≡ level s y → 0 < k → k ≤ beta s → f ≡ first-key (head-part s k xs) →
+    Between s (xs ++ o ∷ zs) (xs ++ zs) k bs → (r ≡ first-key (head-part s (k - 1) xs)) × Between s (xs ++ o ∷ zs) (xs ++ zs) (k - 1) bs′
+
+-- ALL LEVELS: with the number of orders written, the table is the image of the new orders
+unfoldable pub Put-new : Sizes → (top l : ℕ) → Order → (bs bs′ : List ℕ) → Type 0
+Put-new s top l o bs bs′ =
+    (xs zs : List Order) → Setting s xs o zs → top ≡ beta s → l ≡ level s (o .key) → bs ≡ image s (xs ++ zs) →
+    sets bs′ 11 (big 2 (length (xs ++ o ∷ zs))) ≡ image s (xs ++ o ∷ zs)
+
+unfoldable pub Cancel-held : Sizes → (top l y : ℕ) → (bs bs′ : List ℕ) → Type 0
+Cancel-held s top l y bs bs′ =
+    (xs : List Order) (o : Order) (zs : List Order) → Setting s xs o zs → o .key ≡ y → top ≡ beta s → l ≡ level s y → bs ≡ image s (xs ++ o ∷ zs) →
+    sets bs′ 11 (big 2 (length (xs ++ zs))) ≡ image s (xs ++ zs)
+
+-- PUT OF A HELD KEY
+unfoldable pub Put-held : Sizes → (top l : ℕ) → Order → (bs bs′ : List ℕ) → Type 0
+Put-held s top l o bs bs′ =
+    (xs : List Order) (y : Order) (zs : List Order) → Setting s xs y zs → Setting s xs o zs → y .key ≡ o .key → top ≡ beta s → l ≡ level s (o .key) →
+    bs ≡ image s (xs ++ y ∷ zs) → bs′ ≡ image s (xs ++ o ∷ zs)
+
+-- ---- what is known on the way of a put, question by question
+
+-- questions 4, 5 and 6 have a yes
+pub record Put-sure (bs : List ℕ) (k t d : ℕ) : Type 0 where
+  pub image : is-image bs ≡ true
+  pub key : is-key k ≡ true
+  pub quantities : quantities-good t d ≡ true
+
+-- sizes, the top level and a key's level, as the functions read them
+pub record Sized (bs : List ℕ) (s : Sizes) (top l k : ℕ) : Type 0 where
+  pub sizes-are : s ≡ sizes-in bs
+  pub top-is : top ≡ beta s
+  pub level-is : l ≡ level s k
+
+-- question 7 has a yes for a key that is not held
+pub record Put-free (bs : List ℕ) (s : Sizes) (k : ℕ) : Type 0 where
+  pub absent-is : held k (orders-in bs) ≡ false
+  pub more : held-in bs < s .orders
