@@ -33,8 +33,8 @@ build/vectors: tests/c/vectors.c include/balluchaw.h archive
 test: reference build/vectors
 	$(CARGO) test --quiet --release --offline --manifest-path reference/Cargo.toml
 	$(REFERENCE)/console < examples/full-run.txt | diff examples/full-run.out -
-	$(REFERENCE)/vectors 60000 readings | build/vectors
-	$(REFERENCE)/vectors 1500 readings | valgrind --quiet --error-exitcode=9 build/vectors
+	$(REFERENCE)/vectors 20000 | build/vectors
+	$(REFERENCE)/vectors 1500 | valgrind --quiet --error-exitcode=9 build/vectors
 	rt fmt --check
 	rt ci
 
