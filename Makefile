@@ -38,14 +38,17 @@ test: reference build/vectors
 	rt fmt --check
 	rt ci
 
-# The check beside checks in C, in one process.
+# The check beside checks in C, in one process; what the other calls take beyond the check.
 bench: reference archive
 	@mkdir -p build
 	clang -O3 -march=native -c bench/peers/check.c -o build/check.o 2>/dev/null || $(CC) -O3 -march=native -c bench/peers/check.c -o build/check.o
 	clang -O3 -march=native -DTUNED -Dcheck_plain=check_tuned -c bench/peers/check.c -o build/tuned.o 2>/dev/null || $(CC) -O3 -march=native -DTUNED -Dcheck_plain=check_tuned -c bench/peers/check.c -o build/tuned.o
 	$(CC) -O2 -Iinclude -Ibench bench/bench.c build/check.o build/tuned.o $(ARCHIVE) -o build/bench
 	for n in 1000 10000 60000; do $(REFERENCE)/sample 16 16 $$n $$n 80 > build/table-$$n; done
+	$(REFERENCE)/sample 16 16 60000 60000 80 flat > build/table-flat
 	build/bench build/table-1000 build/table-10000 build/table-60000
+	@echo "one partition of 60,000 nodes"
+	build/bench build/table-flat
 
 install: archive
 	install -d $(DESTDIR)$(PREFIX)/lib/pkgconfig $(DESTDIR)$(PREFIX)/include

@@ -79,6 +79,36 @@ static void beyond(const char *name, const u8 *table, size_t length, u32 held, i
     free(output);
 }
 
+/* A cancel's and a put's time beyond the check's, in µs: random orders are taken out and put back, and the bytes are as before. */
+static void edits(u8 *table, size_t length, u32 held) {
+    double out[ROUNDS], in[ROUNDS];
+    size_t room = 12 * (size_t)held;
+    u8 *rows = malloc(room), *before = malloc(length);
+    u64 state = 11;
+    if (!rows || !before) exit(2);
+    memcpy(before, table, length);
+    balluchaw_span(table, length, 1, P31 - 1, rows, room);
+    for (int r = 0; r < ROUNDS; r++) {
+        const u8 *row = rows + 12 * (rng(&state) % held);
+        double start = now_ns();
+        balluchaw_check(table, length);
+        double checked = now_ns();
+        u32 one = balluchaw_cancel(table, length, be32(row));
+        double cancelled = now_ns();
+        balluchaw_check(table, length);
+        double again = now_ns();
+        u32 two = balluchaw_put(table, length, be32(row), be32(row + 4), be32(row + 8));
+        double put = now_ns();
+        if (one || two || memcmp(before, table, length)) exit(1);
+        out[r] = (cancelled - checked - (checked - start)) / 1000;
+        in[r] = (put - again - (again - cancelled)) / 1000;
+    }
+    printf("%-16s %7u orders  %7.2f µs beyond the check\n", "cancel", held, middle(out));
+    printf("%-16s %7u orders  %7.2f µs beyond the check\n", "put", held, middle(in));
+    free(rows);
+    free(before);
+}
+
 int main(int argc, char **argv) {
     for (int i = 1; i < argc; i++) {
         size_t length;
@@ -88,6 +118,7 @@ int main(int argc, char **argv) {
         beyond("lookup", table, length, held, 0);
         beyond("span of all", table, length, held, 1);
         beyond("seek", table, length, held, 2);
+        edits(table, length, held);
         free(table);
     }
     return 0;
