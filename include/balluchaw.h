@@ -42,7 +42,7 @@ typedef struct {
 #define BALLUCHAW_LENGTH(nodes, blocks) ((size_t)53 + (size_t)(blocks) * (8 + 12 * (size_t)(nodes)))
 
 /* Makes a table without orders in a buffer. gamma 2..64; nodes in a block 2..32; most orders 1..65,535; blocks at least beta, at most
- * 65,535, where beta is 2 and the smallest e with gamma^e at least orders. The seed is 40 bytes; it is read only.
+ * 65,535, where beta is 2 plus the smallest e >= 0 with gamma^e at least orders. The seed is 40 bytes; it is read only.
  * Asks 1, 2, 3. On success every byte of the table is overwritten. */
 uint32_t balluchaw_make(uint8_t *table, size_t length, uint32_t gamma, uint32_t nodes, uint32_t orders, uint32_t blocks,
                         const uint8_t *seed, size_t seed_length);
