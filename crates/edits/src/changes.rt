@@ -23,8 +23,8 @@ use placement::hash::level_of;
 use placement::header::Header;
 use placement::numbers::put2;
 use readings::calls::Sought;
-use readings::calls::first_with;
 use readings::calls::is_key;
+use readings::descent::order_of;
 use table::checking::check;
 use table::sweep::sweep;
 
@@ -77,7 +77,7 @@ fn is_held(table: &[u8], key: u32) -> bool
     requires { ⌜ (is-image (now table) ≡ true) × (is-key key ≡ true) × (1 ≤ key) ⌝ }
     ensures { λ r. ⌜ r ≡ held key (orders-in (now (table .entry))) ⌝ }
 {
-    let Sought::Is(o) = first_with(table, key, key, 0) else {
+    let Sought::Is(o) = order_of(table, key) else {
         return false;
     };
     o.key == key
@@ -197,7 +197,7 @@ pub fn cancel(table: &mut [u8], key: u32) -> u32
     if !is_key(key) {
         return 5;
     }
-    let Sought::Is(o) = first_with(table, key, key, 0) else {
+    let Sought::Is(o) = order_of(table, key) else {
         return 9;
     };
     cancel_sure(table, o.key);

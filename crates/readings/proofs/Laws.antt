@@ -6,3 +6,4 @@ pub mod Tours
 pub mod Tallies
 pub mod Answers
 pub mod Replies
+pub mod Descents

@@ -4,7 +4,7 @@ use mathlib.Core.Path.{_≡_}
 use mathlib.Core.Bool.{Bool, true, false, _&&_, cond}
 use mathlib.Core.List.{List, [], _∷_, _++_, map}
 use Prim.Native.Nat.{ℕ, _+_, _*_}
-use lib.Dec.{ltb, leb}
+use lib.Dec.{ltb, leb, eqb}
 use lib.ListN.{length}
 use lib.Seq.{sets}
 use Rattle.placement.specs.Numbers.{field}
@@ -99,3 +99,8 @@ all-under s bs l ns = each (spread s (orders-in bs) l) ns
 unfoldable pub first-enough : (least : ℕ) → List Order → Sought
 first-enough l [] = Nothing
 first-enough l (o ∷ os) = cond (leb l (reserve o)) (Is o) (first-enough l os)
+
+-- THE FIRST of some orders, if it has the key
+unfoldable pub with-key : (key : ℕ) → List Order → Sought
+with-key k [] = Nothing
+with-key k (o ∷ os) = cond (eqb (o .key) k) (Is o) Nothing

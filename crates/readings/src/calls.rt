@@ -8,6 +8,7 @@ ghost use Rattle.skiplist.specs.Questions.{first-no, is-key, between, asks-imag
 ghost use Rattle.table.specs.Calls.{says, Look-says, Span-says, Seek-says};
 ghost use Rattle.readings.specs.Visit.{scan, starting, steps, first-enough};
 use crate::Visit;
+use crate::descent::order_of;
 use crate::visits::visit_partition;
 use placement::Order;
 use placement::hash::highest;
@@ -130,7 +131,7 @@ pub fn lookup(table: &[u8], key: u32) -> Reply
     if !is_key(key) {
         return refused(5);
     }
-    let Sought::Is(o) = first_with(table, key, key, 0) else {
+    let Sought::Is(o) = order_of(table, key) else {
         return refused(9);
     };
     Reply {

@@ -1,5 +1,6 @@
 // Lookup, span and seek: a visit of the orders in a range, by rising key.
 pub mod calls;
+pub mod descent;
 pub mod visits;
 
 // A visit under way: the range and the least reserve that is sought; whether it writes rows, whether it seeks one order; how many orders

@@ -13,11 +13,10 @@ use Rattle.placement.specs.Maps.{Fine}
 use Rattle.placement.specs.declared.Sizes.{Sizes}
 use Rattle.placement.specs.declared.Order.{Order}
 use Rattle.placement.proofs.Laws.Sizes.{limits}
-use Rattle.skiplist.specs.Lists.{front, at-least, list-at, starts-one, first-key, masked, chunks}
+use Rattle.skiplist.specs.Lists.{first-key, masked, chunks}
 use Rattle.skiplist.specs.Image.{quantities-good, orders-good, fits}
-use Rattle.skiplist.specs.Questions.{held}
-use Rattle.skiplist.proofs.Parts.{Up, and-left, and-right, or-left, or-right, up-past, good-up, up-out, up-front, below, below-here, part, without-here}
-use Rattle.skiplist.proofs.Shapes.{held-absent, up-behind, from-key, part-direct}
+use Rattle.skiplist.proofs.Parts.{Up, and-left, and-right, up-past, good-up, up-out, up-front, below, below-here, part, without-here}
+use Rattle.skiplist.proofs.Shapes.{held-absent, up-behind, part-none}
 use Rattle.skiplist.proofs.Kept.{good-without, fits-parts, fits-fewer}
 use Rattle.skiplist.proofs.Third.{good-at}
 use Rattle.skiplist.proofs.Edits.{head-part, part-with, with-part}
@@ -38,25 +37,6 @@ fine-masked k o f = go (eqb k 1)
     go : (t : Bool) → Fine (record { key = o .key; total = cond t (o .total) 0; displayed = cond t (o .displayed) 0 })
     go true = f
     go false = record { key = f .key; total = omega arith; displayed = omega arith }
-
--- a key that is not held heads no partition
-from-none : (st : Order → Bool) (f : ℕ) (xs : List Order) → held f xs ≡ false → from-key st f xs ≡ []
-unfolding from-key held
-from-none st f [] e = refl
-from-none st f (x ∷ xs) e = rw (or-left (eqb (x .key) f) (held f xs) e) (from-none st f xs (or-right (eqb (x .key) f) (held f xs) e))
-
-held-least : (s : Sizes) (l f : ℕ) (xs : List Order) → held f xs ≡ false → held f (at-least s l xs) ≡ false
-unfolding held at-least
-held-least s l f [] e = e
-held-least s l f (x ∷ xs) e = go (leb l (level s (x .key))) (held-least s l f xs (or-right (eqb (x .key) f) (held f xs) e))
-  where
-    go : (t : Bool) → held f (at-least s l xs) ≡ false → held f (cond t (x ∷ at-least s l xs) (at-least s l xs)) ≡ false
-    go true h = rw (or-left (eqb (x .key) f) (held f xs) e) h
-    go false h = h
-
-pub part-none : (s : Sizes) (os : List Order) (l f : ℕ) → Up 1 os → 0 < f → held f os ≡ false → part s os l f ≡ []
-unfolding list-at held front
-part-none s os l f u p e = part-direct s os l f u ∙ from-none (starts-one s l) f (list-at s l os) (rw (ne-eqb 0 f (omega arith)) (held-least s l f os e))
 
 module _ (s : Sizes) (xs : List Order) (o : Order) (zs : List Order) (w : Setting s xs o zs) where
   pub all-up : Up 1 (xs ++ o ∷ zs)

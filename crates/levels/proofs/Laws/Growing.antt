@@ -151,7 +151,7 @@ module _ (s : Sizes) (bs : List ℕ) (y : ℕ) (xs zs : List Order) (w : Way s b
         ∙ ap (take (s .nodes)) (map-drop (masked k) (i * s .nodes) (head-part s k xs ++ tail-part s k zs) ∙ ap (drop (i * s .nodes)) (map-both k (head-part s k xs) (tail-part s k zs)))
 
     -- what a scan then says
-    seen : (x : Spot) → Scans s bs k f y x →
+    pub seen : (x : Spot) → Scans s bs k f y x →
         x ≡ record { below = length (head-part s k xs); last = last-from 0 (head-part s k xs); size = length (head-part s k xs) + length (tail-part s k zs) }
     unfolding Scans
     seen x h =
