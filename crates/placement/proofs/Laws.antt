@@ -12,6 +12,7 @@ pub mod Maps
 pub mod Keeps
 pub mod Sizes
 pub mod Numbers
+pub mod Over
 pub mod Bytes
 pub mod Parts
 pub mod Order
