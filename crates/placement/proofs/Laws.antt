@@ -14,6 +14,7 @@ pub mod Keeps
 pub mod Other
 pub mod Sizes
 pub mod Numbers
+pub mod Over
 pub mod Bytes
 pub mod Parts
 pub mod Order
