@@ -9,7 +9,7 @@ ARCHIVE = target/staticlib/libballuchaw.a
 # The program of document 01, once its crate is there.
 PROGRAM = $(if $(wildcard crates/console/src),target/bin/console)
 
-.PHONY: all run test tests test-reference test-vectors test-kit bench install install-program uninstall clean need reference archive program
+.PHONY: all run test tests test-reference test-vectors test-kit test-differential bench install install-program uninstall clean need reference archive program
 
 all: archive $(if $(PROGRAM),program)
 
@@ -40,7 +40,7 @@ test: tests
 	rt ci
 
 # Every test but the proofs. Each says in a line what it did.
-tests: test-reference test-vectors test-kit
+tests: test-reference test-vectors test-kit test-differential
 
 # The reference's own tests, and document 01's full run on its program.
 test-reference: reference
@@ -51,11 +51,18 @@ test-reference: reference
 # Answers and bytes that the reference recorded, from the archive; some of them again with valgrind watching.
 test-vectors: reference build/vectors
 	@$(REFERENCE)/vectors 20000 | build/vectors
-	@$(REFERENCE)/vectors 1500 | valgrind --quiet --error-exitcode=9 build/vectors
+	@$(REFERENCE)/vectors 1500 | valgrind --quiet --error-exitcode=9 build/vectors heap
 
-build/vectors: tests/c/vectors.c include/balluchaw.h $(ARCHIVE)
+build/vectors: tests/c/vectors.c tests/c/zone.h include/balluchaw.h $(ARCHIVE)
 	@mkdir -p build
 	@$(CC) $(CFLAGS) -g -Iinclude tests/c/vectors.c $(ARCHIVE) -o $@
+
+# The archive beside the reference on more than a million calls; then with faults planted, each of which must be found.
+# SEED chooses other calls; TESTS=long does a hundred times as much.
+test-differential: need build/vectors
+	@CARGO_TARGET_DIR=build/differential cargo build --quiet --release --offline --manifest-path tests/differential/Cargo.toml
+	@build/differential/release/differential
+	@build/differential/release/differential faults
 
 # The example, then the kit as it is installed.
 test-kit: need reference $(ARCHIVE)
