@@ -9,7 +9,7 @@ ARCHIVE = target/staticlib/libballuchaw.a
 # The program of document 01, once its crate is there.
 PROGRAM = $(if $(wildcard crates/console/src),target/bin/console)
 
-.PHONY: all run test tests test-reference test-vectors test-kit test-differential bench install install-program uninstall clean need reference archive program
+.PHONY: all run test tests test-reference test-vectors test-kit test-differential fuzz bench install install-program uninstall clean need reference archive program
 
 all: archive $(if $(PROGRAM),program)
 
@@ -40,7 +40,7 @@ test: tests
 	rt ci
 
 # Every test but the proofs. Each says in a line what it did.
-tests: test-reference test-vectors test-kit test-differential
+tests: test-reference test-vectors test-kit test-differential fuzz
 
 # The reference's own tests, and document 01's full run on its program.
 test-reference: reference
@@ -63,6 +63,11 @@ test-differential: need build/vectors
 	@CARGO_TARGET_DIR=build/differential cargo build --quiet --release --offline --manifest-path tests/differential/Cargo.toml
 	@build/differential/release/differential
 	@build/differential/release/differential faults
+
+# The calls on inputs that a fuzzer makes up, for FUZZ seconds; faults planted before that must be found.
+FUZZ ?= 30
+fuzz: need $(ARCHIVE)
+	@tests/fuzz/run.sh $(FUZZ)
 
 # The example, then the kit as it is installed.
 test-kit: need reference $(ARCHIVE)
