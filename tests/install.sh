@@ -25,6 +25,12 @@ cp examples/gateway.c "$kit/"
 compile "$kit/gateway.c" "$kit/gateway"
 "$kit/gateway" "$kit/orders.table" | diff examples/gateway.out -
 
+# The header by itself, as older C and as C++.
+for language in "c -std=c99" "c++ -std=c++11"; do
+    read -ra words <<<"$language"
+    echo '#include <balluchaw.h>' | clang -x "${words[@]}" -Wall -Wextra -Wpedantic -Werror "${flags[@]}" -fsyntax-only -
+done
+
 # A damaged file and a short one are turned down.
 printf '\377' | dd of="$kit/orders.table" bs=1 seek=60 conv=notrunc status=none
 must_refuse() { if "$@" >/dev/null 2>&1; then echo "accepted: $*"; exit 1; fi; }

@@ -38,6 +38,7 @@ impl<'p, 'a> Rounds<'p, 'a> {
         self.makes()?;
         for _ in 0..amount.0 {
             self.histories(33)?;
+            self.every_edit()?;
             for _ in 0..2 {
                 let (made, orders) = self.small_image(260);
                 self.every_byte(&made, &orders)?;
@@ -472,6 +473,62 @@ impl Rounds<'_, '_> {
             return Err(self
                 .pair
                 .mismatch("two histories to one set of orders left different bytes".into()));
+        }
+        Ok(())
+    }
+}
+
+// ---- every edit of every small set ---------------------------------------------
+
+impl Rounds<'_, '_> {
+    /// Four keys, each absent or with one of two pairs of quantities: from every such set that fits, every put and cancel of these keys.
+    fn every_edit(&mut self) -> Outcome {
+        let gamma = self.generator.pick(&[2, 2, 2, 3, 4, 8]);
+        let nodes = self.generator.pick(&[2, 2, 3, 4]);
+        let most = self.generator.within(1, 4);
+        let mut keys = self.keys(4);
+        keys.truncate(4);
+        let made = self.made(gamma, nodes, most, &keys);
+        let length = made.sizes.length();
+        let quantities = [(1, 0), (u32::MAX, u32::MAX)];
+        self.pair.room(length, 0);
+        for set in 0..3usize.pow(keys.len() as u32) {
+            let mut orders = Orders::new();
+            for (place, &key) in keys.iter().enumerate() {
+                let choice = set / 3usize.pow(place as u32) % 3;
+                if choice > 0 {
+                    let (total, displayed) = quantities[choice - 1];
+                    orders.insert(key, Quantities { total, displayed });
+                }
+            }
+            let Some(bytes) = image(&made, &orders).filter(|_| orders.len() <= most as usize)
+            else {
+                continue;
+            };
+            self.pair.set(0, &bytes);
+            self.pair.take(Step::Span {
+                length,
+                lo: 1,
+                hi: P - 1,
+                room: NODE * orders.len(),
+            })?;
+            for &key in &keys {
+                self.pair.take(Step::Lookup { length, key })?;
+                for (total, displayed) in quantities {
+                    let reply = self.pair.take(Step::Put {
+                        length,
+                        key,
+                        total,
+                        displayed,
+                    })?;
+                    if reply.number == 0 {
+                        self.pair.set(0, &bytes);
+                    }
+                }
+                if self.pair.take(Step::Cancel { length, key })?.number == 0 {
+                    self.pair.set(0, &bytes);
+                }
+            }
         }
         Ok(())
     }
