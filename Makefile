@@ -6,37 +6,76 @@ CARGO = CARGO_TARGET_DIR=build/reference cargo
 REFERENCE = build/reference/release
 ARCHIVE = target/staticlib/libballuchaw.a
 
-.PHONY: all run test bench install uninstall clean need reference archive
+# The program of document 01, once its crate is there.
+PROGRAM = $(if $(wildcard crates/console/src),target/bin/console)
 
-all: archive
+.PHONY: all run test tests test-reference test-vectors test-kit test-differential fuzz bench install install-program uninstall clean need reference archive program
+
+all: archive $(if $(PROGRAM),program)
 
 need:
-	@scripts/need cargo:cargo cc:gcc valgrind:valgrind
+	@scripts/need cargo:cargo cc:gcc valgrind:valgrind pkg-config:pkg-config clang:clang \
+		'/usr/lib/llvm-*/lib/clang/*/lib/linux/libclang_rt.fuzzer-x86_64.a:libclang-rt-dev'
 
 reference: need
 	@mkdir -p build
 	@$(CARGO) build --quiet --release --offline --manifest-path reference/Cargo.toml
 
-archive:
+archive: $(ARCHIVE)
+
+$(ARCHIVE): crates.txt $(shell find crates -name '*.rt' -o -name '*.antt')
 	rt staticlib balluchaw
+
+program:
+	rt check console
 
 # Document 01's full run.
 run: reference
 	@$(REFERENCE)/console < examples/full-run.txt | tee build/full-run.out
 	@diff examples/full-run.out build/full-run.out && echo "as document 01 has it"
 
-build/vectors: tests/c/vectors.c include/balluchaw.h archive
-	@mkdir -p build
-	$(CC) $(CFLAGS) -g -Iinclude tests/c/vectors.c $(ARCHIVE) -o $@
-
 # All tests, and last the proofs: the last line is rt ci's own.
-test: reference build/vectors
-	$(CARGO) test --quiet --release --offline --manifest-path reference/Cargo.toml
-	$(REFERENCE)/console < examples/full-run.txt | diff examples/full-run.out -
-	$(REFERENCE)/vectors 20000 | build/vectors
-	$(REFERENCE)/vectors 1500 | valgrind --quiet --error-exitcode=9 build/vectors
+test: tests
 	rt fmt --check
 	rt ci
+
+# Every test but the proofs. Each says in a line what it did.
+tests: test-reference test-vectors test-kit test-differential fuzz
+
+# The reference's own tests, and document 01's full run on its program.
+test-reference: reference
+	@$(CARGO) test --quiet --release --offline --manifest-path reference/Cargo.toml >build/test-reference.log 2>&1 || { cat build/test-reference.log; exit 1; }
+	@$(REFERENCE)/console < examples/full-run.txt | diff examples/full-run.out -
+	@echo "reference: $$(grep -c '^test result: ok' build/test-reference.log) files of tests passed; document 01's full run as it stands there"
+
+# Answers and bytes that the reference recorded, from the archive; some of them again with valgrind watching.
+test-vectors: reference build/vectors
+	@$(REFERENCE)/vectors 20000 | build/vectors
+	@$(REFERENCE)/vectors 1500 | valgrind --quiet --error-exitcode=9 build/vectors heap
+
+build/vectors: tests/c/vectors.c tests/c/zone.h include/balluchaw.h $(ARCHIVE)
+	@mkdir -p build
+	@$(CC) $(CFLAGS) -g -Iinclude tests/c/vectors.c $(ARCHIVE) -o $@
+
+# The archive beside the reference on more than a million calls; then with faults planted, each of which must be found.
+# SEED chooses other calls; TESTS=long does a hundred times as much.
+test-differential: need build/vectors
+	@CARGO_TARGET_DIR=build/differential cargo build --quiet --release --offline --manifest-path tests/differential/Cargo.toml
+	@build/differential/release/differential
+	@build/differential/release/differential faults
+
+# The calls on inputs that a fuzzer makes up, for FUZZ seconds; faults planted before that must be found.
+FUZZ ?= 30
+fuzz: need $(ARCHIVE)
+	@tests/fuzz/run.sh $(FUZZ)
+
+# The example, then the kit as it is installed.
+test-kit: need reference $(ARCHIVE)
+	@mkdir -p build
+	@$(CC) -std=c11 $(CFLAGS) -Iinclude examples/gateway.c $(ARCHIVE) -o build/gateway
+	@build/gateway build/orders.table | diff examples/gateway.out -
+	@echo "gateway: printed what examples/gateway.out has"
+	@CC='$(CC)' tests/install.sh
 
 # The check beside checks in C, in one process; what the other calls take beyond the check.
 bench: reference archive
@@ -50,14 +89,24 @@ bench: reference archive
 	@echo "one partition of 60,000 nodes"
 	build/bench build/table-flat
 
-install: archive
-	install -d $(DESTDIR)$(PREFIX)/lib/pkgconfig $(DESTDIR)$(PREFIX)/include
-	install -m 644 $(ARCHIVE) $(DESTDIR)$(PREFIX)/lib/
-	install -m 644 include/balluchaw.h $(DESTDIR)$(PREFIX)/include/
-	sed 's|@PREFIX@|$(PREFIX)|' balluchaw.pc.in > $(DESTDIR)$(PREFIX)/lib/pkgconfig/balluchaw.pc
+# The kit: what a gateway's programmer needs. uninstall takes away exactly what install puts in place.
+TO = $(DESTDIR)$(PREFIX)
+
+install: archive $(if $(PROGRAM),install-program)
+	install -d $(TO)/lib/pkgconfig $(TO)/include $(TO)/share/man/man3
+	install -m 644 $(ARCHIVE) $(TO)/lib/
+	install -m 644 include/balluchaw.h $(TO)/include/
+	sed 's|@PREFIX@|$(PREFIX)|' balluchaw.pc.in > $(TO)/lib/pkgconfig/balluchaw.pc
+	install -m 644 man/balluchaw.3 $(TO)/share/man/man3/
+
+install-program: program
+	install -d $(TO)/bin $(TO)/share/man/man1
+	install -m 755 $(PROGRAM) $(TO)/bin/balluchaw
+	install -m 644 man/balluchaw.1 $(TO)/share/man/man1/
 
 uninstall:
-	rm -f $(DESTDIR)$(PREFIX)/lib/libballuchaw.a $(DESTDIR)$(PREFIX)/include/balluchaw.h $(DESTDIR)$(PREFIX)/lib/pkgconfig/balluchaw.pc
+	rm -f $(TO)/lib/libballuchaw.a $(TO)/include/balluchaw.h $(TO)/lib/pkgconfig/balluchaw.pc $(TO)/share/man/man3/balluchaw.3
+	rm -f $(TO)/bin/balluchaw $(TO)/share/man/man1/balluchaw.1
 
 clean:
 	rm -rf build target
