@@ -64,7 +64,8 @@ build/tuned.o: bench/peers/check.c $(BENCH_H)
 	$(PEER_CC) $(PEER_FLAGS) -DTUNED -Dcheck_plain=check_tuned -c $< -o $@
 
 build/bench: $(BENCH_C) $(BENCH_H) build/check.o build/tuned.o $(ARCHIVE) $(PEERS)
-	$(CC) $(CFLAGS) -Iinclude -Ibench -DPEERS_BY='"$(shell $(PEER_CC) --version | head -n 1), $(PEER_FLAGS)"' $(BENCH_C) build/check.o build/tuned.o $(ARCHIVE) $(PEERS) -lsqlite3 -llmdb -lpthread -ldl -lm -o $@
+	$(CC) $(CFLAGS) -Iinclude -Ibench -DPEERS_BY='"$(shell $(PEER_CC) --version | head -n 1), $(PEER_FLAGS)"' $(BENCH_C) build/check.o build/tuned.o \
+		$(ARCHIVE) $(PEERS) -lsqlite3 -llmdb -lpthread -ldl -lm -o $@
 
 build/stack: bench/stack.c $(BENCH_H) $(ARCHIVE) $(PEERS)
 	$(CC) $(CFLAGS) -Iinclude -Ibench bench/stack.c $(ARCHIVE) $(PEERS) -lpthread -ldl -lm -o $@

@@ -140,8 +140,8 @@ static FILE *result(const char *directory, const char *name) {
 
 static void write_results(const char *directory) {
     FILE *text = result(directory, "results.txt"), *csv = result(directory, "results.csv");
-    fprintf(text, "One process, variants taking turns, CPU time of the thread; medians of the rounds.\nThe checks in C: %s. SQLite %s in memory, secure_delete on. %s.\n\n",
-            PEERS_BY, sqlite_name(), lmdb_name());
+    fprintf(text, "One process, variants taking turns, CPU time of the thread; medians of the rounds.\n");
+    fprintf(text, "The checks in C: %s. SQLite %s in memory, secure_delete on. %s.\n\n", PEERS_BY, sqlite_name(), lmdb_name());
     report_summary(text);
     report_all(text);
     report_csv(csv);

@@ -4,16 +4,24 @@ import csv
 import math
 import sys
 
-WIDTH, HEIGHT, LEFT, RIGHT, TOP, BOTTOM = 820, 460, 74, 236, 58, 58
-STYLE = """
-svg { font: 13px system-ui, sans-serif; --paper: #ffffff; --ink: #1f2328; --faint: #59636e; --grid: #d9dee3; }
-svg { --c0: #0b57d0; --c1: #b3541e; --c2: #8a6d00; --c3: #1a7f37; --c4: #8250df; --c5: #c2255c; --c6: #0c7489; }
-@media (prefers-color-scheme: dark) {
-  svg { --paper: #14181d; --ink: #e6edf3; --faint: #9aa5b1; --grid: #2d343c; }
-  svg { --c0: #79b8ff; --c1: #f0a067; --c2: #e3c341; --c3: #56d364; --c4: #c297ff; --c5: #ff8fb1; --c6: #5fd0e6; }
-}
-.paper { fill: var(--paper); } .grid { stroke: var(--grid); } .frame { stroke: var(--faint); } .title { font-weight: 600; font-size: 15px; }
-text { fill: var(--ink); } .faint { fill: var(--faint); } path, .grid, .frame { fill: none; } path { stroke-width: 2; } path.first { stroke-width: 3.5; }
+WIDTH, HEIGHT, LEFT, RIGHT, TOP, BOTTOM = 880, 460, 74, 290, 58, 58
+LIGHT = ["#0b57d0", "#b3541e", "#8a6d00", "#1a7f37", "#8250df", "#c2255c"]
+DARK = ["#79b8ff", "#f0a067", "#e3c341", "#56d364", "#c297ff", "#ff8fb1"]
+
+
+def colours(paper, ink, faint, grid, lines):
+    rules = [f".paper {{ fill: {paper}; }} text {{ fill: {ink}; }} .faint {{ fill: {faint}; }} .grid {{ stroke: {grid}; }} .frame {{ stroke: {faint}; }}"]
+    rules += [f".s{i} {{ stroke: {c}; }} .f{i} {{ fill: {c}; }}" for i, c in enumerate(lines)]
+    return "\n".join(rules)
+
+
+STYLE = f"""
+svg {{ font: 13px system-ui, sans-serif; }} .title {{ font-weight: 600; font-size: 15px; }}
+path, .grid, .frame {{ fill: none; }} path {{ stroke-width: 2; }} path.first {{ stroke-width: 3.5; }} path.lead {{ stroke-width: 1; }}
+{colours("#ffffff", "#1f2328", "#59636e", "#d9dee3", LIGHT)}
+@media (prefers-color-scheme: dark) {{
+{colours("#14181d", "#e6edf3", "#9aa5b1", "#2d343c", DARK)}
+}}
 """
 PLOTS = [
     ("check.svg", "check", "Check of a whole table, γ = B = 16, load 0.80", "ns for each order held",
@@ -21,7 +29,7 @@ PLOTS = [
       ("SQLite integrity_check", "SQLite integrity_check")]),
     ("put.svg", "put", "One put that leaves canonical bytes, γ = B = 16, load 0.80", "µs",
      [("balluchaw", "balluchaw, with its check"), ("BTreeMap + all its bytes", "BTreeMap + all its bytes"), ("reference", "Rust reference"),
-      ("SQLite + VACUUM INTO", "SQLite + VACUUM INTO"), ("SQLite integrity_check + VACUUM INTO", "the same + integrity_check"),
+      ("SQLite + VACUUM INTO", "SQLite + VACUUM INTO"), ("SQLite integrity_check + VACUUM INTO", "SQLite integrity_check + VACUUM"),
       ("LMDB + sorted copy", "LMDB + sorted copy")]),
 ]
 
@@ -72,15 +80,14 @@ def axes(x, y, x_ticks, y_ticks, title, unit):
 
 def line(index, curve, x, y):
     path = " L".join(f"{x(n):.1f} {y(value):.1f}" for n, value in curve)
-    dots = "".join(f'<circle cx="{x(n):.1f}" cy="{y(value):.1f}" r="{4 if index == 0 else 3}" fill="var(--c{index})"/>' for n, value in curve)
-    kind = ' class="first"' if index == 0 else ""
-    return f'<path{kind} d="M{path}" stroke="var(--c{index})"/>{dots}'
+    dots = "".join(f'<circle class="f{index}" cx="{x(n):.1f}" cy="{y(value):.1f}" r="{4 if index == 0 else 3}"/>' for n, value in curve)
+    return f'<path class="s{index}{" first" if index == 0 else ""}" d="M{path}"/>{dots}'
 
 
 def label(index, name, curve, x, y, place):
     (n, value), weight = curve[-1], ' font-weight="600"' if index == 0 else ""
-    lead = f'<path style="stroke-width: 1" d="M{x(n) + 6:.1f} {y(value):.1f} L{x(n) + 16:.1f} {place:.1f}" stroke="var(--c{index})"/>'
-    return f'{lead}<text x="{x(n) + 20:.1f}" y="{place + 4:.1f}" style="fill: var(--c{index})"{weight}>{name}, {value:,.{0 if value >= 100 else 1}f}</text>'
+    lead = f'<path class="s{index} lead" d="M{x(n) + 6:.1f} {y(value):.1f} L{x(n) + 16:.1f} {place:.1f}"/>'
+    return f'{lead}<text class="f{index}" x="{x(n) + 20:.1f}" y="{place + 4:.1f}"{weight}>{name}, {value:,.{0 if value >= 100 else 1}f}</text>'
 
 
 def draw(rows, operation, title, unit, lines):

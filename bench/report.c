@@ -44,7 +44,7 @@ void report_keep(const variant *variants, int count, int rounds, int beyond) {
                                   .median = middle / unit,
                                   .best = least(v->ns, rounds) / unit,
                                   .ours = ratio(first, v, rounds),
-                                  .beyond = (middle - median(variants->ns, rounds)) / 1000,
+                                  .beyond = difference(v, variants, rounds) / 1000,
                                   .noise = noise(v, variants, rounds) / 1000};
     }
 }
@@ -88,6 +88,14 @@ static const row *find(int scene_number, const char *operation, const char *who)
     return NULL;
 }
 
+/* What is not twice as much as the error to expect is only known to be less than that. */
+static void print_beyond(FILE *to, const row *r) {
+    char text[32];
+    int seen = r->beyond >= 2 * r->noise;
+    snprintf(text, sizeof text, "%s%.1f", seen ? "" : "<", seen ? r->beyond : 2 * r->noise + (r->beyond > 0 ? r->beyond : 0));
+    fprintf(to, " %9s", text);
+}
+
 static void print_line(FILE *to, int i) {
     static const char *peers[] = {"check_plain", "check_tuned", "check_fast", "reference"};
     static const char *calls[] = {"lookup", "seek", "span of all", "cancel", "put", "put of a held key"};
@@ -96,30 +104,34 @@ static void print_line(FILE *to, int i) {
     for (int k = 0; k < 4; k++)
         if ((r = find(i, "check", peers[k]))) fprintf(to, " %6.2f", r->ours);
     for (int k = 0; k < 6; k++)
-        if ((r = find(i, calls[k], "balluchaw"))) fprintf(to, " %9.2f", r->beyond);
+        if ((r = find(i, calls[k], "balluchaw"))) print_beyond(to, r);
     fprintf(to, "\n");
 }
 
-/* How many times as fast the archive is, for each configuration in which the others were measured. */
+/* How many times as fast the archive is, for each scene in which the others were measured. */
 static void print_times(FILE *to, const char *operation, const char *who, const char *asked) {
-    int head = 0;
+    fprintf(to, "%-7s %-40s", operation, who);
     for (int i = 0; i < scene_count; i++) {
         const row *r = find(i, operation, who);
-        if (!r) continue;
-        if (!head++) fprintf(to, "%-7s %-46s", operation, who);
-        fprintf(to, " %9.2f", 1 / r->ours);
+        if (r && scenes[i].of.others) fprintf(to, " %7.2f", 1 / r->ours);
+        else if (scenes[i].of.others) fprintf(to, " %7s", "");
     }
-    if (head) fprintf(to, "   %s\n", asked);
+    fprintf(to, "%s\n", asked);
 }
 
 static void print_all_times(FILE *to) {
-    fprintf(to, "\nTimes as fast as the others, rising number of orders\n");
-    print_times(to, "check", "SQLite integrity_check", "asked for: 10");
-    print_times(to, "check", "SQLite WITHOUT ROWID, integrity_check", "");
+    static const char *asked = "   asked for: 10";
+    fprintf(to, "\n%-48s", "Times as fast as the others");
+    for (int i = 0; i < scene_count; i++)
+        if (scenes[i].of.others) fprintf(to, " %7u", scenes[i].of.held);
+    fprintf(to, "   orders\n");
+    print_times(to, "check", "SQLite integrity_check", asked);
+    print_times(to, "check", "SQLite WITHOUT ROWID, integrity_check", asked);
+    print_times(to, "check", "reference", "");
     for (int k = 0; k < 2; k++) {
         const char *operation = k ? "cancel" : "put";
-        print_times(to, operation, "SQLite + VACUUM INTO", "asked for: 10");
-        print_times(to, operation, "SQLite WITHOUT ROWID + VACUUM INTO", "");
+        print_times(to, operation, "SQLite + VACUUM INTO", asked);
+        print_times(to, operation, "SQLite WITHOUT ROWID + VACUUM INTO", asked);
         print_times(to, operation, "SQLite integrity_check + VACUUM INTO", "");
         print_times(to, operation, "LMDB + sorted copy", "");
         print_times(to, operation, "BTreeMap + all its bytes", "");

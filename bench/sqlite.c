@@ -1,5 +1,6 @@
-/* SQLite in memory with secure_delete: what is timed of it. Its canonical bytes are the file that VACUUM INTO writes, among the scratch files. The orders stand
- * in an ordinary table, whose key is the row's number, and in one WITHOUT ROWID: the first has the faster integrity_check, the second the faster VACUUM INTO. */
+/* SQLite in memory with secure_delete: what is timed of it. Its canonical bytes are the file that VACUUM INTO writes, among the scratch files.
+ * The orders stand in an ordinary table, whose key is the row's number, and in one WITHOUT ROWID: the first has the faster integrity_check, the second the
+ * faster VACUUM INTO. */
 #include "peers/common.h"
 #include "variants.h"
 

@@ -96,8 +96,8 @@ static void made_up(const char *name, u32 nodes, u32 held, u32 shape) {
     sample_free(table, length);
 }
 
-/* Under h(x) = x a key's level tells how often 2 divides it. From the top down, nodes - 1 keys of each level, all above the last key of the level before: with the
- * node that opens it, each list's last partition is one full chunk. */
+/* Under h(x) = x a key's level tells how often 2 divides it. From the top down, nodes - 1 keys of each level, all above the last key of the level before:
+ * with the node that opens it, each list's last partition is one full chunk. */
 static void stairs(const char *name, u32 nodes) {
     u32 blocks = LEVELS * LEVELS * nodes, last = 0;
     u8 seed[40] = {[7] = 1, [27] = 1};

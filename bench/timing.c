@@ -74,11 +74,15 @@ double ratio(const variant *one, const variant *other, int rounds) {
     return median(each, rounds);
 }
 
-double noise(const variant *one, const variant *other, int rounds) {
+double difference(const variant *one, const variant *other, int rounds) {
     double each[MOST_ROUNDS];
     for (int r = 0; r < rounds; r++) each[r] = one->ns[r] - other->ns[r];
-    double middle = median(each, rounds);
-    for (int r = 0; r < rounds; r++) each[r] = fabs(each[r] - middle);
-    /* 1.48 makes a deviation of the median distance, 1.25 tells a median's error from a mean's. */
+    return median(each, rounds);
+}
+
+double noise(const variant *one, const variant *other, int rounds) {
+    double each[MOST_ROUNDS], middle = difference(one, other, rounds);
+    for (int r = 0; r < rounds; r++) each[r] = fabs(one->ns[r] - other->ns[r] - middle);
+    /* 1.48 makes a deviation of the median distance, 1.25 a median's error of a mean's. */
     return 1.48 * 1.25 * median(each, rounds) / sqrt(rounds);
 }

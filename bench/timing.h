@@ -26,7 +26,8 @@ double least(const double *values, int count);
 /* The median over the rounds of the one's time for each ns of the other's. */
 double ratio(const variant *one, const variant *other, int rounds);
 
-/* The error to expect of the difference of the two medians, by how much the rounds' differences scatter. */
+/* The median over the rounds of the one's time less the other's, and the error to expect of it, by how much the rounds scatter. */
+double difference(const variant *one, const variant *other, int rounds);
 double noise(const variant *one, const variant *other, int rounds);
 
 #endif
