@@ -47,7 +47,7 @@ PEER_FLAGS = -O3 -march=native
 PEERS = build/peers/release/libpeers.a
 BENCH_C = $(addprefix bench/,bench.c timing.c scene.c report.c archive.c plain.c sqlite.c lmdb.c)
 BENCH_H = $(wildcard bench/*.h bench/peers/*.h bench/rust/*.h) include/balluchaw.h
-.PHONY: bench-build bench-smoke bench-need
+.PHONY: bench-need bench-build bench-smoke bench-count
 
 bench-need: need
 	@scripts/need sqlite3.h:libsqlite3-dev lmdb.h:liblmdb-dev python3:python3 nm:binutils
@@ -75,6 +75,15 @@ bench: bench-build
 	@(build/stack && bench/undefined $(ARCHIVE)) > build/stack.out; status=$$?; cat build/stack.out; exit $$status
 	@(echo; cat build/stack.out) >> bench/results/results.txt
 	@python3 bench/plot.py bench/results
+
+# The calls' instructions, by callgrind: they do not depend on what else the machine does.
+build/count: bench/count.c $(BENCH_C) $(BENCH_H) build/check.o build/tuned.o $(ARCHIVE) $(PEERS)
+	$(CC) $(CFLAGS) -Iinclude -Ibench bench/count.c bench/scene.c bench/archive.c build/check.o build/tuned.o $(ARCHIVE) $(PEERS) -lpthread -ldl -lm -o $@
+
+bench-count: bench-build build/count
+	@rm -rf build/dumps && mkdir -p build/dumps
+	@valgrind --quiet --tool=callgrind --instr-atstart=no --callgrind-out-file=build/dumps/out build/count
+	@python3 bench/count.py build/dumps | tee bench/results/instructions.txt
 
 # One small table, three rounds: are all answers right, and the bytes as before after a cancel and a put?
 bench-smoke: bench-build

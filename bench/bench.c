@@ -15,6 +15,9 @@
 
 enum { MOST_VARIANTS = 32, SMOKE_ROUNDS = 3 };
 
+/* CPU time for the checks of a configuration, for its calls, and for its calls together with the others'. */
+enum { CHECK_SECONDS = 1, CALL_SECONDS = 2, ALL_SECONDS = 5 };
+
 static const configuration configurations[] = {
     {"load 0.80", 16, 16, 100, 80, RANDOM, 1, 1},    {"load 0.80", 16, 16, 300, 80, RANDOM, 1, 1},   {"load 0.80", 16, 16, 1000, 80, RANDOM, 0, 1},
     {"load 0.80", 16, 16, 3000, 80, RANDOM, 1, 1},   {"load 0.80", 16, 16, 10000, 80, RANDOM, 0, 1}, {"load 0.80", 16, 16, 30000, 80, RANDOM, 1, 1},
@@ -95,14 +98,14 @@ static void measure_checks(scene *s, int rounds) {
     variant variants[MOST_VARIANTS];
     int count = add(variants, 0, checks, sizeof checks, s->of.held);
     if (s->of.others) count = add(variants, count, other_checks, sizeof other_checks, s->of.held);
-    report_keep(variants, count, take_turns(variants, count, s, 1.5, rounds), 0);
+    report_keep(variants, count, take_turns(variants, count, s, CHECK_SECONDS, rounds), 0);
 }
 
 static void measure_calls(scene *s, int rounds) {
     variant variants[MOST_VARIANTS];
     int count = add(variants, 0, calls, sizeof calls, s->of.held);
     if (s->of.others) count = add(variants, count, other_calls, sizeof other_calls, s->of.held);
-    report_keep(variants, count, take_turns(variants, count, s, s->of.others ? 6 : 2.5, rounds), 1);
+    report_keep(variants, count, take_turns(variants, count, s, s->of.others ? ALL_SECONDS : CALL_SECONDS, rounds), 1);
     same_bytes(s);
 }
 
