@@ -4,7 +4,7 @@ import csv
 import math
 import sys
 
-WIDTH, HEIGHT, LEFT, RIGHT, TOP, BOTTOM = 880, 460, 74, 290, 58, 58
+WIDTH, HEIGHT, LEFT, RIGHT, TOP, BOTTOM = 900, 460, 74, 310, 58, 58
 LIGHT = ["#0b57d0", "#b3541e", "#8a6d00", "#1a7f37", "#8250df", "#c2255c"]
 DARK = ["#79b8ff", "#f0a067", "#e3c341", "#56d364", "#c297ff", "#ff8fb1"]
 
