@@ -80,7 +80,8 @@ bench: bench-build
 build/count: bench/count.c $(BENCH_C) $(BENCH_H) build/check.o build/tuned.o $(ARCHIVE) $(PEERS)
 	$(CC) $(CFLAGS) -Iinclude -Ibench bench/count.c bench/scene.c bench/archive.c build/check.o build/tuned.o $(ARCHIVE) $(PEERS) -lpthread -ldl -lm -o $@
 
-bench-count: bench-build build/count
+bench-count: bench-build
+	@$(MAKE) --no-print-directory build/count
 	@rm -rf build/dumps && mkdir -p build/dumps
 	@valgrind --quiet --tool=callgrind --instr-atstart=no --callgrind-out-file=build/dumps/out build/count
 	@python3 bench/count.py build/dumps | tee bench/results/instructions.txt
