@@ -41,7 +41,7 @@ static const variant checks[] = {
 
 static const variant other_checks[] = {
     {"check", "SQLite integrity_check", sqlite_check, 0, 0, 1, 1, {0}},
-    {"check", "SQLite WITHOUT ROWID, integrity_check", clustered_check, 0, 0, 1, 1, {0}},
+    {"check", "SQLite WITHOUT ROWID integrity_check", clustered_check, 0, 0, 1, 1, {0}},
 };
 
 /* The check stands here again: it takes turns with the calls that begin with it. */

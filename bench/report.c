@@ -128,7 +128,7 @@ static void print_all_times(FILE *to) {
         if (scenes[i].of.others) fprintf(to, " %7u", scenes[i].of.held);
     fprintf(to, "   orders\n");
     print_times(to, "check", "SQLite integrity_check", asked);
-    print_times(to, "check", "SQLite WITHOUT ROWID, integrity_check", asked);
+    print_times(to, "check", "SQLite WITHOUT ROWID integrity_check", asked);
     print_times(to, "check", "reference", "");
     for (int k = 0; k < 2; k++) {
         const char *operation = k ? "cancel" : "put";
