@@ -24,3 +24,8 @@ rows f (x ∷ xs) = f x ++ rows f xs
 unfoldable pub rows-in : {A : Type 0} → (w : ℕ) → (List ℕ → A) → (n : ℕ) → List ℕ → List A
 rows-in w f zero bs = []
 rows-in w f (suc k) bs = f bs ∷ rows-in w f k (drop w bs)
+
+-- each of a list
+abbrev pub Each : {A : Type 0} → (A → Type 0) → List A → Type 0
+Each P [] = Unit {0}
+Each P (x ∷ xs) = P x × Each P xs
