@@ -19,6 +19,8 @@ pub mod Bytes
 pub mod Parts
 pub mod Order
 pub mod Cells
+pub mod Rows
+pub mod Coded
 pub mod Loops
 pub mod Bridge
 pub mod Walks

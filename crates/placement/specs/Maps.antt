@@ -2,11 +2,12 @@
 use mathlib.Core.Path.{_≡_}
 use mathlib.Core.Logic.{_≢_}
 use mathlib.Core.Bool.{Bool, true, _&&_}
-use mathlib.Core.List.{List, [], _∷_, _++_}
+use mathlib.Core.List.{List, [], _++_}
 use Prim.Native.Nat.{ℕ, _<_, _≤_}
 use lib.Dec.{eqb}
 use lib.ListN.{length}
 use Rattle.placement.specs.Blocks.{Block, holds}
+use Rattle.placement.specs.Numbers.{Each}
 use Rattle.placement.specs.Kinds.{Kind}
 use Rattle.placement.specs.Kinds
 use Rattle.placement.specs.Sizes.{made}
@@ -75,8 +76,7 @@ pub record Fine (o : Order) : Type 0 where
   pub displayed : o .displayed < 4294967296
 
 abbrev pub Fines : List Order → Type 0
-Fines [] = Unit {0}
-Fines (o ∷ os) = Fine o × Fines os
+Fines os = Each Fine os
 
 -- a chunk that the bytes of a block can hold
 pub record Holdable (s : Sizes) (c : Chunk) : Type 0 where

@@ -28,3 +28,8 @@ rows-in w f (suc k) bs = f bs ∷ rows-in w f k (drop w bs)
 -- 2^32 over d, rounded up: x * over d / 2^32 is x / d, or one more
 unfoldable pub over : (d : ℕ) → ℕ
 over d = (4294967296 + (d - 1)) / d
+
+-- each of a list
+abbrev pub Each : {A : Type 0} → (A → Type 0) → List A → Type 0
+Each P [] = Unit {0}
+Each P (x ∷ xs) = P x × Each P xs

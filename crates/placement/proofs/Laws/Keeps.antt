@@ -7,9 +7,8 @@ use lib.ListN.{length, replicate}
 use Rattle.placement.specs.Blocks.{Among, Block, empty, holds, around, stored, placed}
 use Rattle.placement.specs.declared.Sizes.{Sizes}
 use Rattle.placement.specs.declared.Order.{Order}
-use Rattle.placement.specs.declared.Label.{Label}
 use Rattle.placement.specs.Chunks.{Chunk, home, label-before}
-use Rattle.placement.specs.Maps.{Map, at, chunk, nodes-of, labelled, chunk-kind, with-chunk, without-label, Keeps, map-of}
+use Rattle.placement.specs.Maps.{Map, at, chunk, nodes-of, chunk-kind, with-chunk, without-label, Keeps, map-of}
 use Rattle.placement.proofs.Laws.Placed.{Rising}
 use Rattle.placement.proofs.Laws.Insertion.{insert-from}
 use Rattle.placement.proofs.Laws.Removal.{removed-at}
