@@ -110,3 +110,20 @@ uninstall:
 
 clean:
 	rm -rf build target
+
+# ---- documents --------------------------------------------------------------
+.PHONY: pictures lesson
+
+# All pictures again, each from a run through the program.
+pictures: reference
+	@scripts/need python3:python3
+	scripts/pictures pictures
+
+# What docs/class.md and docs/format.md show, the reader, and the stored pictures, against what the programs give now.
+lesson: reference
+	@scripts/need python3:python3
+	scripts/lesson
+	scripts/try-reader
+	rm -rf build/pictures
+	scripts/pictures build/pictures
+	diff -r pictures build/pictures && echo "pictures: as stored"

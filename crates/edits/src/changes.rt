@@ -7,25 +7,25 @@ ghost use Rattle.skiplist.specs.Image.{is-image, orders-in};
 ghost use Rattle.skiplist.specs.Questions.{is-key, held};
 ghost use Rattle.placement.specs.Place.{Shaped};
 ghost use Rattle.table.specs.Calls.{Put-says, Cancel-says};
-ghost use Rattle.table.specs.Change.{Put-turn, Put-new, Put-held, Cancel-turn, Cancel-held, Put-sure, Sized, Put-free};
+ghost use Rattle.edits.specs.Change.{Put-turn, Put-new, Put-held, Cancel-turn, Cancel-held, Put-sure, Sized, Put-free};
+use levels::edit::cancel_below;
+use levels::edit::cancel_in;
+use levels::edit::put_below;
+use levels::edit::put_in;
+use levels::edit::replace;
+use levels::growth::bottom;
+use levels::growth::growth;
+use levels::spots::scan;
 use placement::Order;
 use placement::Sizes;
 use placement::hash::highest;
 use placement::hash::level_of;
 use placement::header::Header;
 use placement::numbers::put2;
+use readings::calls::Sought;
+use readings::calls::is_key;
+use readings::descent::order_of;
 use table::checking::check;
-use table::growth::bottom;
-use table::growth::growth;
-use table::levels::cancel_below;
-use table::levels::cancel_in;
-use table::levels::put_below;
-use table::levels::put_in;
-use table::levels::replace;
-use table::readings::Sought;
-use table::readings::first_with;
-use table::readings::is_key;
-use table::spots::scan;
 use table::sweep::sweep;
 
 // One level of a put; the first key of the partition one level down.
@@ -77,7 +77,7 @@ fn is_held(table: &[u8], key: u32) -> bool
     requires { ⌜ (is-image (now table) ≡ true) × (is-key key ≡ true) × (1 ≤ key) ⌝ }
     ensures { λ r. ⌜ r ≡ held key (orders-in (now (table .entry))) ⌝ }
 {
-    let Sought::Is(o) = first_with(table, key, key, 0) else {
+    let Sought::Is(o) = order_of(table, key) else {
         return false;
     };
     o.key == key
@@ -197,7 +197,7 @@ pub fn cancel(table: &mut [u8], key: u32) -> u32
     if !is_key(key) {
         return 5;
     }
-    let Sought::Is(o) = first_with(table, key, key, 0) else {
+    let Sought::Is(o) = order_of(table, key) else {
         return 9;
     };
     cancel_sure(table, o.key);

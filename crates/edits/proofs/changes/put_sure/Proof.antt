@@ -2,8 +2,8 @@
 use borrow.Author.Needs.{needs}
 use borrow.Author.Tests.{not-true, not-false}
 use Rattle.edits.proofs.Laws.Sightings.{told-held, told-free}
-use Rattle.table.proofs.Laws.EditAnswers.{image-shaped, image-gamma, image-gamma-some, image-orders, image-nodes, image-blocks, image-seeds, image-head, image-head-kept, sized}
-use Rattle.table.proofs.Laws.PutAnswers.{put-done-held, put-no-7, put-free}
+use Rattle.edits.proofs.Laws.EditAnswers.{image-shaped, image-gamma, image-gamma-some, image-orders, image-nodes, image-blocks, image-seeds, image-head, image-head-kept, sized}
+use Rattle.edits.proofs.Laws.PutAnswers.{put-done-held, put-no-7, put-free}
 use Rattle.edits.proofs.changes.put_sure.Statement.{statement}
 use Rattle.edits.proofs.changes.put_sure.Tie as tie
 
