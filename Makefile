@@ -40,7 +40,7 @@ test: tests
 	rt ci
 
 # Every test but the proofs. Each says in a line what it did.
-tests: test-reference test-vectors test-kit test-differential fuzz
+tests: test-reference test-vectors test-kit test-differential fuzz lesson bench-smoke
 
 # The reference's own tests, and document 01's full run on its program.
 test-reference: reference
@@ -77,17 +77,59 @@ test-kit: need reference $(ARCHIVE)
 	@echo "gateway: printed what examples/gateway.out has"
 	@CC='$(CC)' tests/install.sh
 
-# The check beside checks in C, in one process; what the other calls take beyond the check.
-bench: reference archive
-	@mkdir -p build
-	clang -O3 -march=native -c bench/peers/check.c -o build/check.o 2>/dev/null || $(CC) -O3 -march=native -c bench/peers/check.c -o build/check.o
-	clang -O3 -march=native -DTUNED -Dcheck_plain=check_tuned -c bench/peers/check.c -o build/tuned.o 2>/dev/null || $(CC) -O3 -march=native -DTUNED -Dcheck_plain=check_tuned -c bench/peers/check.c -o build/tuned.o
-	$(CC) -O2 -Iinclude -Ibench bench/bench.c build/check.o build/tuned.o $(ARCHIVE) -o build/bench
-	for n in 1000 10000 60000; do $(REFERENCE)/sample 16 16 $$n $$n 80 > build/table-$$n; done
-	$(REFERENCE)/sample 16 16 60000 60000 80 flat > build/table-flat
-	build/bench build/table-1000 build/table-10000 build/table-60000
-	@echo "one partition of 60,000 nodes"
-	build/bench build/table-flat
+# The benchmark, see bench/README.md: the archive's calls beside other programs, in one process; then the stack of each call and what the archive takes from
+# elsewhere. Figures go to bench/results. The databases' files stand in a directory of their own in SCRATCH, which should be in memory.
+SCRATCH ?= $(if $(wildcard /dev/shm/.),/dev/shm,build)
+IN_SCRATCH = scratch=$$(mktemp -d $(SCRATCH)/balluchaw-XXXXXX) && trap 'rm -rf "$$scratch"' EXIT
+PEER_CC := $(or $(shell command -v clang),$(CC))
+PEER_FLAGS = -O3 -march=native
+PEERS = build/peers/release/libpeers.a
+BENCH_C = $(addprefix bench/,bench.c timing.c scene.c report.c archive.c plain.c sqlite.c lmdb.c)
+BENCH_H = $(wildcard bench/*.h bench/peers/*.h bench/rust/*.h) include/balluchaw.h
+.PHONY: bench-need bench-build bench-smoke bench-count
+
+bench-need: need
+	@scripts/need sqlite3.h:libsqlite3-dev lmdb.h:liblmdb-dev python3:python3 nm:binutils
+
+bench-build: bench-need archive
+	@mkdir -p build bench/results
+	@CARGO_TARGET_DIR=build/peers cargo build --quiet --release --offline --manifest-path bench/rust/Cargo.toml
+	@$(MAKE) --no-print-directory build/bench build/stack
+
+build/check.o: bench/peers/check.c $(BENCH_H)
+	$(PEER_CC) $(PEER_FLAGS) -c $< -o $@
+
+build/tuned.o: bench/peers/check.c $(BENCH_H)
+	$(PEER_CC) $(PEER_FLAGS) -DTUNED -Dcheck_plain=check_tuned -c $< -o $@
+
+build/bench: $(BENCH_C) $(BENCH_H) build/check.o build/tuned.o $(ARCHIVE) $(PEERS)
+	$(CC) $(CFLAGS) -Iinclude -Ibench -DPEERS_BY='"$(shell $(PEER_CC) --version | head -n 1), $(PEER_FLAGS)"' $(BENCH_C) build/check.o build/tuned.o \
+		$(ARCHIVE) $(PEERS) -lsqlite3 -llmdb -lpthread -ldl -lm -o $@
+
+build/stack: bench/stack.c $(BENCH_H) $(ARCHIVE) $(PEERS)
+	$(CC) $(CFLAGS) -Iinclude -Ibench bench/stack.c $(ARCHIVE) $(PEERS) -lpthread -ldl -lm -o $@
+
+bench: bench-build
+	@$(IN_SCRATCH) && build/bench $$scratch bench/results
+	@(build/stack && bench/undefined $(ARCHIVE)) > build/stack.out; status=$$?; cat build/stack.out; exit $$status
+	@(echo; cat build/stack.out) >> bench/results/results.txt
+	@python3 bench/plot.py bench/results
+
+# The calls' instructions, by callgrind: they do not depend on what else the machine does.
+build/count: bench/count.c $(BENCH_C) $(BENCH_H) build/check.o build/tuned.o $(ARCHIVE) $(PEERS)
+	$(CC) $(CFLAGS) -Iinclude -Ibench bench/count.c bench/scene.c bench/archive.c build/check.o build/tuned.o $(ARCHIVE) $(PEERS) -lpthread -ldl -lm -o $@
+
+bench-count: bench-build
+	@$(MAKE) --no-print-directory build/count
+	@rm -rf build/dumps && mkdir -p build/dumps
+	@valgrind --quiet --tool=callgrind --instr-atstart=no --callgrind-out-file=build/dumps/out build/count
+	@python3 bench/count.py build/dumps | tee bench/results/instructions.txt
+
+# One small table, three rounds: are all answers right, and the bytes as before after a cancel and a put?
+bench-smoke: bench-build
+	@$(IN_SCRATCH) && { build/bench $$scratch > build/bench-smoke.out || { cat build/bench-smoke.out; exit 1; }; }
+	@tail -n 1 build/bench-smoke.out
+	@bench/undefined $(ARCHIVE)
 
 # The kit: what a gateway's programmer needs. uninstall takes away exactly what install puts in place.
 TO = $(DESTDIR)$(PREFIX)

@@ -6,6 +6,8 @@ pub mod Takes
 pub mod Flushes
 pub mod Chunking
 pub mod Pouring
+pub mod Stores
+pub mod Shifting
 pub mod Replacing
 pub mod Levels
 pub mod Parting

@@ -27,6 +27,18 @@ pub record Kept (s : Sizes) (bs′ cs cs′ : List ℕ) : Type 0 where
   pub shaped : Shaped s bs′
   pub long : length cs′ ≡ length cs
 
+abbrev pub at : (k f i : ℕ) → Label
+at k f i = record { level = k; first = f; number = i }
+
+-- the nodes of a chunk are read behind those of the carry
+pub record Read (F : Map) (w : Label) (c : List Order) (cs : List ℕ) (r : ℕ) : Type 0 where
+  pub front : Front cs (c ++ nodes-of F w)
+  pub size : r ≡ length (c ++ nodes-of F w)
+
+unfoldable pub Reads : Sizes → Label → (n : ℕ) → (bs cs cs′ : List ℕ) → (r : ℕ) → Type 0
+Reads s w n bs cs cs′ r =
+    (F : Map) (m : ℕ) (hd : List ℕ) (c : List Order) → Table s F m hd bs → 0 < w .level → Front cs c → n ≡ length c → Read F w c cs′ r
+
 -- a chunk is taken out: its nodes stand behind those of the carry
 pub record Taken (s : Sizes) (F : Map) (m : ℕ) (hd : List ℕ) (w : Label) (c : List Order) (bs cs : List ℕ) (r : ℕ) : Type 0 where
   pub full : ℕ

@@ -6,16 +6,17 @@ ghost use lib.Seq.{sets};
 ghost use Rattle.placement.specs.Chunks.{node-bytes};
 ghost use Rattle.skiplist.specs.Lists.{masked};
 ghost use Rattle.placement.specs.Place.{Shaped};
-ghost use Rattle.levels.specs.Pour.{Puts};
 ghost use Rattle.levels.specs.Edit.{Puts-in, Puts-below, Cancels-in, Cancels-below, Replaces};
 use crate::Spot;
 use crate::pour::pour;
+use crate::pour::read;
 use crate::pour::take;
+use crate::shift::shift;
+use crate::shift::write_some;
 use crate::spots::later;
 use placement::Label;
 use placement::Order;
 use placement::Sizes;
-use placement::edits::insert;
 use placement::numbers::bring;
 use placement::numbers::put4;
 
@@ -35,37 +36,17 @@ fn write_node(row: &mut [u8], i: u32, level: u32, o: Order)
     put4(row, at + 8, 0);
 }
 
-// The first n nodes of a row, as a chunk with a label, if there are any.
-fn write_some(table: &mut [u8], s: Sizes, label: Label, n: u32, row: &[u8])
-    requires { ⌜ Shaped s (now table) × (label .level < 256) × (n ≤ s .nodes) × (12 * n ≤ length (now row)) ⌝ }
-    ensures { λ r. ⌜ Shaped s (now (table .exit)) × Puts s label n (now (table .entry)) (now (table .exit)) (now (row .entry)) ⌝ }
-{
-    if 0 < n {
-        insert(table, s, label, n, row, 0);
-    }
-}
-
 // The key comes into partition `first`, behind the nodes below it.
 pub fn put_in(table: &mut [u8], s: Sizes, level: u32, first: u32, x: Spot, o: Order)
     requires { ⌜ Shaped s (now table) × (2 ≤ s .nodes) × (level < 256) ⌝ }
     ensures { λ r. ⌜ Puts-in s level first x o (now (table .entry)) (now (table .exit)) ⌝ }
 {
     let mut chunk = [0u8; 384];
-    let mut carry = [0u8; 768];
+    let mut carry = [0u8; 780];
     let number = x.below / s.nodes;
     let kept = x.below % s.nodes;
     let count = later(s.nodes, x.size, number);
-    let n = take(
-        table,
-        s,
-        Label {
-            level: level,
-            first: first,
-            number: number,
-        },
-        &mut chunk,
-        0,
-    );
+    let n = read(table, s, level, first, number, &mut chunk, 0);
     if n < kept {
         return;
     }
@@ -78,18 +59,7 @@ pub fn put_in(table: &mut [u8], s: Sizes, level: u32, first: u32, x: Spot, o: Or
         12 * (kept as usize),
         12 * ((n - kept) as usize),
     );
-    pour(
-        table,
-        s,
-        level,
-        first,
-        number + 1,
-        count,
-        first,
-        number,
-        &mut carry,
-        n + 1,
-    );
+    shift(table, s, level, first, number, count, &mut carry, n + 1);
 }
 
 // The key starts a partition of its own with the nodes behind it.
@@ -155,21 +125,11 @@ pub fn cancel_in(table: &mut [u8], s: Sizes, level: u32, first: u32, x: Spot)
     ensures { λ r. ⌜ Cancels-in s level first x (now (table .entry)) (now (table .exit)) ⌝ }
 {
     let mut chunk = [0u8; 384];
-    let mut carry = [0u8; 768];
+    let mut carry = [0u8; 780];
     let number = x.below / s.nodes;
     let kept = x.below % s.nodes;
     let count = later(s.nodes, x.size, number);
-    let n = take(
-        table,
-        s,
-        Label {
-            level: level,
-            first: first,
-            number: number,
-        },
-        &mut chunk,
-        0,
-    );
+    let n = read(table, s, level, first, number, &mut chunk, 0);
     if n <= kept {
         return;
     }
@@ -181,18 +141,7 @@ pub fn cancel_in(table: &mut [u8], s: Sizes, level: u32, first: u32, x: Spot)
         12 * ((kept + 1) as usize),
         12 * ((n - kept - 1) as usize),
     );
-    pour(
-        table,
-        s,
-        level,
-        first,
-        number + 1,
-        count,
-        first,
-        number,
-        &mut carry,
-        n - 1,
-    );
+    shift(table, s, level, first, number, count, &mut carry, n - 1);
 }
 
 // The partition that the key starts joins the one before it, of x.below nodes; it has `size` nodes itself.

@@ -2,6 +2,7 @@
 pub mod edit;
 pub mod growth;
 pub mod pour;
+pub mod shift;
 pub mod spots;
 
 // Where a key comes in a partition: how many nodes are below it, the key of the last of them, and how many nodes there are.

@@ -4,7 +4,7 @@ ghost use mathlib.Core.Path.{_≡_};
 ghost use Prim.Native.Nat.{ℕ, _+_, _*_, _≤_, _<_};
 ghost use lib.ListN.{length};
 ghost use Rattle.placement.specs.Place.{Shaped};
-ghost use Rattle.levels.specs.Pour.{Kept, Takes, Flushes, Pours};
+ghost use Rattle.levels.specs.Pour.{at, Kept, Reads, Takes, Flushes, Pours};
 use placement::Found;
 use placement::Label;
 use placement::Sizes;
@@ -15,6 +15,39 @@ use placement::numbers::bring;
 use placement::numbers::copy;
 use placement::search::count_at;
 use placement::search::find;
+
+// The nodes of a chunk come behind n nodes of the carry; how many nodes the carry then has. None come where there is no such chunk.
+pub fn read(
+    table: &[u8],
+    s: Sizes,
+    level: u32,
+    first: u32,
+    number: u32,
+    carry: &mut [u8],
+    n: u32,
+) -> u32
+    requires { ⌜ Shaped s (now table) × (12 * (n + s .nodes) ≤ length (now carry)) × (length (now carry) ≤ 1024) ⌝ }
+    ensures { λ r. ⌜ (length (now (carry .exit)) ≡ length (now (carry .entry))) × (r ≤ n + s .nodes) × Reads s (at level first number) n (now (table .entry)) (now (carry .entry)) (now (carry .exit)) r ⌝ }
+{
+    let Found::At(i) = find(
+        table,
+        s,
+        Label {
+            level: level,
+            first: first,
+            number: number,
+        },
+    ) else {
+        return n;
+    };
+    let more = count_at(table, s, i);
+    if s.nodes < more {
+        return n;
+    }
+    let start = offset(s, i) + 8;
+    bring(carry, 12 * (n as usize), table, start, 12 * (more as usize));
+    n + more
+}
 
 // Takes the chunk with a label out of the table, its nodes behind n nodes of the carry; how many nodes the carry then has. Nothing changes
 // where there is no such chunk.

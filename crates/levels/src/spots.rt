@@ -79,6 +79,10 @@ pub fn scan(table: &[u8], s: Sizes, level: u32, first: u32, y: u32) -> Spot
         }
         let at = offset(s, i) + 8;
         spot = pass_nodes(table, at, n, y, spot);
+        // A chunk comes only behind a full one.
+        if n < s.nodes {
+            return spot;
+        }
         number += 1;
     }
     spot

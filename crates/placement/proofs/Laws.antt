@@ -8,10 +8,13 @@ pub mod Insertion
 pub mod Removal
 pub mod Search
 pub mod Labels
+pub mod Kinds
 pub mod Maps
 pub mod Keeps
+pub mod Other
 pub mod Sizes
 pub mod Numbers
+pub mod Over
 pub mod Bytes
 pub mod Parts
 pub mod Order

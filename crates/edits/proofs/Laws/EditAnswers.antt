@@ -27,6 +27,8 @@ use Rattle.skiplist.specs.Book.{Call, put, booked, put-refusal, refusal, done}
 use Rattle.skiplist.proofs.Kept.{fits-parts, Kept}
 use Rattle.skiplist.proofs.Third.{image-parts}
 use Rattle.skiplist.proofs.Image.{image-keeps}
+use Rattle.table.specs.declared.Tally.{Tally}
+use Rattle.table.specs.Check.{swept, Examined}
 use Rattle.table.specs.Calls.{check-number, Edit-says, Put-says}
 use Rattle.edits.specs.Change.{Put-sure, Sized}
 
@@ -47,6 +49,17 @@ unchecked n bs e z = go (is-image bs) e
     go : (t : Bool) → n ≡ cond t 0 4 → t ≡ false
     go true h = absurd (z h)
     go false h = refl
+
+-- .. as `examine` tells
+module _ (bs : List ℕ) (r : Tally) (x : Examined bs r) where
+  pub examined-yes : r .clean ≡ true → is-image bs ≡ true
+  examined-yes e = sym (x .image) ∙ e
+
+  pub examined-no : r .clean ≡ false → is-image bs ≡ false
+  examined-no e = sym (x .image) ∙ e
+
+  pub examined-full : r .clean ≡ true → r .full ≡ swept (sizes-in bs) bs .full
+  examined-full e = x .count e
 
 -- ---- an image's header
 

@@ -144,9 +144,10 @@ module _ (s : Sizes) (F : Map) (n : ℕ) (hd bs : List ℕ) (t : Table s F n hd 
   swept-table = sweep-on (s .blocks) 0 0 (omega arith) ∙ ap (λ (z : ℕ). record { clean = true; full = z }) (omega (arith, t .keeps .count))
 
 -- ON AN IMAGE
-pub swept-full : (bs : List ℕ) (s : Sizes) (r : Tally) → r ≡ swept s bs → s ≡ sizes-in bs → is-image bs ≡ true → r .full ≡ length (chunks s (orders-in bs))
-swept-full bs s r e q i =
+pub swept-full : (bs : List ℕ) (s : Sizes) (n : ℕ) → n ≡ swept (sizes-in bs) bs .full → s ≡ sizes-in bs → is-image bs ≡ true → n ≡ length (chunks s (orders-in bs))
+swept-full bs s n e q i =
     let w = on-image bs s i q in
-    ap (λ (z : Tally). z .full)
-    (e ∙ ap (swept s) (w .is)
+    e ∙ ap (λ (z : Sizes). swept z bs .full) (sym q)
+    ∙ ap (λ (z : Tally). z .full)
+    (ap (swept s) (w .is)
     ∙ swept-table s (map-of (chunks s (orders-in bs))) (length (chunks s (orders-in bs))) _ (image s (orders-in bs)) (image-keeps s (orders-in bs) (w .sizes-made) (w .kept .good) (w .kept .fit)))

@@ -30,7 +30,8 @@ use Rattle.skiplist.proofs.Count.{pieces}
 use Rattle.levels.specs.Edit.{Pieces, Elsewhere, Comes-in, Replaces}
 use Rattle.levels.proofs.Laws.CarryFronts.{nodes-append, nodes-one, nodes-long}
 use Rattle.levels.proofs.Laws.Flushes.{fines-take, fines-drop, fines-append, not-none}
-use Rattle.levels.proofs.Laws.Pouring.{at, with-same, with-other}
+use Rattle.levels.specs.Pour.{at}
+use Rattle.levels.proofs.Laws.Pouring.{with-same, with-other}
 use Rattle.levels.proofs.Laws.Replacing.{pieces-at, chunk-low, kept-long, from-number, held-inside}
 use Rattle.levels.proofs.Laws.Levels.{split-sum, split-less}
 

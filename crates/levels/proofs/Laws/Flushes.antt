@@ -41,6 +41,14 @@ pub not-none : (c : List Order) → 0 < length c → c ≢ []
 not-none [] h e = absurd (omega arith)
 not-none (o ∷ c) h e = true≢false (cc)
 
+-- the nodes under a label of a table
+pub fines-there : (s : Sizes) (F : Map) (n : ℕ) (hd bs : List ℕ) (k f i : ℕ) → Table s F n hd bs → Fines (F k f i)
+fines-there s F n hd bs k f i t = go (F k f i) refl
+  where
+    go : (ns : List Order) → F k f i ≡ ns → Fines ns
+    go [] e = tt
+    go (o ∷ os) e = rw e at (t .sound k f i (rw e (not-none (o ∷ os) (omega arith))) .fine)
+
 -- nodes of a carry written under a label that is absent
 module _ (s : Sizes) (w : Label) (F : Map) (m : ℕ) (hd bs : List ℕ) (t : Table s F m hd bs) (c : List Order) where
   pub insert-nodes : (n : ℕ) (xs bs′ : List ℕ) (r : Found) → Writable w → Fines c → nodes-of F w ≡ [] → m < s .blocks → 0 < n → n ≤ s .nodes → n ≡ length c → xs ≡ nodes-bytes c

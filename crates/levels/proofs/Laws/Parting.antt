@@ -17,14 +17,14 @@ use Rattle.skiplist.specs.Lists.{masked}
 use Rattle.skiplist.proofs.Count.{pieces, pieces-cut}
 use Rattle.levels.specs.declared.Spot.{Spot}
 use Rattle.levels.specs.Edit.{Pieces, Elsewhere-both, Room, Splits, Puts-below, Cancels-below}
-use Rattle.levels.specs.Pour.{Front, one, Taken, Takes, Writable, Put, Puts, Pourable, Poured, Pours}
+use Rattle.levels.specs.Pour.{at, Front, one, Taken, Takes, Writable, Put, Puts, Pourable, Poured, Pours}
 use Rattle.levels.proofs.Laws.CarryFronts.{front-none, front-part, front-more}
 use Rattle.levels.proofs.Laws.Takes.{one-some, one-none}
-use Rattle.levels.proofs.Laws.Flushes.{fines-drop, fines-append, not-none}
+use Rattle.levels.proofs.Laws.Flushes.{fines-drop, fines-append, fines-there, not-none}
 use Rattle.levels.proofs.Laws.Chunking.{pieces-none, pieces-skip, pieces-up-to, pieces-half, pieces-full, one-pieces, drop-past, take-past}
-use Rattle.levels.proofs.Laws.Pouring.{at, cleared-same, cleared-other, with-same, with-other}
+use Rattle.levels.proofs.Laws.Pouring.{cleared-same, cleared-other, with-same, with-other}
 use Rattle.levels.proofs.Laws.Replacing.{pieces-at, pieces-from, pieces-join, chunk-low, rest-chunks, pieces-three, kept-long, from-number, chunk-long, kept-most, kept-before, kept-behind}
-use Rattle.levels.proofs.Laws.Levels.{fine-masked, fines-there, split-sum, split-less, number-half, carry-split}
+use Rattle.levels.proofs.Laws.Levels.{fine-masked, split-sum, split-less, number-half, carry-split}
 
 -- the last chunk of a list: number i, of the r nodes past i whole chunks
 module _ (b i r : ℕ) (ps : List Order) (e : i * b + r ≡ length ps) (h : r < b) where
@@ -260,7 +260,7 @@ module _ (s : Sizes) (k f : ℕ) (x : Spot) (o : Order) (bs : List ℕ) (two : 2
         omega (arith, u .count, one-some (F k f i) (not-none (F k f i) (omega (arith, u .size))), count-most s F m hd bs t),
       ) in
       let pt′ = pt (cleared (at k f i) F) (u .full) hd (F k f i) (u .table) (u .front) (omega (arith, u .size)) fx (cleared-same (at k f i) F k f i refl refl refl) can in
-      let fr = carry-split ch ca₀ ca₁ ca₂ [] (F k f i) (masked k o) n r (u .front) (u .size) h (omega arith) long e₁ e₂ in
+      let fr = carry-split ch ca₀ ca₁ ca₂ [] (F k f i) (masked k o) n r 768 (u .front) (u .size) h (omega arith) long (omega arith) e₁ e₂ in
       let fine : Fines (masked k o ∷ drop r (F k f i)) = (fine-masked k o (rm .fine), fines-drop r (F k f i) fx) in
       let cl : n - r + 1 ≡ length (masked k o ∷ drop r (F k f i)) = omega (arith, length-drop r (F k f i), u .size) in
       split-made s F m hd bs k f (o .key) i r ps qs (masked k o) t two (rm .level) (rm .fine .key) ne p p′ (rm .few) e less fine room bs₁ ch n u bs₂ pt′ bs₃

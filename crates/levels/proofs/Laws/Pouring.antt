@@ -19,7 +19,7 @@ use Rattle.placement.specs.declared.Label.{Label}
 use Rattle.placement.proofs.Laws.Maps.{Label-is, is, isnt, label-is}
 use Rattle.skiplist.proofs.Count.{pieces}
 use Rattle.levels.specs.Edit.{Pieces}
-use Rattle.levels.specs.Pour.{Front, one, Taken, Takes, Writable, Flushed, waits, writes, Flushes, Pourable, Poured, Pours, Kept}
+use Rattle.levels.specs.Pour.{at, Front, one, Taken, Takes, Writable, Flushed, waits, writes, Flushes, Pourable, Poured, Pours, Kept}
 use Rattle.levels.proofs.Laws.CarryFronts.{front-all}
 use Rattle.levels.proofs.Laws.Takes.{one-some, one-none}
 use Rattle.levels.proofs.Laws.Flushes.{fines-append, fines-drop, not-none, insert-nodes}
@@ -58,9 +58,6 @@ module _ (w : Label) (F : Map) (l f i : ℕ) where
       go : Label-is (labelled w ns) l f i → with-nodes w ns F l f i ≡ F l f i
       go (is z p q r) = absurd (h p q r)
       go (isnt z n) = rw z
-
-abbrev pub at : (k f i : ℕ) → Label
-at k f i = record { level = k; first = f; number = i }
 
 -- t chunks are taken, and `done` are written, up to number v; `carry` is in between
 pub record Pouring (s : Sizes) (F : Map) (m : ℕ) (hd : List ℕ) (k f j g q : ℕ) (c rest : List Order) (t v left : ℕ) (bs cs : List ℕ) : Type 0 where

@@ -1,4 +1,4 @@
--- What a chunk taken, changed and poured again does to a partition. Assumes nothing.
+-- The chunks of a partition before and from a key on, and what it does to a partition that chunks from one on are shifted. Assumes nothing.
 use mathlib.Core.Path.{_≡_, refl, sym, ap, _∙_, subst}
 use mathlib.Core.Logic.{_≢_}
 use mathlib.Core.List.{List, [], _∷_, _++_, append-assoc, append-nil}
@@ -15,9 +15,9 @@ use Rattle.placement.specs.declared.Order.{Order}
 use Rattle.placement.specs.declared.Label.{Label}
 use Rattle.skiplist.proofs.Count.{pieces}
 use Rattle.levels.specs.Edit.{Pieces, Elsewhere, Comes-in}
-use Rattle.levels.specs.Pour.{Front, one, Taken, Pourable, Poured, Pours}
+use Rattle.levels.specs.Pour.{one}
+use Rattle.levels.specs.Shift.{Shiftable, Shifted}
 use Rattle.levels.proofs.Laws.Chunking.{pieces-none, pieces-skip, pieces-pass, pieces-pos, pieces-up-to, pieces-half, pieces-first, one-pieces, drop-next, drop-add, drop-past, take-past}
-use Rattle.levels.proofs.Laws.Pouring.{at, cleared-same, cleared-other, with-same, with-other}
 
 -- PIECES of a list
 module _ (F : Map) (b k f : ℕ) where
@@ -113,54 +113,36 @@ module _ (b i r : ℕ) (ps : List Order) (y : Order) (qs : List Order) (e : i * 
       ∙ ap (drop (suc r)) (whole b i r ps (y ∷ qs) e h ∙ sym (append-snoc (drop (i * b) ps) y qs))
       ∙ drop-at (drop (i * b) ps ++ y ∷ []) qs (suc r) (length-append (drop (i * b) ps) (y ∷ []) ∙ rw (kept-long b i r ps (y ∷ qs) e h) (omega arith))
 
--- A CHUNK OF A PARTITION TAKEN, CHANGED AND POURED AGAIN: the nodes behind ps were x and are y
+-- A PARTITION SHIFTED FROM CHUNK i ON: the nodes behind ps were x and are y
 module _ (s : Sizes) (F : Map) (n : ℕ) (hd bs : List ℕ) (k f i : ℕ) (ps x y c : List Order) (t : Table s F n hd bs) (two : 2 ≤ s .nodes) (pos : 0 < k) (first : f < 4294967296)
-    (p : Pieces F (s .nodes) k f 0 (ps ++ x)) (low : i * s .nodes ≤ length ps) (few : length (ps ++ y) ≤ 65537) (fine : Fines c) (short : length c < 2 * s .nodes)
+    (p : Pieces F (s .nodes) k f 0 (ps ++ x)) (low : i * s .nodes ≤ length ps) (few : length (ps ++ y) ≤ 65537) (fine : Fines c) (short : length c ≤ s .nodes + 1)
     (is : c ++ drop (suc i * s .nodes) (ps ++ x) ≡ drop (i * s .nodes) (ps ++ y))
-    (room : n + pieces (s .nodes) (length (ps ++ y)) ≤ s .blocks + pieces (s .nodes) (length (ps ++ x)))
-    (bs₁ cs₁ : List ℕ) (r : ℕ) (tk : Taken s F n hd (at k f i) [] bs₁ cs₁ r) where
+    (room : n + pieces (s .nodes) (length (ps ++ y)) ≤ s .blocks + pieces (s .nodes) (length (ps ++ x))) where
   some : 0 < s .nodes
   some = omega arith
 
-  low-x : i * s .nodes ≤ length (ps ++ x)
-  low-x = omega (arith, length-append ps x)
+  new-pieces : pieces (s .nodes) (length (ps ++ y)) ≡ i + pieces (s .nodes) (length (drop (i * s .nodes) (ps ++ y)))
+  new-pieces = pieces-skip (s .nodes) (length (ps ++ y)) i some (omega (arith, length-append ps y)) ∙ rw (length-drop (i * s .nodes) (ps ++ y)) refl
 
-  low-y : i * s .nodes ≤ length (ps ++ y)
-  low-y = omega (arith, length-append ps y)
+  old-pieces : pieces (s .nodes) (length (ps ++ x)) ≡ i + pieces (s .nodes) (length (drop (i * s .nodes) (ps ++ x)))
+  old-pieces = pieces-skip (s .nodes) (length (ps ++ x)) i some (omega (arith, length-append ps x)) ∙ rw (length-drop (i * s .nodes) (ps ++ x)) refl
 
-  taken-one : one (F k f i) ≡ one (take (s .nodes) (drop (i * s .nodes) (ps ++ x)))
-  taken-one = ap one (pieces-at F (s .nodes) k f (ps ++ x) i p)
-
-  long-y : length (c ++ drop (suc i * s .nodes) (ps ++ x)) ≡ length (ps ++ y) - i * s .nodes
-  long-y = ap length is ∙ length-drop (i * s .nodes) (ps ++ y)
-
-  new-pieces : pieces (s .nodes) (length (ps ++ y)) ≡ i + pieces (s .nodes) (length (c ++ drop (suc i * s .nodes) (ps ++ x)))
-  new-pieces = pieces-skip (s .nodes) (length (ps ++ y)) i some low-y ∙ rw (← long-y) refl
-
-  old-pieces : pieces (s .nodes) (length (ps ++ x)) ≡ i + one (F k f i) + pieces (s .nodes) (length (drop (suc i * s .nodes) (ps ++ x)))
-  old-pieces = pieces-three (s .nodes) i (ps ++ x) some low-x ∙ rw (← taken-one) refl
-
-  still : (l h j : ℕ) → (l ≡ k → h ≡ f → j ≡ i → ⊥) → cleared (at k f i) F l h j ≡ F l h j
-  still l h j e = cleared-other (at k f i) F l h j (λ a b d. e (sym a) (sym b) (sym d))
-
-  pub change-pourable : (count : ℕ) → count ≡ pieces (s .nodes) (length (ps ++ x)) - (i + 1)
-      → Pourable s (cleared (at k f i) F) (tk .full) k f (i + 1) count f i c (drop (suc i * s .nodes) (ps ++ x))
-  unfolding Pieces
-  change-pourable count ec = record {
+  pub change-shiftable : (count : ℕ) → count ≡ pieces (s .nodes) (length (ps ++ x)) - (i + 1)
+      → Shiftable s F n k f i count c (drop (i * s .nodes) (ps ++ x)) (drop (i * s .nodes) (ps ++ y))
+  change-shiftable count ec = record {
     level = pos;
     first = first;
     fine = fine;
-    few = omega (arith, new-pieces, pieces-half (s .nodes) (length (ps ++ y)) two);
-    some = some;
     short = short;
-    chunks = ec ∙ rest-chunks (s .nodes) i (ps ++ x) some low-x;
-    source = λ m. still k f (i + 1 + m) (λ a b d. omega arith) ∙ ap (λ (z : ℕ). F k f (z + m)) (add-one i) ∙ pieces-from F (s .nodes) k f (ps ++ x) (suc i) p m;
-    target = λ j a e. cleared-same (at k f i) F k f j refl refl (omega (arith, e refl));
-    behind = λ e. omega arith;
-    room = omega (arith, new-pieces, old-pieces, tk .count, room);
+    two = two;
+    few = omega (arith, new-pieces, pieces-half (s .nodes) (length (ps ++ y)) two);
+    chunks = ec ∙ rest-chunks (s .nodes) i (ps ++ x) some (omega (arith, length-append ps x)) ∙ rw (← drop-next (s .nodes) i (ps ++ x)) refl;
+    source = pieces-from F (s .nodes) k f (ps ++ x) i p;
+    is = rw (drop-next (s .nodes) i (ps ++ x)) is;
+    room = omega (arith, new-pieces, old-pieces, room);
   }
 
-  pub change-in : (bs₂ : List ℕ) → Poured s (cleared (at k f i) F) (tk .full) hd k f (i + 1) f i c (drop (suc i * s .nodes) (ps ++ x)) bs₂ → Comes-in s F n hd bs₂ k f (ps ++ x) (ps ++ y)
+  pub change-in : (bs₂ : List ℕ) → Shifted s F n hd k f i (drop (i * s .nodes) (ps ++ x)) (drop (i * s .nodes) (ps ++ y)) bs₂ → Comes-in s F n hd bs₂ k f (ps ++ x) (ps ++ y)
   unfolding Elsewhere
   change-in bs₂ q = record {
     map = q .map;
@@ -168,8 +150,8 @@ module _ (s : Sizes) (F : Map) (n : ℕ) (hd bs : List ℕ) (k f i : ℕ) (ps x 
     table = q .table;
     there =
         pieces-join (q .map) (s .nodes) k f (ps ++ y) i
-        (λ m h. q .elsewhere k f m (λ a b d. omega arith) (λ a b d. omega arith) ∙ still k f m (λ a b d. omega arith) ∙ pieces-at F (s .nodes) k f (ps ++ x) m p ∙ chunk-low (s .nodes) m i ps x h low ∙ sym (chunk-low (s .nodes) m i ps y h low))
-        (subst (Pieces (q .map) (s .nodes) k f i) is (q .there));
-    elsewhere = λ l h j e. q .elsewhere l h j (λ a b d. e a b) (λ a b d. e a b) ∙ still l h j (λ a b d. e a b);
-    count = omega (arith, q .count, new-pieces, old-pieces, tk .count);
+        (λ m h. q .elsewhere k f m (λ a b d. omega arith) ∙ pieces-at F (s .nodes) k f (ps ++ x) m p ∙ chunk-low (s .nodes) m i ps x h low ∙ sym (chunk-low (s .nodes) m i ps y h low))
+        (q .there);
+    elsewhere = λ l h j e. q .elsewhere l h j (λ a b d. e a b);
+    count = omega (arith, q .count, new-pieces, old-pieces);
   }

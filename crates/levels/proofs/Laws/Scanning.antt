@@ -293,3 +293,23 @@ module _ (s : Sizes) (bs : List ℕ) (k f y i : ℕ) (z : Spot) (p : Scanning s 
         where
           next : i * s .nodes + s .nodes ≡ (i + 1) * s .nodes
           next = rw add-one (sym (suc-mul i (s .nodes)))
+
+-- a chunk that is not full is the last
+module _ (s : Sizes) (bs : List ℕ) (k f y i : ℕ) (z : Spot) (p : Scanning s bs k f y i z) (r : Found) (er : r ≡ search-in s bs (record { level = k; first = f; number = i }))
+    (b : ℕ) (eb : r ≡ At b) (n : ℕ) (en : n ≡ getD bs (53 + b * block-long s + 1) 0) where
+  pub scanning-stop : (w : Spot) → Scanning s bs k f y (i + 1) w → n < s .nodes → Scans s bs k f y w
+  unfolding Scans
+  scanning-stop w q h F m hd ps qs t pos c low high =
+      all-came s bs k f y (i + 1) w q ps qs short low high (q .so-far F m hd (ps ++ qs) t pos c)
+    where
+      next : (i + 1) * s .nodes ≡ i * s .nodes + s .nodes
+      next = rw add-one (suc-mul i (s .nodes))
+
+      short : length (ps ++ qs) ≤ (i + 1) * s .nodes
+      short =
+          omega (
+            arith,
+            h,
+            next,
+            simp (length-take, length-drop) at (counted s bs k f y i z p r er b eb n en F m hd t pos ∙ ap length (piece s k f pos F m hd bs (ps ++ qs) t c i)),
+          )

@@ -22,7 +22,7 @@ use Rattle.placement.specs.declared.Found.the-variants.{At, Nothing}
 use Rattle.placement.proofs.Laws.Maps.{Label-is, is, isnt, label-is}
 use Rattle.placement.proofs.Laws.Tables.{find-told, pull-keeps, count-some}
 use Rattle.placement.proofs.Laws.Reading.{count-read}
-use Rattle.levels.specs.Pour.{Front, one, Taken, Takes}
+use Rattle.levels.specs.Pour.{Front, one, Read, Reads, Taken, Takes}
 use Rattle.levels.proofs.Laws.CarryFronts.{front-more, nodes-long}
 
 -- a label that is not there is cleared already
@@ -62,6 +62,14 @@ nodes-read s bs i w ns e h =
     behind (suc w) (x ∷ l) (suc a) n h = behind w l a n (omega arith)
 
 module _ (s : Sizes) (w : Label) (n : ℕ) (bs cs : List ℕ) (r : Found) (er : r ≡ search-in s bs w) where
+  pub read-none : r ≡ Nothing → Reads s w n bs cs cs n
+  unfolding Reads
+  read-none e F m hd c t pos f en = go (search-in s bs w) (sym er ∙ e) (find-told s F m hd bs t w pos)
+    where
+      go : (x : Found) → x ≡ Nothing → Finds s F w bs x → Read F w c cs n
+      go (At i) z f = absurd (true≢false cc)
+      go Nothing z (is-none g) = record { front = rw (g, append-nil) f; size = rw (g, append-nil) en }
+
   pub take-none : r ≡ Nothing → Takes s w n bs bs cs cs n
   unfolding Takes
   take-none e F m hd c t pos f en = go (search-in s bs w) (sym er ∙ e) (find-told s F m hd bs t w pos)
@@ -78,6 +86,35 @@ module _ (s : Sizes) (w : Label) (n : ℕ) (bs cs : List ℕ) (r : Found) (er : 
           }
 
   module _ (i : ℕ) (e : r ≡ At i) (more : ℕ) (em : more ≡ getD bs (53 + i * block-long s + 1) 0) where
+    pub read-over : s .nodes < more → Reads s w n bs cs cs n
+    unfolding Reads
+    read-over h F m hd c t pos f en = go (search-in s bs w) (sym er ∙ e) (find-told s F m hd bs t w pos)
+      where
+        go : (x : Found) → x ≡ At i → Finds s F w bs x → Read F w c cs n
+        go (At j) z (is-at p q g) =
+            let v = t .sound (w .level) (w .first) (w .number) q in
+            let ij : i ≡ j = cc in
+            absurd (omega (arith, v .nodes, rw (← ij) at (count-read s bs j w (nodes-of F w) g (v .nodes) (v .fine))))
+        go Nothing z g = absurd (true≢false cc)
+
+    pub read-some : (at k : ℕ) (cs′ : List ℕ) → at ≡ 53 + i * block-long s → k ≡ 12 * n → more ≤ s .nodes → 12 * (n + s .nodes) ≤ length cs
+        → cs′ ≡ sets cs k (take (12 * more) (drop (at + 8) bs)) → Reads s w n bs cs cs′ (n + more)
+    unfolding Reads
+    read-some at k cs′ ea ek few room ec F m hd c t pos f en = go (search-in s bs w) (sym er ∙ e) (find-told s F m hd bs t w pos)
+      where
+        go : (x : Found) → x ≡ At i → Finds s F w bs x → Read F w c cs′ (n + more)
+        go (At j) z (is-at p q g) =
+            let v = t .sound (w .level) (w .first) (w .number) q in
+            let ij : i ≡ j = cc in
+            let g′ : block-in (block-long s) bs i ≡ block-bytes s (holds (labelled w (nodes-of F w))) = rw ij g in
+            let lm : more ≡ length (nodes-of F w) = em ∙ count-read s bs i w (nodes-of F w) g′ (v .nodes) (v .fine) in
+            let vs = nodes-read s bs i w (nodes-of F w) g′ (v .nodes) in
+            record {
+              front = front-more cs cs′ c (nodes-of F w) k (take (12 * more) (drop (at + 8) bs)) f (omega arith) (rw (lm, ea) vs) ec (omega arith);
+              size = omega (arith, length-append c (nodes-of F w));
+            }
+        go Nothing z g = absurd (true≢false cc)
+
     pub take-over : s .nodes < more → Takes s w n bs bs cs cs n
     unfolding Takes
     take-over h F m hd c t pos f en = go (search-in s bs w) (sym er ∙ e) (find-told s F m hd bs t w pos)

@@ -14,11 +14,12 @@ use Rattle.placement.specs.Chunks.{Chunk, home, label-before, block-byte
 use Rattle.placement.specs.Header.{block-long}
 use Rattle.placement.specs.Parts.{block-in, put-block}
 use Rattle.placement.specs.Place.{label-in, probe, search-in, distance-of, bytes, pull, settle, free-in, head-bytes, block-with, inserted, home-of}
-use Rattle.placement.specs.Maps.{Map, at, Keeps, Holdable, labelled, nodes-of}
+use Rattle.placement.specs.Maps.{Map, Keeps, Holdable, labelled, nodes-of, chunk-kind}
 use Rattle.placement.specs.declared.Label.{Label}
 use Rattle.placement.specs.declared.Found.{Found}
 use Rattle.placement.specs.declared.Found.the-variants.{At, Nothing}
-use Rattle.placement.proofs.Laws.Maps.{absent-other}
+use Rattle.placement.proofs.Laws.Kinds.{absent-other}
+use Rattle.placement.proofs.Laws.Maps.{lawful}
 use Rattle.placement.proofs.Laws.Round.{steps-to}
 use Rattle.placement.proofs.Laws.Placed.{gap}
 use Rattle.placement.proofs.Laws.Removal.{removed-at}
@@ -128,7 +129,7 @@ module _ (s : Sizes) (some : 0 < s .blocks) (hd : List ℕ) (eh : length hd ≡ 
       carry = record {
         long = long;
         rule-3 = k .rule-3;
-        other = absent-other s some bl F (labelled w ns) (k .map) gone;
+        other = absent-other chunk-kind (home s) label-before (s .blocks) (lawful s some) bl (nodes-of F) (labelled w ns) (k .map) gone;
         steps = 0;
         there = ap (λ (x : ℕ). x % s .blocks) (add-zero start);
         smaller = λ l h. absurd (omega arith);

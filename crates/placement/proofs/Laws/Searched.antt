@@ -129,7 +129,7 @@ module _ (s : Sizes) (good : made s ≡ true) (hd : List ℕ) (head : length hd 
         good = good;
         head = head;
         sizes = sizes;
-        sound = λ l f i n. stands-holdable (chunk (nodes-at bl) l f i) (map .all l f i n);
+        sound = λ l f i n. stands-holdable (chunk (nodes-at bl) l f i) (map .all (record { level = l; first = f; number = i }) n);
         blocks = bl;
         is = refl;
         keeps = record { long = long; rule-3 = rule; map = map; count = refl };
