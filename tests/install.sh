@@ -8,7 +8,7 @@ rm -rf "$prefix"
 mkdir -p "$prefix/lib" "$prefix/share/man/man3"
 echo "not ours" | tee "$prefix/lib/other.a" "$prefix/share/man/man3/other.3" >/dev/null
 
-make --no-print-directory --silent install PREFIX="$prefix"
+make --no-print-directory install PREFIX="$prefix" >build/install.log 2>&1 || { cat build/install.log; exit 1; }
 installed=$(find "$prefix" -type f ! -name 'other.*' | wc -l)
 
 cc=${CC:-cc}

@@ -1,7 +1,7 @@
 #!/usr/bin/env bash
 # run.sh SECONDS   builds the fuzz target, sees that it stops at each planted fault, and runs it for so long.
 # What it found before stays in build/corpus and is where it goes on. An input that breaks something is kept as build/fuzz-crash-..; given to
-# build/fuzz as its only argument, it does so again.
+# build/fuzz as its only argument, it does so again. TELL=1 says of each planted fault how it was found.
 set -euo pipefail
 cd "$(dirname "$0")/../.."
 archive=target/staticlib/libballuchaw.a

@@ -3,7 +3,7 @@
 //!     differential            the comparison
 //!     differential faults     plants faults in the archive's answers, one after the other; each must be found
 //!
-//! SEED in the environment chooses other calls; TESTS=long does a hundred times as much.
+//! SEED in the environment chooses other calls; TESTS=long does a hundred times as much; TELL=1 says of each fault how it was found.
 
 mod archive;
 mod faults;
