@@ -12,6 +12,7 @@ use placement::Sizes;
 use placement::hash::highest;
 use placement::header::Header;
 use placement::header::rule_one;
+use placement::numbers::over;
 
 // Do the bytes pass rule 1, the pass over the blocks and the walk?
 fn passes(table: &[u8]) -> bool
@@ -33,7 +34,17 @@ fn passes(table: &[u8]) -> bool
         orders: h.held + 1,
         chunks: t.full,
     };
-    finished(walk_partition(table, s, top, top, power(s, top), 0, x))
+    finished(walk_partition(
+        table,
+        s,
+        over(s.gamma),
+        over(s.blocks),
+        top,
+        top,
+        power(s, top),
+        0,
+        x,
+    ))
 }
 
 // Check: question 4.
