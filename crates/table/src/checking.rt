@@ -13,6 +13,7 @@ use placement::Sizes;
 use placement::hash::highest;
 use placement::header::Header;
 use placement::header::rule_one;
+use placement::numbers::over;
 
 // Do the bytes pass rule 1, the pass over the blocks and the walk? Where they do, how many blocks are full.
 fn passes(table: &[u8]) -> Tally
@@ -37,7 +38,17 @@ fn passes(table: &[u8]) -> Tally
         orders: h.held + 1,
         chunks: t.full,
     };
-    let clean = finished(walk_partition(table, s, top, top, power(s, top), 0, x));
+    let clean = finished(walk_partition(
+        table,
+        s,
+        over(s.gamma),
+        over(s.blocks),
+        top,
+        top,
+        power(s, top),
+        0,
+        x,
+    ));
     Tally {
         clean: clean,
         full: t.full,

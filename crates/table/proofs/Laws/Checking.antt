@@ -2,7 +2,7 @@
 use mathlib.Core.Path.{_≡_, refl, ap, sym, _∙_, subst}
 use mathlib.Core.Bool.{Bool, true, false, and-false, true≢false}
 use mathlib.Core.List.{List}
-use Prim.Native.Nat.{ℕ, _+_, _≤_}
+use Prim.Native.Nat.{ℕ, _+_, _<_, _≤_}
 use native.Mathlib.Omega.{arith}
 use mir.Val.{Fits}
 use mir.Syntax.{w32}
@@ -50,6 +50,12 @@ module _ (bs : List ℕ) (t : Bool) (et : t ≡ rule-1 bs) where
 
       pub ruled-base : 2 ≤ s .gamma
       ruled-base = ruled-walkable .base
+
+      pub ruled-gamma : 0 < s .gamma
+      ruled-gamma = omega (arith, ruled-walkable .base)
+
+      pub ruled-blocks : 0 < s .blocks
+      ruled-blocks = ruled-walkable .shaped .some
 
       pub ruled-base-most : s .gamma ≤ 64
       ruled-base-most = ruled-walkable .base-most
