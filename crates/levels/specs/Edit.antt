@@ -38,7 +38,6 @@ Scans s bs k f y r =
 -- what an edit needs of a partition and a key at level k: numbers that bytes can hold, and a place in it
 pub record Room (s : Sizes) (k f : ℕ) (ps qs : List Order) (x : Spot) (o : Order) : Type 0 where
   pub level : 0 < k
-  pub top : k ≤ beta s
   pub first : f < 4294967296
   pub fine : Fine o
   pub few : length (ps ++ qs) ≤ 65536
@@ -86,7 +85,7 @@ Puts-below s k f x o bs bs′ =
 -- CANCEL, below the key's level: the partition y ∷ qs that the key starts joins ps
 unfoldable pub Cancels-below : Sizes → (k f g : ℕ) → (below size : ℕ) → (bs bs′ : List ℕ) → Type 0
 Cancels-below s k f g m w bs bs′ =
-    (F : Map) (n : ℕ) (hd : List ℕ) (ps : List Order) (y : Order) (qs : List Order) → Table s F n hd bs → 0 < k → k ≤ beta s → f < 4294967296 → (f ≡ g → ⊥) →
+    (F : Map) (n : ℕ) (hd : List ℕ) (ps : List Order) (y : Order) (qs : List Order) → Table s F n hd bs → 0 < k → f < 4294967296 → (f ≡ g → ⊥) →
     length (ps ++ y ∷ qs) ≤ 65536 → m ≡ length ps → w ≡ suc (length qs) → 0 < length ps →
     Pieces F (s .nodes) k f 0 ps → Pieces F (s .nodes) k g 0 (y ∷ qs) →
     Splits s F n hd bs′ k f g (ps ++ qs) [] (pieces (s .nodes) (length ps) + pieces (s .nodes) (suc (length qs)))

@@ -68,8 +68,7 @@ Flushes s w n bs bs′ cs cs′ r =
     (F : Map) (m : ℕ) (hd : List ℕ) (c : List Order) → Table s F m hd bs → Front cs c → n ≡ length c → Fines c
     → (s .nodes ≤ length c → Writable w × (nodes-of F w ≡ []) × (m < s .blocks)) → Flushed s F m hd w c bs′ cs′ r
 
--- what a pouring needs: chunks j.. of partition f hold `rest`; from chunk q on partition g has no nodes, or none before chunk j if it is f itself;
--- and there are blocks enough
+-- what a pouring needs: chunks j.. of partition f hold `rest`, from chunk q on partition g, another, has no nodes, and there are blocks enough
 pub record Pourable (s : Sizes) (F : Map) (m : ℕ) (k f j count g q : ℕ) (c rest : List Order) : Type 0 where
   pub level : 0 < k
   pub first : g < 4294967296
@@ -78,9 +77,9 @@ pub record Pourable (s : Sizes) (F : Map) (m : ℕ) (k f j count g q : ℕ) (c r
   pub some : 0 < s .nodes
   pub short : length c < 2 * s .nodes
   pub chunks : count ≡ pieces (s .nodes) (length rest)
+  pub apart : f ≡ g → ⊥
   pub source : Pieces F (s .nodes) k f j rest
-  pub target : (i : ℕ) → q ≤ i → (f ≡ g → i < j) → F k g i ≡ []
-  pub behind : f ≡ g → q < j
+  pub target : (i : ℕ) → q ≤ i → F k g i ≡ []
   pub room : m + pieces (s .nodes) (length (c ++ rest)) ≤ s .blocks + pieces (s .nodes) (length rest)
 
 pub record Poured (s : Sizes) (F : Map) (m : ℕ) (hd : List ℕ) (k f j g q : ℕ) (c rest : List Order) (bs : List ℕ) : Type 0 where
@@ -88,7 +87,7 @@ pub record Poured (s : Sizes) (F : Map) (m : ℕ) (hd : List ℕ) (k f j g q : �
   pub full : ℕ
   pub table : Table s map full hd bs
   pub there : Pieces map (s .nodes) k g q (c ++ rest)
-  pub gone : (f ≡ g → ⊥) → Pieces map (s .nodes) k f j []
+  pub gone : Pieces map (s .nodes) k f j []
   pub elsewhere : (l h i : ℕ) → (l ≡ k → h ≡ g → q ≤ i → ⊥) → (l ≡ k → h ≡ f → j ≤ i → ⊥) → map l h i ≡ F l h i
   pub count : full + pieces (s .nodes) (length rest) ≡ m + pieces (s .nodes) (length (c ++ rest))
 

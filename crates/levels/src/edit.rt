@@ -12,7 +12,7 @@ use crate::pour::pour;
 use crate::pour::read;
 use crate::pour::take;
 use crate::shift::shift;
-use crate::shift::write_some;
+use crate::shift::store;
 use crate::spots::later;
 use placement::Label;
 use placement::Order;
@@ -72,31 +72,11 @@ pub fn put_below(table: &mut [u8], s: Sizes, level: u32, first: u32, x: Spot, o:
     let number = x.below / s.nodes;
     let kept = x.below % s.nodes;
     let count = later(s.nodes, x.size, number);
-    let n = take(
-        table,
-        s,
-        Label {
-            level: level,
-            first: first,
-            number: number,
-        },
-        &mut chunk,
-        0,
-    );
+    let n = read(table, s, level, first, number, &mut chunk, 0);
     if n < kept {
         return;
     }
-    write_some(
-        table,
-        s,
-        Label {
-            level: level,
-            first: first,
-            number: number,
-        },
-        kept,
-        &chunk,
-    );
+    store(table, s, level, first, number, kept, &chunk);
     write_node(&mut carry, 0, level, o);
     bring(
         &mut carry,
@@ -144,45 +124,17 @@ pub fn cancel_in(table: &mut [u8], s: Sizes, level: u32, first: u32, x: Spot)
     shift(table, s, level, first, number, count, &mut carry, n - 1);
 }
 
-// The partition that the key starts joins the one before it, of x.below nodes; it has `size` nodes itself.
-pub fn cancel_below(
-    table: &mut [u8],
-    s: Sizes,
-    level: u32,
-    first: u32,
-    x: Spot,
-    key: u32,
-    size: u32,
-)
+// The partition that the key y starts joins the one before it, of x.below nodes; it has `size` nodes itself.
+pub fn cancel_below(table: &mut [u8], s: Sizes, level: u32, first: u32, x: Spot, y: u32, size: u32)
     requires { ⌜ Shaped s (now table) × (2 ≤ s .nodes) × (level < 256) ⌝ }
-    ensures { λ r. ⌜ Cancels-below s level first key (x .below) size (now (table .entry)) (now (table .exit)) ⌝ }
+    ensures { λ r. ⌜ Cancels-below s level first y (x .below) size (now (table .entry)) (now (table .exit)) ⌝ }
 {
     let mut chunk = [0u8; 384];
     let mut carry = [0u8; 768];
     let number = x.below / s.nodes;
     let count = later(s.nodes, size, 0);
-    let kept = take(
-        table,
-        s,
-        Label {
-            level: level,
-            first: first,
-            number: number,
-        },
-        &mut carry,
-        0,
-    );
-    let n = take(
-        table,
-        s,
-        Label {
-            level: level,
-            first: key,
-            number: 0,
-        },
-        &mut chunk,
-        0,
-    );
+    let kept = take(table, s, level, first, number, &mut carry, 0);
+    let n = take(table, s, level, y, 0, &mut chunk, 0);
     if n == 0 {
         return;
     }
@@ -197,7 +149,7 @@ pub fn cancel_below(
         table,
         s,
         level,
-        key,
+        y,
         1,
         count,
         first,

@@ -1,15 +1,15 @@
-// Nodes on the move: chunks are taken out of a partition into a carry, and written again under labels that follow one another.
+// Nodes on the move to other labels: chunks are taken out of a partition into a carry, and written again as chunks of another.
 // Every chunk is taken out before one is put in, so a table that is exactly full afterwards is never overfull on the way.
 ghost use mathlib.Core.Path.{_≡_};
 ghost use Prim.Native.Nat.{ℕ, _+_, _*_, _≤_, _<_};
 ghost use lib.ListN.{length};
 ghost use Rattle.placement.specs.Place.{Shaped};
-ghost use Rattle.levels.specs.Pour.{at, Kept, Reads, Takes, Flushes, Pours};
+ghost use Rattle.levels.specs.Pour.{at, Kept, Reads, Takes, Flushes, Puts, Pours};
 use placement::Found;
 use placement::Label;
 use placement::Sizes;
 use placement::edits::insert;
-use placement::edits::pull_back;
+use placement::edits::remove;
 use placement::labels::offset;
 use placement::numbers::bring;
 use placement::numbers::copy;
@@ -49,34 +49,78 @@ pub fn read(
     n + more
 }
 
-// Takes the chunk with a label out of the table, its nodes behind n nodes of the carry; how many nodes the carry then has. Nothing changes
-// where there is no such chunk.
-pub fn take(table: &mut [u8], s: Sizes, label: Label, carry: &mut [u8], n: u32) -> u32
-    requires { ⌜ Shaped s (now table) × (12 * (n + s .nodes) ≤ length (now carry)) × (length (now carry) ≤ 768) ⌝ }
-    ensures { λ r. ⌜ Kept s (now (table .exit)) (now (carry .entry)) (now (carry .exit)) × (r ≤ n + s .nodes) × Takes s label n (now (table .entry)) (now (table .exit)) (now (carry .entry)) (now (carry .exit)) r ⌝ }
+// Takes a chunk out of the table, its nodes behind n nodes of the carry; how many nodes the carry then has. Nothing changes where there is no such chunk.
+pub fn take(
+    table: &mut [u8],
+    s: Sizes,
+    level: u32,
+    first: u32,
+    number: u32,
+    carry: &mut [u8],
+    n: u32,
+) -> u32
+    requires { ⌜ Shaped s (now table) × (12 * (n + s .nodes) ≤ length (now carry)) × (length (now carry) ≤ 1024) ⌝ }
+    ensures { λ r. ⌜ Kept s (now (table .exit)) (now (carry .entry)) (now (carry .exit)) × (r ≤ n + s .nodes) × Takes s (at level first number) n (now (table .entry)) (now (table .exit)) (now (carry .entry)) (now (carry .exit)) r ⌝ }
 {
-    let Found::At(i) = find(table, s, label) else {
-        return n;
-    };
-    let more = count_at(table, s, i);
-    if s.nodes < more {
-        return n;
+    let now = read(table, s, level, first, number, carry, n);
+    remove(
+        table,
+        s,
+        Label {
+            level: level,
+            first: first,
+            number: number,
+        },
+    );
+    now
+}
+
+// The first n nodes of a row, as a chunk that is not there yet, if there are any.
+pub fn write_some(
+    table: &mut [u8],
+    s: Sizes,
+    level: u32,
+    first: u32,
+    number: u32,
+    n: u32,
+    row: &[u8],
+)
+    requires { ⌜ Shaped s (now table) × (level < 256) × (n ≤ s .nodes) × (12 * n ≤ length (now row)) ⌝ }
+    ensures { λ r. ⌜ Shaped s (now (table .exit)) × Puts s (at level first number) n (now (table .entry)) (now (table .exit)) (now (row .entry)) ⌝ }
+{
+    if 0 < n {
+        insert(
+            table,
+            s,
+            Label {
+                level: level,
+                first: first,
+                number: number,
+            },
+            n,
+            row,
+            0,
+        );
     }
-    let at = offset(s, i) + 8;
-    bring(carry, 12 * (n as usize), table, at, 12 * (more as usize));
-    pull_back(table, s, i);
-    n + more
 }
 
 // Writes a chunk of the first B nodes of the carry, if there are so many, and moves the others to its front; how many are left.
-pub fn flush(table: &mut [u8], s: Sizes, label: Label, carry: &mut [u8], n: u32) -> u32
-    requires { ⌜ Shaped s (now table) × (label .level < 256) × (12 * n ≤ length (now carry)) ⌝ }
-    ensures { λ r. ⌜ Kept s (now (table .exit)) (now (carry .entry)) (now (carry .exit)) × (n < 2 * s .nodes → r < s .nodes) × Flushes s label n (now (table .entry)) (now (table .exit)) (now (carry .entry)) (now (carry .exit)) r ⌝ }
+fn flush(
+    table: &mut [u8],
+    s: Sizes,
+    level: u32,
+    first: u32,
+    number: u32,
+    carry: &mut [u8],
+    n: u32,
+) -> u32
+    requires { ⌜ Shaped s (now table) × (level < 256) × (12 * n ≤ length (now carry)) ⌝ }
+    ensures { λ r. ⌜ Kept s (now (table .exit)) (now (carry .entry)) (now (carry .exit)) × (n < 2 * s .nodes → r < s .nodes) × Flushes s (at level first number) n (now (table .entry)) (now (table .exit)) (now (carry .entry)) (now (carry .exit)) r ⌝ }
 {
     if n < s.nodes {
         return n;
     }
-    insert(table, s, label, s.nodes, carry, 0);
+    write_some(table, s, level, first, number, s.nodes, carry);
     let left = n - s.nodes;
     copy(carry, 12 * (s.nodes as usize), 0, 12 * (left as usize));
     left
@@ -99,56 +143,13 @@ pub fn pour(
     ensures { λ r. ⌜ Pours s level from j count to q n (now (table .entry)) (now (table .exit)) (now (carry .entry)) ⌝ }
 {
     let mut written = q + n / s.nodes;
-    let mut left = flush(
-        table,
-        s,
-        Label {
-            level: level,
-            first: to,
-            number: q,
-        },
-        carry,
-        n,
-    );
+    let mut left = flush(table, s, level, to, q, carry, n);
     let mut k: u32 = 0;
     while k < count {
-        let now = take(
-            table,
-            s,
-            Label {
-                level: level,
-                first: from,
-                number: j + k,
-            },
-            carry,
-            left,
-        );
-        left = flush(
-            table,
-            s,
-            Label {
-                level: level,
-                first: to,
-                number: written,
-            },
-            carry,
-            now,
-        );
+        let now = take(table, s, level, from, j + k, carry, left);
+        left = flush(table, s, level, to, written, carry, now);
         written = written + now / s.nodes;
         k += 1;
     }
-    if 0 < left {
-        insert(
-            table,
-            s,
-            Label {
-                level: level,
-                first: to,
-                number: written,
-            },
-            left,
-            carry,
-            0,
-        );
-    }
+    write_some(table, s, level, to, written, left, carry);
 }

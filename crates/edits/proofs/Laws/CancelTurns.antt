@@ -100,7 +100,7 @@ module _ (s : Sizes) (xs : List Order) (o : Order) (zs : List Order) (w : Settin
           let e = part-left s (suc j) xs o zs (all-up s xs o zs w) h in
           let v = seen x [] (e ∙ sym (append-nil ps)) tt sc in
           let n : length (map (masked (suc j)) ps ++ masked (suc j) o ∷ map (masked (suc j)) qs) ≤ 65536 = rw (length-more (suc j) ps o qs) (omega (arith, few)) in
-          let c = p (b .map) (b .full) (header s (length (xs ++ o ∷ zs))) (map (masked (suc j)) ps) (masked (suc j) o) (map (masked (suc j)) qs) (b .table) (omega arith) low
+          let c = p (b .map) (b .full) (header s (length (xs ++ o ∷ zs))) (map (masked (suc j)) ps) (masked (suc j) o) (map (masked (suc j)) qs) (b .table) (omega arith)
           (omega (arith, first-low s xs o zs w (suc j), order-fine s xs o zs w .key)) (λ z. omega (arith, first-low s xs o zs w (suc j))) n
           (v .below ∙ sym (length-map ps (masked (suc j)))) (own-size y h own ∙ ap suc (sym (length-map qs (masked (suc j)))))
           (rw (length-map ps (masked (suc j))) (head-part-long s (suc j) xs)) (there (first-key ps) ps e)

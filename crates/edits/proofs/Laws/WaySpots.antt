@@ -49,7 +49,6 @@ module _ (s : Sizes) (xs : List Order) (o : Order) (zs : List Order) (w : Settin
       Room s k f (map (masked k) ps) (map (masked k) qs) x y
   room f x ps qs y low lt fine few e = record {
     level = pos;
-    top = low;
     first = omega (arith, order-fine s xs o zs w .key);
     fine = fine;
     few = rw (length-both k ps qs) few;

@@ -62,20 +62,20 @@ module _ (s : Sizes) (w : Label) (n : ℕ) (bs cs : List ℕ) where
   unfolding Flushes
   flush-waits h F m hd c t f en fine can = waits (omega arith) en t f
 
-  pub flush-writes : (bs′ cs′ : List ℕ) (r : Found) (left : ℕ) → s .nodes ≤ n → 12 * n ≤ length cs
-      → r ≡ free-in (label-in (block-long s) bs) (s .blocks) (s .blocks) (home-of s w) → bs′ ≡ inserted s r w (s .nodes) (take (12 * s .nodes) (drop 0 cs)) bs
+  pub flush-writes : (bs′ cs′ : List ℕ) (left : ℕ) → s .nodes ≤ n → 12 * n ≤ length cs → Puts s w (s .nodes) bs bs′ cs
       → left ≡ n - s .nodes → cs′ ≡ sets cs 0 (take (12 * left) (drop (12 * s .nodes) cs)) → Flushes s w n bs bs′ cs cs′ left
-  unfolding Flushes
-  flush-writes bs′ cs′ r left h room er eb el ec F m hd c t f en fine can =
+  unfolding Flushes Puts
+  flush-writes bs′ cs′ left h room pt el ec F m hd c t f en fine can =
       let k : s .nodes ≤ length c = omega arith in
       let q = can k in
+      let u = pt F m hd c t f k fine (q .1) (λ z. (q .0, q .2)) in
       let p = some-nodes s (t .good) in
-      let lt : length (take (s .nodes) c) ≡ s .nodes = length-take-le (s .nodes) c k in
+      let one-more = one-some (take (s .nodes) c) (not-none (take (s .nodes) c) (omega (arith, length-take-le (s .nodes) c k))) in
       let ld : length (drop (s .nodes) c) ≡ left = length-drop (s .nodes) c ∙ omega arith in
       let part : take (12 * left) (drop (12 * s .nodes) cs) ≡ nodes-bytes (drop (s .nodes) c) =
       front-part cs c (s .nodes) left f (omega arith) ∙ ap (λ (z : List Order). nodes-bytes z) (take-all left (drop (s .nodes) c) (omega arith)) in
-      writes k (sym ld)
-      (insert-nodes s w F m hd bs t (take (s .nodes) c) (s .nodes) _ bs′ r (q .0) (fines-take (s .nodes) c fine) (q .1) (q .2) p (omega arith) (sym lt) (front-first cs c (s .nodes) f k) er eb)
+      let sum : u .full ≡ suc m = omega (arith, u .count) in
+      writes k (sym ld) (subst (λ (z : ℕ). Table s (with-nodes w (take (s .nodes) c) F) z hd bs′) sum (u .table))
       (front-more cs cs′ [] (drop (s .nodes) c) 0 _ (front-none cs) refl part ec (omega arith))
 
 -- some nodes of a row, or none

@@ -17,7 +17,8 @@ use Rattle.skiplist.specs.Lists.{masked}
 use Rattle.skiplist.proofs.Count.{pieces, pieces-cut}
 use Rattle.levels.specs.declared.Spot.{Spot}
 use Rattle.levels.specs.Edit.{Pieces, Elsewhere-both, Room, Splits, Puts-below, Cancels-below}
-use Rattle.levels.specs.Pour.{at, Front, one, Taken, Takes, Writable, Put, Puts, Pourable, Poured, Pours}
+use Rattle.levels.specs.Pour.{at, Front, one, Reads, Taken, Takes, Pourable, Poured, Pours}
+use Rattle.levels.specs.Shift.{Stored, Stores}
 use Rattle.levels.proofs.Laws.CarryFronts.{front-none, front-part, front-more}
 use Rattle.levels.proofs.Laws.Takes.{one-some, one-none}
 use Rattle.levels.proofs.Laws.Flushes.{fines-drop, fines-append, fines-there, not-none}
@@ -44,8 +45,7 @@ module _ (s : Sizes) (F : Map) (n : ℕ) (hd bs : List ℕ) (k f g i r : ℕ) (p
     (first : g < 4294967296) (ne : f ≡ g → ⊥) (p : Pieces F (s .nodes) k f 0 (ps ++ qs)) (p′ : Pieces F (s .nodes) k g 0 []) (few : length (ps ++ qs) ≤ 65536)
     (e : i * s .nodes + r ≡ length ps) (less : r < s .nodes) (fine : Fines (o ∷ drop r (F k f i)))
     (room : n + pieces (s .nodes) (length ps) + pieces (s .nodes) (suc (length qs)) ≤ s .blocks + pieces (s .nodes) (length (ps ++ qs)))
-    (bs₁ ch : List ℕ) (m : ℕ) (tk : Taken s F n hd (at k f i) [] bs₁ ch m)
-    (bs₂ : List ℕ) (pt : Put s (cleared (at k f i) F) (tk .full) hd (at k f i) (take r (F k f i)) bs₂) where
+    (bs₁ : List ℕ) (st : Stored s F n hd (at k f i) (take r (F k f i)) bs₁) where
   some : 0 < s .nodes
   some = omega arith
 
@@ -58,9 +58,8 @@ module _ (s : Sizes) (F : Map) (n : ℕ) (hd bs : List ℕ) (k f g i r : ℕ) (p
   is : (o ∷ drop r (F k f i)) ++ drop (suc i * s .nodes) (ps ++ qs) ≡ o ∷ qs
   is = ap (λ (z : List Order). o ∷ z) (ap (λ (z : List Order). drop r z ++ drop (suc i * s .nodes) (ps ++ qs)) ex ∙ kept-behind (s .nodes) i r ps qs e less)
 
-  still : (l h j : ℕ) → (l ≡ k → h ≡ f → j ≡ i → ⊥) → with-nodes (at k f i) (take r (F k f i)) (cleared (at k f i) F) l h j ≡ F l h j
-  still l h j z =
-      with-other (at k f i) (cleared (at k f i) F) l h j (take r (F k f i)) (λ a b d. z (sym a) (sym b) (sym d)) ∙ cleared-other (at k f i) F l h j (λ a b d. z (sym a) (sym b) (sym d))
+  still : (l h j : ℕ) → (l ≡ k → h ≡ f → j ≡ i → ⊥) → with-nodes (at k f i) (take r (F k f i)) F l h j ≡ F l h j
+  still l h j z = with-other (at k f i) F l h j (take r (F k f i)) (λ a b d. z (sym a) (sym b) (sym d))
 
   old-pieces : pieces (s .nodes) (length (ps ++ qs)) ≡ i + one (F k f i) + pieces (s .nodes) (length (drop (suc i * s .nodes) (ps ++ qs)))
   old-pieces = pieces-three (s .nodes) i (ps ++ qs) some (omega (arith, length-append ps qs)) ∙ rw (← ex) refl
@@ -72,7 +71,7 @@ module _ (s : Sizes) (F : Map) (n : ℕ) (hd bs : List ℕ) (k f g i r : ℕ) (p
   new-pieces = ap (λ (z : List Order). pieces (s .nodes) (length z)) is
 
   pub split-pourable : (count : ℕ) → count ≡ pieces (s .nodes) (length (ps ++ qs)) - (i + 1)
-      → Pourable s (with-nodes (at k f i) (take r (F k f i)) (cleared (at k f i) F)) (pt .full) k f (i + 1) count g 0 (o ∷ drop r (F k f i)) (drop (suc i * s .nodes) (ps ++ qs))
+      → Pourable s (with-nodes (at k f i) (take r (F k f i)) F) (st .full) k f (i + 1) count g 0 (o ∷ drop r (F k f i)) (drop (suc i * s .nodes) (ps ++ qs))
   unfolding Pieces
   split-pourable count ec = record {
     level = pos;
@@ -83,34 +82,34 @@ module _ (s : Sizes) (F : Map) (n : ℕ) (hd bs : List ℕ) (k f g i r : ℕ) (p
     short = omega (arith, length-drop r (F k f i), ap length ex, chunk-long (s .nodes) i r ps qs e less);
     chunks = ec ∙ rest-chunks (s .nodes) i (ps ++ qs) some (omega (arith, length-append ps qs));
     source = λ m. still k f (i + 1 + m) (λ a b d. omega arith) ∙ ap (λ (z : ℕ). F k f (z + m)) (add-one i) ∙ pieces-from F (s .nodes) k f (ps ++ qs) (suc i) p m;
-    target = λ j a z. still k g j (λ a b d. ne (sym b)) ∙ pieces-at F (s .nodes) k g [] j p′ ∙ rw (drop-nil, take-nil);
-    behind = λ z. absurd (ne z);
-    room = omega (arith, new-pieces, old-pieces, kept-pieces, tk .count, pt .count, room);
+    apart = ne;
+    target = λ j a. still k g j (λ a b d. ne (sym b)) ∙ pieces-at F (s .nodes) k g [] j p′ ∙ rw (drop-nil, take-nil);
+    room = omega (arith, new-pieces, old-pieces, kept-pieces, st .count, room);
   }
 
-  pub split-made : (bs₃ : List ℕ)
-      → Poured s (with-nodes (at k f i) (take r (F k f i)) (cleared (at k f i) F)) (pt .full) hd k f (i + 1) g 0 (o ∷ drop r (F k f i)) (drop (suc i * s .nodes) (ps ++ qs)) bs₃
-      → Splits s F n hd bs₃ k f g ps (o ∷ qs) (pieces (s .nodes) (length (ps ++ qs)))
+  pub split-made : (bs₂ : List ℕ)
+      → Poured s (with-nodes (at k f i) (take r (F k f i)) F) (st .full) hd k f (i + 1) g 0 (o ∷ drop r (F k f i)) (drop (suc i * s .nodes) (ps ++ qs)) bs₂
+      → Splits s F n hd bs₂ k f g ps (o ∷ qs) (pieces (s .nodes) (length (ps ++ qs)))
   unfolding Elsewhere-both
-  split-made bs₃ q = record {
+  split-made bs₂ q = record {
     map = q .map;
     full = q .full;
     table = q .table;
     left-there =
         pieces-join (q .map) (s .nodes) k f ps (suc i) (λ j h. low j h (ℕ-discrete j i))
         (subst (λ (z : List Order). Pieces (q .map) (s .nodes) k f (suc i) z) (sym (drop-past (suc i * s .nodes) ps (past-last (s .nodes) i r ps e less (suc i) (omega arith))))
-        (subst (λ (z : ℕ). Pieces (q .map) (s .nodes) k f z []) (add-one i) (q .gone ne)));
+        (subst (λ (z : ℕ). Pieces (q .map) (s .nodes) k f z []) (add-one i) (q .gone)));
     right-there = subst (Pieces (q .map) (s .nodes) k g 0) is (q .there);
     elsewhere = λ l h j a b. q .elsewhere l h j (λ u v w. b u v) (λ u v w. a u v) ∙ still l h j (λ u v w. a u v);
-    count = omega (arith, q .count, new-pieces, old-pieces, kept-pieces, tk .count, pt .count);
+    count = omega (arith, q .count, new-pieces, old-pieces, kept-pieces, st .count);
   }
     where
-      stays : (j : ℕ) → j < suc i → q .map k f j ≡ with-nodes (at k f i) (take r (F k f i)) (cleared (at k f i) F) k f j
+      stays : (j : ℕ) → j < suc i → q .map k f j ≡ with-nodes (at k f i) (take r (F k f i)) F k f j
       stays j h = q .elsewhere k f j (λ a b d. ne b) (λ a b d. omega arith)
 
       low : (j : ℕ) → j < suc i → Dec (j ≡ i) → q .map k f j ≡ take (s .nodes) (drop (j * s .nodes) ps)
       low j h (yes z) =
-          stays j h ∙ with-same (at k f i) (cleared (at k f i) F) k f j (take r (F k f i)) refl refl (sym z) ∙ kept ∙ sym (last-chunk (s .nodes) i r ps e less)
+          stays j h ∙ with-same (at k f i) F k f j (take r (F k f i)) refl refl (sym z) ∙ kept ∙ sym (last-chunk (s .nodes) i r ps e less)
           ∙ ap (λ (u : ℕ). take (s .nodes) (drop (u * s .nodes) ps)) (sym z)
       low j h (no z) =
           stays j h ∙ still k f j (λ a b d. z d) ∙ pieces-at F (s .nodes) k f (ps ++ qs) j p ∙ chunk-low (s .nodes) j i ps qs (omega (arith, z)) (omega arith)
@@ -198,8 +197,8 @@ module _ (s : Sizes) (F : Map) (n : ℕ) (hd bs : List ℕ) (k f g i r : ℕ) (p
     );
     chunks = ec ∙ rest-chunks (s .nodes) 0 (y ∷ qs) joins-some (omega arith);
     source = λ m. still₂ k g (1 + m) (λ a b d. omega arith) ∙ still₁ k g (1 + m) (λ a b d. ne (sym b)) ∙ pieces-from F (s .nodes) k g (y ∷ qs) (suc 0) p′ m;
-    target = λ j a z. still₂ k f j (λ u v w. ne v) ∙ gone j a (ℕ-discrete j i);
-    behind = λ z. absurd (ne (sym z));
+    apart = λ z. ne (sym z);
+    target = λ j a. still₂ k f j (λ u v w. ne v) ∙ gone j a (ℕ-discrete j i);
     room = omega (arith, joined-pieces, first-pieces, second-pieces, second-one, tk₁ .count, tk₂ .count, count-most s F n hd bs t, fewer (decLt 0 (length ps)));
   }
     where
@@ -223,7 +222,7 @@ module _ (s : Sizes) (F : Map) (n : ℕ) (hd bs : List ℕ) (k f g i r : ℕ) (p
         (subst (Pieces (q .map) (s .nodes) k f i) joined (q .there));
     right-there =
         pieces-join (q .map) (s .nodes) k g [] 1 (λ j h. low j (omega arith))
-        (subst (λ (z : List Order). Pieces (q .map) (s .nodes) k g 1 z) (sym (drop-nil (1 * s .nodes))) (q .gone (λ z. ne (sym z))));
+        (subst (λ (z : List Order). Pieces (q .map) (s .nodes) k g 1 z) (sym (drop-nil (1 * s .nodes))) (q .gone));
     elsewhere = λ l h j a b. q .elsewhere l h j (λ u v w. a u v) (λ u v w. b u v) ∙ still₂ l h j (λ u v w. b u v) ∙ still₁ l h j (λ u v w. a u v);
     count = omega (arith, q .count, joined-pieces, first-pieces, second-pieces, second-one, tk₁ .count, tk₂ .count, pieces-none (s .nodes));
   }
@@ -234,45 +233,44 @@ module _ (s : Sizes) (F : Map) (n : ℕ) (hd bs : List ℕ) (k f g i r : ℕ) (p
 
 -- AS `put_below` ASKS
 module _ (s : Sizes) (k f : ℕ) (x : Spot) (o : Order) (bs : List ℕ) (two : 2 ≤ s .nodes) (max : s .nodes ≤ 32) (i r count n : ℕ) (ei : i ≡ x .below / s .nodes) (er : r ≡ x .below % s .nodes)
-    (bs₁ ch₀ ch : List ℕ) (tk : Takes s (at k f i) 0 bs bs₁ ch₀ ch n) where
-  pub put-below-short : n < r → Puts-below s k f x o bs bs₁
-  unfolding Puts-below Takes
+    (ch₀ ch : List ℕ) (rd : Reads s (at k f i) 0 bs ch₀ ch n) where
+  pub put-below-short : n < r → Puts-below s k f x o bs bs
+  unfolding Puts-below Reads
   put-below-short h F m hd ps qs t rm p ne p′ some room =
-      let u = tk F m hd [] t (rm .level) (front-none ch₀) refl in
+      let u = rd F m hd [] t (rm .level) (front-none ch₀) refl in
       let e = split-sum (s .nodes) (x .below) (length ps) i r two ei er (rm .below) in
       absurd (omega (arith, u .size, ap length (pieces-at F (s .nodes) k f (ps ++ qs) i p), kept-most (s .nodes) i r ps qs e (split-less (s .nodes) (x .below) (length ps) i r two ei er (rm .below))))
 
-  pub put-below-made : count ≡ pieces (s .nodes) (x .size) - (i + 1) → r ≤ n → (bs₂ : List ℕ) → Puts s (at k f i) r bs₁ bs₂ ch → (ca₀ ca₁ ca₂ : List ℕ)
-      → ca₁ ≡ sets ca₀ (12 * 0) (node-bytes (masked k o)) → ca₂ ≡ sets ca₁ 12 (take (12 * (n - r)) (drop (12 * r) ch)) → length ca₀ ≡ 768 → (bs₃ : List ℕ)
-      → Pours s k f (i + 1) count (o .key) 0 (n - r + 1) bs₂ bs₃ ca₂ → Puts-below s k f x o bs bs₃
-  unfolding Puts-below Takes Puts Pours
-  put-below-made ec h bs₂ pt ca₀ ca₁ ca₂ e₁ e₂ long bs₃ pr F m hd ps qs t rm p ne p′ some room =
-      let u = tk F m hd [] t (rm .level) (front-none ch₀) refl in
+  pub put-below-made : count ≡ pieces (s .nodes) (x .size) - (i + 1) → r ≤ n → (bs₁ : List ℕ) → Stores s (at k f i) r bs bs₁ ch → (ca₀ ca₁ ca₂ : List ℕ)
+      → ca₁ ≡ sets ca₀ (12 * 0) (node-bytes (masked k o)) → ca₂ ≡ sets ca₁ 12 (take (12 * (n - r)) (drop (12 * r) ch)) → length ca₀ ≡ 768 → (bs₂ : List ℕ)
+      → Pours s k f (i + 1) count (o .key) 0 (n - r + 1) bs₁ bs₂ ca₂ → Puts-below s k f x o bs bs₂
+  unfolding Puts-below Reads Stores Pours
+  put-below-made ec h bs₁ st ca₀ ca₁ ca₂ e₁ e₂ long bs₂ pr F m hd ps qs t rm p ne p′ some room =
+      let u = rd F m hd [] t (rm .level) (front-none ch₀) refl in
       let e = split-sum (s .nodes) (x .below) (length ps) i r two ei er (rm .below) in
       let less = split-less (s .nodes) (x .below) (length ps) i r two ei er (rm .below) in
       let ex = pieces-at F (s .nodes) k f (ps ++ qs) i p in
       let nl : n ≤ s .nodes = omega (arith, u .size, ap length ex, chunk-long (s .nodes) i r ps qs e less) in
       let fx = fines-there s F m hd bs k f i t in
       let small : 2 * i ≤ length ps = rw (ei, ← rm .below) (number-half (s .nodes) (x .below) two) in
-      let can : 0 < r → Writable (at k f i) × (u .full < s .blocks) =
-      λ g. (
-        record { level = rm .level; first = rm .first; number = omega (arith, small, rm .few, length-append ps qs) },
-        omega (arith, u .count, one-some (F k f i) (not-none (F k f i) (omega (arith, u .size))), count-most s F m hd bs t),
-      ) in
-      let pt′ = pt (cleared (at k f i) F) (u .full) hd (F k f i) (u .table) (u .front) (omega (arith, u .size)) fx (cleared-same (at k f i) F k f i refl refl refl) can in
+      let st′ = st F m hd (F k f i) t (u .front) (omega (arith, u .size)) fx (record {
+        level = rm .level;
+        label = λ g. record { level = rm .level; first = rm .first; number = omega (arith, small, rm .few, length-append ps qs) };
+        room = λ g z. absurd (omega (arith, u .size, ap length z));
+      }) in
       let fr = carry-split ch ca₀ ca₁ ca₂ [] (F k f i) (masked k o) n r 768 (u .front) (u .size) h (omega arith) long (omega arith) e₁ e₂ in
       let fine : Fines (masked k o ∷ drop r (F k f i)) = (fine-masked k o (rm .fine), fines-drop r (F k f i) fx) in
       let cl : n - r + 1 ≡ length (masked k o ∷ drop r (F k f i)) = omega (arith, length-drop r (F k f i), u .size) in
-      split-made s F m hd bs k f (o .key) i r ps qs (masked k o) t two (rm .level) (rm .fine .key) ne p p′ (rm .few) e less fine room bs₁ ch n u bs₂ pt′ bs₃
-      (pr (with-nodes (at k f i) (take r (F k f i)) (cleared (at k f i) F)) (pt′ .full) hd (masked k o ∷ drop r (F k f i)) (drop (suc i * s .nodes) (ps ++ qs)) (pt′ .table) fr cl
-      (split-pourable s F m hd bs k f (o .key) i r ps qs (masked k o) t two (rm .level) (rm .fine .key) ne p p′ (rm .few) e less fine room bs₁ ch n u bs₂ pt′ count (ec ∙ rw (rm .size) refl)))
+      split-made s F m hd bs k f (o .key) i r ps qs (masked k o) t two (rm .level) (rm .fine .key) ne p p′ (rm .few) e less fine room bs₁ st′ bs₂
+      (pr (with-nodes (at k f i) (take r (F k f i)) F) (st′ .full) hd (masked k o ∷ drop r (F k f i)) (drop (suc i * s .nodes) (ps ++ qs)) (st′ .table) fr cl
+      (split-pourable s F m hd bs k f (o .key) i r ps qs (masked k o) t two (rm .level) (rm .fine .key) ne p p′ (rm .few) e less fine room bs₁ st′ count (ec ∙ rw (rm .size) refl)))
 
 -- AS `cancel_below` ASKS
 module _ (s : Sizes) (k f g m w : ℕ) (bs : List ℕ) (two : 2 ≤ s .nodes) (max : s .nodes ≤ 32) (i count r n : ℕ) (ei : i ≡ m / s .nodes)
     (bs₁ ca₀ ca₁ : List ℕ) (tk₁ : Takes s (at k f i) 0 bs bs₁ ca₀ ca₁ r) (bs₂ ch₀ ch : List ℕ) (tk₂ : Takes s (at k g 0) 0 bs₁ bs₂ ch₀ ch n) where
   pub cancel-below-none : n ≡ 0 → Cancels-below s k f g m w bs bs₂
   unfolding Cancels-below Takes
-  cancel-below-none z F a hd ps y qs t pos top first ne few em ew some p p′ =
+  cancel-below-none z F a hd ps y qs t pos first ne few em ew some p p′ =
       let u₁ = tk₁ F a hd [] t pos (front-none ca₀) refl in
       let u₂ = tk₂ (cleared (at k f i) F) (u₁ .full) hd [] (u₁ .table) pos (front-none ch₀) refl in
       let e = split-sum (s .nodes) m (length ps) i (m % s .nodes) two ei refl em in
@@ -282,7 +280,7 @@ module _ (s : Sizes) (k f g m w : ℕ) (bs : List ℕ) (two : 2 ≤ s .nodes) (m
   pub cancel-below-made : count ≡ pieces (s .nodes) w - (0 + 1) → (n ≡ 0 → ⊥) → length ca₁ ≡ 768 → (ca₂ : List ℕ) → ca₂ ≡ sets ca₁ (12 * r) (take (12 * (n - 1)) (drop 12 ch)) → (bs₃ : List ℕ)
       → Pours s k g 1 count f i (r + n - 1) bs₂ bs₃ ca₂ → Cancels-below s k f g m w bs bs₃
   unfolding Cancels-below Takes Pours
-  cancel-below-made ec full long ca₂ e₂ bs₃ pr F a hd ps y qs t pos top first ne few em ew some p p′ =
+  cancel-below-made ec full long ca₂ e₂ bs₃ pr F a hd ps y qs t pos first ne few em ew some p p′ =
       let u₁ = tk₁ F a hd [] t pos (front-none ca₀) refl in
       let u₂ = tk₂ (cleared (at k f i) F) (u₁ .full) hd [] (u₁ .table) pos (front-none ch₀) refl in
       let e = split-sum (s .nodes) m (length ps) i (m % s .nodes) two ei refl em in

@@ -19,7 +19,7 @@ use Rattle.placement.specs.declared.Label.{Label}
 use Rattle.placement.proofs.Laws.Maps.{Label-is, is, isnt, label-is}
 use Rattle.skiplist.proofs.Count.{pieces}
 use Rattle.levels.specs.Edit.{Pieces}
-use Rattle.levels.specs.Pour.{at, Front, one, Taken, Takes, Writable, Flushed, waits, writes, Flushes, Pourable, Poured, Pours, Kept}
+use Rattle.levels.specs.Pour.{at, Front, one, Taken, Takes, Writable, Flushed, waits, writes, Flushes, Pourable, Poured, Pours, Put, Puts, Kept}
 use Rattle.levels.proofs.Laws.CarryFronts.{front-all}
 use Rattle.levels.proofs.Laws.Takes.{one-some, one-none}
 use Rattle.levels.proofs.Laws.Flushes.{fines-append, fines-drop, not-none, insert-nodes}
@@ -74,11 +74,10 @@ pub record Pouring (s : Sizes) (F : Map) (m : ℕ) (hd : List ℕ) (k f j g q : 
   pub todo : carry ++ drop (t * s .nodes) rest ≡ drop (done * s .nodes) (c ++ rest)
   pub filled : done * s .nodes ≤ length (c ++ rest)
   pub written : (i : ℕ) → i < done → map k g (q + i) ≡ take (s .nodes) (drop (i * s .nodes) (c ++ rest))
-  pub empty : (i : ℕ) → v ≤ i → (f ≡ g → i < j + t) → map k g i ≡ []
+  pub empty : (i : ℕ) → v ≤ i → map k g i ≡ []
   pub source : Pieces map (s .nodes) k f (j + t) (drop (t * s .nodes) rest)
-  pub gone : (f ≡ g → ⊥) → (i : ℕ) → i < t → map k f (j + i) ≡ []
+  pub gone : (i : ℕ) → i < t → map k f (j + i) ≡ []
   pub elsewhere : (l h i : ℕ) → (l ≡ k → h ≡ g → q ≤ i → ⊥) → (l ≡ k → h ≡ f → j ≤ i → ⊥) → map l h i ≡ F l h i
-  pub behind : f ≡ g → v ≤ j + t
   pub count : full + t ≡ m + done
 
 module _ (s : Sizes) (F : Map) (m : ℕ) (hd : List ℕ) (k f j count g q : ℕ) (c rest : List Order) (pb : Pourable s F m k f j count g q c rest) where
@@ -98,11 +97,10 @@ module _ (s : Sizes) (F : Map) (m : ℕ) (hd : List ℕ) (k f j count g q : ℕ)
     todo = rw zero-mul;
     filled = rw zero-mul (omega arith);
     written = λ i h. absurd (omega arith);
-    empty = λ i h e. pb .target i h (λ z. omega (arith, e z));
+    empty = pb .target;
     source = λ n. rw (zero-mul, add-zero) (pb .source n);
-    gone = λ e i h. absurd (omega arith);
+    gone = λ i h. absurd (omega arith);
     elsewhere = λ l h i a b. refl;
-    behind = λ e. omega (arith, pb .behind e);
     count = omega arith;
   }
 
@@ -144,16 +142,9 @@ module _ (s : Sizes) (F : Map) (m : ℕ) (hd : List ℕ) (k f j count g q : ℕ)
       still : (l h i : ℕ) → (l ≡ k → h ≡ f → i ≡ j + t → ⊥) → cleared (at k f (j + t)) (p .map) l h i ≡ p .map l h i
       still l h i n = cleared-other (at k f (j + t)) (p .map) l h i (λ a b d. n (sym a) (sym b) (sym d))
 
-      empties : (i : ℕ) → v ≤ i → (f ≡ g → i < j + suc t) → Label-is (labelled (at k f (j + t)) []) k g i → cleared (at k f (j + t)) (p .map) k g i ≡ []
-      empties i a e (is z x y w) = cleared-same (at k f (j + t)) (p .map) k g i x y w
-      empties i a e (isnt z n) = still k g i (λ x y w. n refl (sym y) (sym w)) ∙ p .empty i a (λ u. below (e u) (n refl u))
-        where
-          below : {i : ℕ} → i < j + suc t → (j + t ≡ i → ⊥) → i < j + t
-          below h n = omega (arith, n)
-
-      goes : (f ≡ g → ⊥) → (i : ℕ) → i < suc t → Dec (i ≡ t) → cleared (at k f (j + t)) (p .map) k f (j + i) ≡ []
-      goes e i h (yes z) = cleared-same (at k f (j + t)) (p .map) k f (j + i) refl refl (omega arith)
-      goes e i h (no z) = still k f (j + i) (λ x y w. z (omega arith)) ∙ p .gone e i (omega (arith, z))
+      goes : (i : ℕ) → i < suc t → Dec (i ≡ t) → cleared (at k f (j + t)) (p .map) k f (j + i) ≡ []
+      goes i h (yes z) = cleared-same (at k f (j + t)) (p .map) k f (j + i) refl refl (omega arith)
+      goes i h (no z) = still k f (j + i) (λ x y w. z (omega arith)) ∙ p .gone i (omega (arith, z))
 
       pub pouring-take : Pouring s F m hd k f j g q c rest (suc t) v r bs′ cs′
       unfolding Pieces
@@ -173,20 +164,19 @@ module _ (s : Sizes) (F : Map) (m : ℕ) (hd : List ℕ) (k f j count g q : ℕ)
             ∙ ap (λ (z : List Order). p .carry ++ z) (rw (here, ← drop-next (s .nodes) t rest) (take-append-drop (s .nodes) (drop (t * s .nodes) rest)))
             ∙ p .todo;
         filled = p .filled;
-        written = λ i a. still k g (q + i) (λ x y w. omega (arith, p .behind (sym y), p .next)) ∙ p .written i a;
-        empty = λ i a e. empties i a e (label-is (labelled (at k f (j + t)) []) k g i);
+        written = λ i a. still k g (q + i) (λ x y w. pb .apart (sym y)) ∙ p .written i a;
+        empty = λ i a. still k g i (λ x y w. pb .apart (sym y)) ∙ p .empty i a;
         source =
             λ n.
             let e : j + suc t + n ≡ j + t + suc n = omega arith in
             rw e (still k f (j + t + suc n) (λ x y w. omega arith) ∙ p .source (suc n) ∙ ap (take (s .nodes)) (drop-add (s .nodes) t (suc n) rest ∙ ap (λ (z : ℕ). drop (z * s .nodes) rest) (add-suc t n ∙ sym (suc-add t n)) ∙ sym (drop-add (s .nodes) (suc t) n rest)));
-        gone = λ e i a. goes e i a (ℕ-discrete i t);
+        gone = λ i a. goes i a (ℕ-discrete i t);
         elsewhere = λ l h i a e. still l h i (λ x y w. e x y (omega arith)) ∙ p .elsewhere l h i a e;
-        behind = λ e. omega (arith, p .behind e);
         count = omega (arith, tk .count, more, p .count);
       }
 
     -- A CHUNK WRITTEN, if the carry has one
-    module _ (h : t ≤ count) (strict : f ≡ g → v < j + t) where
+    module _ (h : t ≤ count) where
       -- what a flush asks
       pub pouring-can : s .nodes ≤ length (p .carry) → Writable (at k g v) × (p .map k g v ≡ []) × (p .full < s .blocks)
       pouring-can e =
@@ -202,7 +192,7 @@ module _ (s : Sizes) (F : Map) (m : ℕ) (hd : List ℕ) (k f j count g q : ℕ)
                 p .next,
               );
             },
-            p .empty v (omega arith) strict,
+            p .empty v (omega arith),
             room,
           )
 
@@ -240,7 +230,6 @@ module _ (s : Sizes) (F : Map) (m : ℕ) (hd : List ℕ) (k f j count g q : ℕ)
               source = p .source;
               gone = p .gone;
               elsewhere = p .elsewhere;
-              behind = p .behind;
               count = p .count;
             })
         pouring-flush (writes a er tb fr) =
@@ -260,11 +249,10 @@ module _ (s : Sizes) (F : Map) (m : ℕ) (hd : List ℕ) (k f j count g q : ℕ)
                   sym (drop-append-le (s .nodes) (p .carry) (drop (t * s .nodes) rest) a) ∙ ap (drop (s .nodes)) (p .todo) ∙ drop-next (s .nodes) (p .done) (c ++ rest);
               filled = omega (arith, whole-long, suc-mul (p .done) (s .nodes), pb .some);
               written = λ i x. writes-on a i x (ℕ-discrete i (p .done));
-              empty = λ i x y. still-g _ k g i (λ a b d. omega arith) ∙ p .empty i (omega arith) y;
-              source = λ n. still-g _ k f (j + t + n) (λ a b d. omega (arith, strict b)) ∙ p .source n;
-              gone = λ z i x. still-g _ k f (j + i) (λ a b d. z b) ∙ p .gone z i x;
+              empty = λ i x. still-g _ k g i (λ a b d. omega arith) ∙ p .empty i (omega arith);
+              source = λ n. still-g _ k f (j + t + n) (λ a b d. pb .apart b) ∙ p .source n;
+              gone = λ i x. still-g _ k f (j + i) (λ a b d. pb .apart b) ∙ p .gone i x;
               elsewhere = λ l x i y z. still-g _ l x i (λ a b d. y a b (omega (arith, p .next))) ∙ p .elsewhere l x i y z;
-              behind = λ z. omega (arith, strict z);
               count = omega (arith, p .count);
             })
 
@@ -277,18 +265,8 @@ module _ (s : Sizes) (F : Map) (m : ℕ) (hd : List ℕ) (k f j count g q : ℕ)
       unfolding Pieces
       source-end n = p .source n ∙ rw (none-left, drop-nil, take-nil)
 
-      empty-end : (i : ℕ) → v ≤ i → Dec (f ≡ g) → Dec (i < j + t) → p .map k g i ≡ []
-      empty-end i h (no e) d = p .empty i h (λ z. absurd (e z))
-      empty-end i h (yes e) (yes d) = p .empty i h (λ z. d)
-      empty-end i h (yes e) (no d) =
-          let z : j + t + (i - (j + t)) ≡ i = omega (arith, d) in
-          rw (← e) (rw z at (source-end (i - (j + t))))
-
-      pub last-empty : p .map k g v ≡ []
-      last-empty = empty-end v (omega arith) (ℕ-discrete f g) (decLt v (j + t))
-
       -- what the last insertion asks
-      pub last-can : t ≤ count → 0 < left → Writable (at k g v) × (p .map k g v ≡ []) × (p .full < s .blocks)
+      pub last-can : t ≤ count → 0 < left → Writable (at k g v) × (p .full < s .blocks)
       last-can h pos =
           let e : length (p .carry) + length (drop (t * s .nodes) rest) ≡ length (p .carry) = rw none-left (omega arith) in
           let z : length (drop (t * s .nodes) rest) ≡ 0 = rw none-left refl in (
@@ -297,13 +275,14 @@ module _ (s : Sizes) (F : Map) (m : ℕ) (hd : List ℕ) (k f j count g q : ℕ)
               first = pb .first;
               number = omega (arith, to-write, ap (pieces (s .nodes)) e, pieces-full (s .nodes) (length (p .carry)) (pb .some) (omega (arith, p .size)), pb .few, p .next);
             },
-            last-empty,
             pieces-last (s .nodes) (length (p .carry)) (p .full) (s .blocks) (pb .some) (omega (arith, p .size)) (omega (arith, room-now h, ap (pieces (s .nodes)) e, ap (pieces (s .nodes)) z, pieces-none (s .nodes))),
           )
 
     -- .. and the carry stands under the next label
-    module _ (end : count ≤ t) (inside : t ≤ count) (short : left < s .nodes) (G : Map) (full : ℕ) (bs′ : List ℕ) (tb : Table s G full hd bs′) (more : full ≡ p .full + one (p .carry))
-        (here : G k g v ≡ p .carry) (same : (l x i : ℕ) → (l ≡ k → x ≡ g → i ≡ v → ⊥) → G l x i ≡ p .map l x i) where
+    module _ (end : count ≤ t) (inside : t ≤ count) (short : left < s .nodes) (bs′ : List ℕ) (w : Put s (p .map) (p .full) hd (at k g v) (p .carry) bs′) where
+      same : (l x i : ℕ) → (l ≡ k → x ≡ g → i ≡ v → ⊥) → with-nodes (at k g v) (p .carry) (p .map) l x i ≡ p .map l x i
+      same l x i n = with-other (at k g v) (p .map) l x i (p .carry) (λ a b d. n (sym a) (sym b) (sym d))
+
       carried : p .carry ≡ drop (p .done * s .nodes) (c ++ rest)
       carried = sym (append-nil (p .carry)) ∙ ap (λ (z : List Order). p .carry ++ z) (sym (none-left end)) ∙ p .todo
 
@@ -313,20 +292,20 @@ module _ (s : Sizes) (F : Map) (m : ℕ) (hd : List ℕ) (k f j count g q : ℕ)
       past-end : (n : ℕ) → p .done < n → length (c ++ rest) ≤ n * s .nodes
       past-end n h = omega (arith, long-end, p .size, suc-mul (p .done) (s .nodes), mul-le-mul-right (s .nodes) h)
 
-      stands : (n : ℕ) → Dec (n < p .done) → Dec (n ≡ p .done) → G k g (q + n) ≡ take (s .nodes) (drop (n * s .nodes) (c ++ rest))
+      stands : (n : ℕ) → Dec (n < p .done) → Dec (n ≡ p .done) → with-nodes (at k g v) (p .carry) (p .map) k g (q + n) ≡ take (s .nodes) (drop (n * s .nodes) (c ++ rest))
       stands n (yes a) d = same k g (q + n) (λ x y w. omega (arith, p .next)) ∙ p .written n a
       stands n (no a) (yes d) =
-          ap (G k g) (ap (λ (z : ℕ). q + z) d ∙ sym (p .next)) ∙ here ∙ sym (take-all (s .nodes) (p .carry) (omega (arith, p .size))) ∙ ap (take (s .nodes)) carried
+          with-same (at k g v) (p .map) k g (q + n) (p .carry) refl refl (omega (arith, p .next)) ∙ sym (take-all (s .nodes) (p .carry) (omega (arith, p .size))) ∙ ap (take (s .nodes)) carried
           ∙ ap (λ (x : ℕ). take (s .nodes) (drop (x * s .nodes) (c ++ rest))) (sym d)
       stands n (no a) (no d) =
-          same k g (q + n) (λ x y w. d (omega (arith, p .next))) ∙ empty-end end (q + n) (omega (arith, p .next, a)) (ℕ-discrete f g) (decLt (q + n) (j + t))
+          same k g (q + n) (λ x y w. d (omega (arith, p .next))) ∙ p .empty (q + n) (omega (arith, p .next, a))
           ∙ sym (take-past (s .nodes) (n * s .nodes) (c ++ rest) (past-end n (omega (arith, a, d))))
 
-      gone-end : (f ≡ g → ⊥) → (n : ℕ) → Dec (n < t) → G k f (j + n) ≡ []
-      gone-end e n (yes d) = same k f (j + n) (λ x y w. e y) ∙ p .gone e n d
-      gone-end e n (no d) =
+      gone-end : (n : ℕ) → Dec (n < t) → with-nodes (at k g v) (p .carry) (p .map) k f (j + n) ≡ []
+      gone-end n (yes d) = same k f (j + n) (λ x y w. pb .apart y) ∙ p .gone n d
+      gone-end n (no d) =
           let z : j + t + (n - t) ≡ j + n = omega (arith, d) in
-          same k f (j + n) (λ x y w. e y) ∙ (rw z at (source-end end (n - t)))
+          same k f (j + n) (λ x y w. pb .apart y) ∙ (rw z at (source-end end (n - t)))
 
       carry-long : length (p .carry) + length (drop (t * s .nodes) rest) ≡ length (p .carry)
       carry-long = rw (none-left end) (omega arith)
@@ -334,13 +313,13 @@ module _ (s : Sizes) (F : Map) (m : ℕ) (hd : List ℕ) (k f j count g q : ℕ)
       pub pouring-end : Poured s F m hd k f j g q c rest bs′
       unfolding Pieces
       pouring-end = record {
-        map = G;
-        full = full;
-        table = tb;
+        map = with-nodes (at k g v) (p .carry) (p .map);
+        full = w .full;
+        table = w .table;
         there = λ n. stands n (decLt n (p .done)) (ℕ-discrete n (p .done));
-        gone = λ e n. gone-end e n (decLt n t) ∙ sym (rw (drop-nil, take-nil));
+        gone = λ n. gone-end n (decLt n t) ∙ sym (rw (drop-nil, take-nil));
         elsewhere = λ l x i y z. same l x i (λ a b d. y a b (omega (arith, p .next))) ∙ p .elsewhere l x i y z;
-        count = omega (arith, more, p .count, pb .chunks, to-write, one-pieces (s .nodes) (p .carry) (omega (arith, p .size)), ap (pieces (s .nodes)) carry-long);
+        count = omega (arith, w .count, p .count, pb .chunks, to-write, one-pieces (s .nodes) (p .carry) (omega (arith, p .size)), ap (pieces (s .nodes)) carry-long);
       }
 
 -- AS `pour` ASKS: from where its loop begins, after the first flush
@@ -368,9 +347,8 @@ module _ (s : Sizes) (k f j count g q : ℕ) where
     unfolding Flushes
     pour-first fl F m hd c rest t fr en pb =
         let p = pouring-start s F m hd k f j count g q c rest pb n bs₀ cs₀ t fr en in
-        let strict : f ≡ g → q < j + 0 = λ e. omega (arith, pb .behind e) in
-        pouring-flush s F m hd k f j count g q c rest pb 0 q n bs₀ cs₀ p (omega arith) strict r bs cs
-        (fl (p .map) (p .full) hd (p .carry) (p .table) (p .front) (p .size) (p .fine) (pouring-can s F m hd k f j count g q c rest pb 0 q n bs₀ cs₀ p (omega arith) strict))
+        pouring-flush s F m hd k f j count g q c rest pb 0 q n bs₀ cs₀ p (omega arith) r bs cs
+        (fl (p .map) (p .full) hd (p .carry) (p .table) (p .front) (p .size) (p .fine) (pouring-can s F m hd k f j count g q c rest pb 0 q n bs₀ cs₀ p (omega arith)))
 
   pub turning-start : (n : ℕ) (cs₀ bs cs : List ℕ) (r : ℕ) → 2 ≤ s .nodes → n < 2 * s .nodes → length cs₀ ≡ 768 → Kept s bs cs₀ cs → (n < 2 * s .nodes → r < s .nodes)
       → Turning s k f j count g q (q + n / s .nodes) r bs cs 0 (q + n / s .nodes) r bs cs
@@ -391,10 +369,9 @@ module _ (s : Sizes) (k f j count g q : ℕ) where
     pour-turn h bs₁ cs₁ r tk bs₂ cs₂ r₂ fl F m hd c rest pb p₀ =
         let p = i .on F m hd c rest pb p₀ in
         let p₁ = pouring-take s F m hd k f j count g q c rest pb t v left bs cs p h (i .short) r bs₁ cs₁ (tk (p .map) (p .full) hd (p .carry) (p .table) (pb .level) (p .front) (p .size)) in
-        let strict : f ≡ g → v < j + suc t = λ e. omega (arith, p .behind e) in
         rw add-one
-        (pouring-flush s F m hd k f j count g q c rest pb (suc t) v r bs₁ cs₁ p₁ h strict r₂ bs₂ cs₂
-        (fl (p₁ .map) (p₁ .full) hd (p₁ .carry) (p₁ .table) (p₁ .front) (p₁ .size) (p₁ .fine) (pouring-can s F m hd k f j count g q c rest pb (suc t) v r bs₁ cs₁ p₁ h strict)))
+        (pouring-flush s F m hd k f j count g q c rest pb (suc t) v r bs₁ cs₁ p₁ h r₂ bs₂ cs₂
+        (fl (p₁ .map) (p₁ .full) hd (p₁ .carry) (p₁ .table) (p₁ .front) (p₁ .size) (p₁ .fine) (pouring-can s F m hd k f j count g q c rest pb (suc t) v r bs₁ cs₁ p₁ h)))
 
     pub turning-more : 2 ≤ s .nodes → t < count → (bs₁ cs₁ : List ℕ) (r : ℕ) → Kept s bs₁ cs cs₁ → r ≤ left + s .nodes
         → Takes s (at k f (j + t)) left bs bs₁ cs cs₁ r → (bs₂ cs₂ : List ℕ) (r₂ : ℕ) → Kept s bs₂ cs₁ cs₂ → (r < 2 * s .nodes → r₂ < s .nodes) → Flushes s (at k g v) r bs₁ bs₂ cs₁ cs₂ r₂
@@ -410,27 +387,13 @@ module _ (s : Sizes) (k f j count g q : ℕ) where
           on = pour-turn h bs₁ cs₁ r tk bs₂ cs₂ r₂ fl;
         }
 
-  nothing : (l : List Order) → length l ≤ 0 → l ≡ []
-  nothing [] h = refl
-  nothing (x ∷ l) h = absurd (omega arith)
-
-  module _ (n : ℕ) (bs₀ cs₀ bs₁ cs₁ : List ℕ) (left₁ : ℕ) (fl : Flushes s (at k g q) n bs₀ bs₁ cs₀ cs₁ left₁) (t v left : ℕ) (bs cs : List ℕ)
-      (i : Turning s k f j count g q (q + n / s .nodes) left₁ bs₁ cs₁ t v left bs cs) (end : count ≤ t) where
-    pub pour-none : left ≤ 0 → Pours s k f j count g q n bs₀ bs cs₀
-    unfolding Pours-on Pours
-    pour-none z F m hd c rest tb fr en pb =
-        let p = i .on F m hd c rest pb (pour-first n bs₀ cs₀ bs₁ cs₁ left₁ fl F m hd c rest tb fr en pb) in
-        let e = nothing (p .carry) (omega (arith, p .size)) in
-        pouring-end s F m hd k f j count g q c rest pb t v left bs cs p end (i .within) (i .short) (p .map) (p .full) bs (p .table) (omega (arith, one-none (p .carry) e))
-        (last-empty s F m hd k f j count g q c rest pb t v left bs cs p end ∙ sym e) (λ l x i n. refl)
-
-    pub pour-rest : 0 < left → (r : Found) (bs′ : List ℕ) → r ≡ free-in (label-in (block-long s) bs) (s .blocks) (s .blocks) (home-of s (at k g v))
-        → bs′ ≡ inserted s r (at k g v) left (take (12 * left) (drop 0 cs)) bs → Pours s k f j count g q n bs₀ bs′ cs₀
-    unfolding Pours-on Pours
-    pour-rest pos r bs′ er eb F m hd c rest tb fr en pb =
-        let p = i .on F m hd c rest pb (pour-first n bs₀ cs₀ bs₁ cs₁ left₁ fl F m hd c rest tb fr en pb) in
-        let w = last-can s F m hd k f j count g q c rest pb t v left bs cs p end (i .within) pos in
-        let tb′ = insert-nodes s (at k g v) (p .map) (p .full) hd bs (p .table) (p .carry) left _ bs′ r (w .0) (p .fine) (w .1) (w .2) pos (omega (arith, i .short)) (p .size) (front-all cs (p .carry) left (p .front) (p .size)) er eb in
-        pouring-end s F m hd k f j count g q c rest pb t v left bs cs p end (i .within) (i .short) (with-nodes (at k g v) (p .carry) (p .map)) (suc (p .full)) bs′ tb′
-        (omega (arith, one-some (p .carry) (not-none (p .carry) (omega (arith, p .size)))))
-        (with-same (at k g v) (p .map) k g v (p .carry) refl refl refl) (λ l x i n. with-other (at k g v) (p .map) l x i (p .carry) (λ a b d. n (sym a) (sym b) (sym d)))
+  pub pour-made : (n : ℕ) (bs₀ cs₀ bs₁ cs₁ : List ℕ) (left₁ : ℕ) → Flushes s (at k g q) n bs₀ bs₁ cs₀ cs₁ left₁ → (t v left : ℕ) (bs cs : List ℕ)
+      → Turning s k f j count g q (q + n / s .nodes) left₁ bs₁ cs₁ t v left bs cs → count ≤ t → (bs′ : List ℕ) → Puts s (at k g v) left bs bs′ cs → Pours s k f j count g q n bs₀ bs′ cs₀
+  unfolding Pours-on Pours Puts
+  pour-made n bs₀ cs₀ bs₁ cs₁ left₁ fl t v left bs cs i end bs′ pt F m hd c rest tb fr en pb =
+      let p = i .on F m hd c rest pb (pour-first n bs₀ cs₀ bs₁ cs₁ left₁ fl F m hd c rest tb fr en pb) in
+      let w = pt (p .map) (p .full) hd (p .carry) (p .table) (p .front) (omega (arith, p .size)) (p .fine) (p .empty v (omega arith))
+      (last-can s F m hd k f j count g q c rest pb t v left bs cs p end (i .within)) in
+      let all : take left (p .carry) ≡ p .carry = take-all left (p .carry) (omega (arith, p .size)) in
+      pouring-end s F m hd k f j count g q c rest pb t v left bs cs p end (i .within) (i .short) bs′
+      (subst (λ (z : List Order). Put s (p .map) (p .full) hd (at k g v) z bs′) all w)

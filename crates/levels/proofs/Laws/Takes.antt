@@ -20,7 +20,7 @@ use Rattle.placement.specs.declared.Label.{Label}
 use Rattle.placement.specs.declared.Found.{Found}
 use Rattle.placement.specs.declared.Found.the-variants.{At, Nothing}
 use Rattle.placement.proofs.Laws.Maps.{Label-is, is, isnt, label-is}
-use Rattle.placement.proofs.Laws.Tables.{find-told, pull-keeps, count-some}
+use Rattle.placement.proofs.Laws.Tables.{find-told, remove-keeps, remove-none, count-some}
 use Rattle.placement.proofs.Laws.Reading.{count-read}
 use Rattle.levels.specs.Pour.{Front, one, Read, Reads, Taken, Takes}
 use Rattle.levels.proofs.Laws.CarryFronts.{front-more, nodes-long}
@@ -70,21 +70,6 @@ module _ (s : Sizes) (w : Label) (n : ℕ) (bs cs : List ℕ) (r : Found) (er : 
       go (At i) z f = absurd (true≢false cc)
       go Nothing z (is-none g) = record { front = rw (g, append-nil) f; size = rw (g, append-nil) en }
 
-  pub take-none : r ≡ Nothing → Takes s w n bs bs cs cs n
-  unfolding Takes
-  take-none e F m hd c t pos f en = go (search-in s bs w) (sym er ∙ e) (find-told s F m hd bs t w pos)
-    where
-      go : (x : Found) → x ≡ Nothing → Finds s F w bs x → Taken s F m hd w c bs cs n
-      go (At i) z f = absurd (true≢false cc)
-      go Nothing z (is-none g) =
-          record {
-            full = m;
-            table = subst (λ (G : Map). Table s G m hd bs) (sym (cleared-none w F g)) t;
-            count = omega (arith, one-none (nodes-of F w) g);
-            front = rw (g, append-nil) f;
-            size = rw (g, append-nil) en;
-          }
-
   module _ (i : ℕ) (e : r ≡ At i) (more : ℕ) (em : more ≡ getD bs (53 + i * block-long s + 1) 0) where
     pub read-over : s .nodes < more → Reads s w n bs cs cs n
     unfolding Reads
@@ -115,36 +100,29 @@ module _ (s : Sizes) (w : Label) (n : ℕ) (bs cs : List ℕ) (r : Found) (er : 
             }
         go Nothing z g = absurd (true≢false cc)
 
-    pub take-over : s .nodes < more → Takes s w n bs bs cs cs n
-    unfolding Takes
-    take-over h F m hd c t pos f en = go (search-in s bs w) (sym er ∙ e) (find-told s F m hd bs t w pos)
-      where
-        go : (x : Found) → x ≡ At i → Finds s F w bs x → Taken s F m hd w c bs cs n
-        go (At j) z (is-at p q g) =
-            let v = t .sound (w .level) (w .first) (w .number) q in
-            let ij : i ≡ j = cc in
-            absurd (omega (arith, v .nodes, rw (← ij) at (count-read s bs j w (nodes-of F w) g (v .nodes) (v .fine))))
-        go Nothing z g = absurd (true≢false cc)
-
-    pub take-some : (at k : ℕ) (cs′ bs′ : List ℕ) → at ≡ 53 + i * block-long s → k ≡ 12 * n → more ≤ s .nodes → 12 * (n + s .nodes) ≤ length cs
-        → cs′ ≡ sets cs k (take (12 * more) (drop (at + 8) bs))
-        → bs′ ≡ pull (bytes (block-long s)) (home-of s) (s .blocks) (s .blocks - 1) i (i + 1) bs → Takes s w n bs bs′ cs cs′ (n + more)
-    unfolding Takes
-    take-some at k cs′ bs′ ea ek few room ec eb F m hd c t pos f en = go (search-in s bs w) (sym er ∙ e) (find-told s F m hd bs t w pos)
-      where
-        go : (x : Found) → x ≡ At i → Finds s F w bs x → Taken s F m hd w c bs′ cs′ (n + more)
-        go (At j) z (is-at p q g) =
-            let v = t .sound (w .level) (w .first) (w .number) q in
-            let ij : i ≡ j = cc in
-            let g′ : block-in (block-long s) bs i ≡ block-bytes s (holds (labelled w (nodes-of F w))) = rw ij g in
-            let lm : more ≡ length (nodes-of F w) = em ∙ count-read s bs i w (nodes-of F w) g′ (v .nodes) (v .fine) in
-            let vs = nodes-read s bs i w (nodes-of F w) g′ (v .nodes) in
-            let one-less = count-some s F m hd bs t w q in
-            record {
-              full = m - 1;
-              table = rw eb (pull-keeps s F m hd bs t w i pos (sym er ∙ e));
-              count = omega (arith, one-some (nodes-of F w) q);
-              front = front-more cs cs′ c (nodes-of F w) k (take (12 * more) (drop (at + 8) bs)) f (omega arith) (rw (lm, ea) vs) ec (omega arith);
-              size = omega (arith, length-append c (nodes-of F w));
-            }
-        go Nothing z g = absurd (true≢false cc)
+-- A CHUNK READ, and then removed
+pub take-made : (s : Sizes) (w : Label) (n : ℕ) (bs bs′ cs cs′ : List ℕ) (r : ℕ) → Reads s w n bs cs cs′ r → bs′ ≡ taken-out s (search-in s bs w) bs → Takes s w n bs bs′ cs cs′ r
+unfolding Takes Reads
+take-made s w n bs bs′ cs cs′ r rd eb F m hd c t pos f en = go (nodes-of F w) refl
+  where
+    go : (ns : List Order) → nodes-of F w ≡ ns → Taken s F m hd w c bs′ cs′ r
+    go [] e =
+        let u = rd F m hd c t pos f en in
+        record {
+          full = m;
+          table = rw (eb ∙ remove-none s F m hd bs t w pos e .1) (subst (λ (G : Map). Table s G m hd bs) (sym (cleared-none w F e)) t);
+          count = omega (arith, one-none (nodes-of F w) e);
+          front = u .front;
+          size = u .size;
+        }
+    go (o ∷ os) e =
+        let u = rd F m hd c t pos f en in
+        let q : nodes-of F w ≢ [] = λ z. true≢false cc in
+        let less = count-some s F m hd bs t w q in
+        record {
+          full = m - 1;
+          table = rw eb (remove-keeps s F m hd bs t w pos q .1);
+          count = omega (arith, one-some (nodes-of F w) q);
+          front = u .front;
+          size = u .size;
+        }

@@ -3,7 +3,7 @@ use borrow.Author.Needs.{needs}
 use Prim.Native.Nat.{_-_}
 use native.Mathlib.Omega.{arith}
 use Rattle.levels.proofs.Laws.Chunking.{quotient-most}
-use Rattle.levels.proofs.Laws.Pouring.{Turning, turning-start, turning-more, next-fits, pour-none, pour-rest}
+use Rattle.levels.proofs.Laws.Pouring.{Turning, turning-start, turning-more, next-fits, pour-made}
 use Rattle.levels.proofs.pour.pour.Statement.{statement}
 use Rattle.levels.proofs.pour.pour.Tie as tie
 
@@ -25,8 +25,8 @@ flush-requires c κs = (c .before .before .before .before .before .pre .0, c .be
 loop-holds : tie.Need-loop-holds Inv-loop μ-loop
 loop-holds c = turning-start _ _ _ _ _ _ _ _ _ _ _ _ (c .before .before .before .before .before .before .before .before .before .before .pre .1) (c .before .before .before .before .before .before .before .before .before .before .pre .3) (c .before .before .before .before .before .before .before .before .before .before .pre .4) (c .before .before .before .before .flush .ensures .0) (c .before .before .before .before .flush .ensures .1)
 
-add-written-2 : tie.Need-add-written-2 Inv-loop μ-loop
-add-written-2 c = record { fits = omega (arith, c .before .before .before .before .before .before .before .before .before .before .before .before .before .pre .6, c .before .loop-test .taken) }
+add-take : tie.Need-add-take Inv-loop μ-loop
+add-take c = record { fits = omega (arith, c .before .before .before .before .before .before .before .before .before .before .before .before .before .pre .6, c .before .loop-test .taken) }
 
 take-requires : tie.Need-take-requires Inv-loop μ-loop
 take-requires c κs = (c .before .before .before .loop .inv .shaped, omega (arith, c .before .before .before .loop .inv .short, c .before .before .before .loop .inv .long, c .before .before .before .before .before .before .before .before .before .before .before .before .before .before .pre .0 .few), omega (arith, c .before .before .before .loop .inv .long))
@@ -37,8 +37,8 @@ flush-requires-2 c κs = (c .before .before .before .before .before .before .tak
 div-written-2 : tie.Need-div-written-2 Inv-loop μ-loop
 div-written-2 c = omega (arith, c .before .before .before .before .before .before .before .before .before .before .before .before .before .before .before .before .before .before .before .before .before .before .before .before .before .before .before .pre .1)
 
-add-written-3 : tie.Need-add-written-3 Inv-loop μ-loop
-add-written-3 c = record { fits = omega (arith, next-fits _ _ _ _ _ _ _ (c .before .before .before .before .before .before .before .before .before .before .before .before .before .before .before .before .before .before .before .before .before .before .before .before .before .before .before .pre .5) (c .before .before .before .before .before .before .before .before .before .before .before .before .before .before .before .before .before .before .before .before .before .before .before .before .before .before .before .pre .1) (c .before .before .before .before .before .before .before .before .before .before .before .before .before .before .before .loop-test .taken) (c .before .before .before .before .before .before .before .before .before .before .before .before .before .before .before .before .loop .inv .next) (c .before .before .before .before .before .before .before .before .before .before .before .before .before .before .before .before .loop .inv .short) (c .before .before .before .before .before .before .before .before .before .before .before .before .take .ensures .1)) }
+add-written-2 : tie.Need-add-written-2 Inv-loop μ-loop
+add-written-2 c = record { fits = omega (arith, next-fits _ _ _ _ _ _ _ (c .before .before .before .before .before .before .before .before .before .before .before .before .before .before .before .before .before .before .before .before .before .before .before .before .before .before .before .pre .5) (c .before .before .before .before .before .before .before .before .before .before .before .before .before .before .before .before .before .before .before .before .before .before .before .before .before .before .before .pre .1) (c .before .before .before .before .before .before .before .before .before .before .before .before .before .before .before .loop-test .taken) (c .before .before .before .before .before .before .before .before .before .before .before .before .before .before .before .before .loop .inv .next) (c .before .before .before .before .before .before .before .before .before .before .before .before .before .before .before .before .loop .inv .short) (c .before .before .before .before .before .before .before .before .before .before .before .before .take .ensures .1)) }
 
 add-k : tie.Need-add-k Inv-loop μ-loop
 add-k c = record { fits = omega (arith, c .before .before .before .before .before .before .before .before .before .before .before .before .before .before .before .before .before .before .before .before .before .before .before .before .before .before .before .pre .5, c .before .before .before .before .before .before .before .before .before .before .before .before .before .before .before .loop-test .taken) }
@@ -49,16 +49,17 @@ loop-less c = omega (arith, c .before .before .before .before .before .before .b
 loop-again : tie.Need-loop-again Inv-loop μ-loop
 loop-again c = turning-more _ _ _ _ _ _ _ _ _ _ _ _ _ _ _ _ (c .before .before .before .before .before .before .before .before .before .before .before .before .before .before .before .before .loop .inv) (c .before .before .before .before .before .before .before .before .before .before .before .before .before .before .before .before .before .before .before .before .before .before .before .before .before .before .before .pre .1) (c .before .before .before .before .before .before .before .before .before .before .before .before .before .before .before .loop-test .taken) _ _ _ (c .before .before .before .before .before .before .before .before .before .before .before .before .take .ensures .0) (c .before .before .before .before .before .before .before .before .before .before .before .before .take .ensures .1) (c .before .before .before .before .before .before .before .before .before .before .before .before .take .ensures .2) _ _ _ (c .before .before .before .before .before .flush2 .ensures .0) (c .before .before .before .before .before .flush2 .ensures .1) (c .before .before .before .before .before .flush2 .ensures .2)
 
-insert-requires : tie.Need-insert-requires Inv-loop μ-loop
-insert-requires c κs = (c .before .before .before .before .loop .inv .shaped, c .before .before .before .before .before .before .before .before .before .before .before .before .before .before .before .pre .2, omega (arith, c .before .before .before .before .loop .inv .short, c .before .before .before .before .loop .inv .shaped .width), omega (arith, c .before .before .before .before .loop .inv .short, c .before .before .before .before .loop .inv .long, c .before .before .before .before .before .before .before .before .before .before .before .before .before .before .before .pre .0 .few))
+write-some-requires : tie.Need-write-some-requires Inv-loop μ-loop
+write-some-requires c κs =
+    let i = c .before .before .before .loop .inv in
+    let p = c .before .before .before .before .before .before .before .before .before .before .before .before .before .before .pre in
+    (i .shaped, p .2, omega (arith, i .short), omega (arith, i .short, i .long, p .0 .few))
 
 returns : tie.Need-returns Inv-loop μ-loop
-returns c = pour-rest _ _ _ _ _ _ _ _ _ _ _ _ _ (c .before .before .before .before .before .before .before .before .before .before .before .before .flush .ensures .2) _ _ _ _ _ (c .before .before .before .before .before .before .before .loop .inv) (omega (arith, c .before .before .before .before .before .before .loop-test .left)) (c .before .before .before .before .before .if1 .taken) _ _ (c .before .before .insert .ensures .0) (c .before .before .insert .ensures .1)
-
-returns-2 : tie.Need-returns-2 Inv-loop μ-loop
-returns-2 c = pour-none _ _ _ _ _ _ _ _ _ _ _ _ _ (c .before .before .before .before .before .before .before .flush .ensures .2) _ _ _ _ _ (c .before .before .loop .inv) (omega (arith, c .before .loop-test .left)) (omega (arith, c .if1 .left))
+returns c =
+    pour-made _ _ _ _ _ _ _ _ _ _ _ _ _ (c .before .before .before .before .before .before .before .before .before .before .before .flush .ensures .2) _ _ _ _ _ (c .before .before .before .before .before .before .loop .inv) (omega (arith, c .before .before .before .before .before .loop-test .left)) _ (c .before .before .write-some .ensures .1)
 
 pub pour-spec : {M : Type 1} → statement M
 pour-spec =
     tie.close
-    (tie.spec Inv-loop μ-loop div-written add-written flush-requires loop-holds add-written-2 take-requires flush-requires-2 div-written-2 add-written-3 add-k loop-less loop-again insert-requires (λ c. search needs) (λ c. search needs) returns (λ c. search needs) (λ c. search needs) returns-2)
+    (tie.spec Inv-loop μ-loop div-written add-written flush-requires loop-holds add-take take-requires flush-requires-2 div-written-2 add-written-2 add-k loop-less loop-again write-some-requires (λ c. search needs) (λ c. search needs) returns)

@@ -29,8 +29,8 @@ read-requires c κs =
     let i = c .before .before .before .loop .inv in
     (i .shaped, omega (arith, i .short, i .long, c .before .before .before .before .before .before .pre .0 .few), omega (arith, i .long))
 
-add-t12 : tie.Need-add-t12 Inv-loop μ-loop
-add-t12 c = record { fits = omega (arith, c .before .before .before .before .before .before .before .before .before .before .pre .5, c .before .before .before .before .before .before .loop-test .taken) }
+add-renew : tie.Need-add-renew Inv-loop μ-loop
+add-renew c = record { fits = omega (arith, c .before .before .before .before .before .before .before .before .before .before .pre .5, c .before .before .before .before .before .before .loop-test .taken) }
 
 renew-requires : tie.Need-renew-requires Inv-loop μ-loop
 renew-requires c κs =
@@ -49,7 +49,7 @@ loop-again : tie.Need-loop-again Inv-loop μ-loop
 loop-again c =
     let r = c .before .before .before .before .before .before .before .before .before .read .ensures in
     let w = c .before .before .before .before .renew .ensures in
-    moving-more _ _ _ _ _ _ _ _ _ _ _ _ (c .before .before .before .before .before .before .before .before .before .before .before .before .before .loop .inv) (c .before .before .before .before .before .before .before .before .before .before .before .before .loop-test .taken) _ _ (r .0) (r .1) (r .2) _ _ _ (w .0) (w .1) (w .2)
+    moving-more _ _ _ _ _ _ _ _ _ _ _ _ (c .before .before .before .before .before .before .before .before .before .before .before .before .before .loop .inv) (omega (arith, c .before .before .before .before .before .before .before .before .before .before .before .before .loop-test .taken)) _ _ (r .0) (r .1) (r .2) _ _ _ (w .0) (w .1) (w .2)
 
 returns : tie.Need-returns Inv-loop μ-loop
 returns c = moving-end _ _ _ _ _ _ _ _ _ _ _ _ (c .before .loop .inv) (omega (arith, c .loop-test .left))
@@ -57,4 +57,4 @@ returns c = moving-end _ _ _ _ _ _ _ _ _ _ _ _ (c .before .loop .inv) (omega (ar
 pub shift-spec : {M : Type 1} → statement M
 shift-spec =
     tie.close
-    (tie.spec Inv-loop μ-loop loop-holds add-loop add-read add-read-2 read-requires add-t12 renew-requires add-k loop-less loop-again (λ c. search needs) (λ c. search needs) returns)
+    (tie.spec Inv-loop μ-loop loop-holds add-loop add-read add-read-2 read-requires add-renew renew-requires add-k loop-less loop-again (λ c. search needs) (λ c. search needs) returns)

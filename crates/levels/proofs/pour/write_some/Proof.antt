@@ -1,10 +1,10 @@
--- `levels::shift::write_some` meets its contract: each need follows from the laws listed. Assumes nothing.
+-- `levels::pour::write_some` meets its contract: each need follows from the laws listed. Assumes nothing.
 use borrow.Author.Needs.{needs}
 use native.Mathlib.Omega.{arith}
 use Rattle.placement.proofs.Laws.Loops.{shaped-same}
 use Rattle.levels.proofs.Laws.Flushes.{put-none, put-some}
-use Rattle.levels.proofs.shift.write_some.Statement.{statement}
-use Rattle.levels.proofs.shift.write_some.Tie as tie
+use Rattle.levels.proofs.pour.write_some.Statement.{statement}
+use Rattle.levels.proofs.pour.write_some.Tie as tie
 
 returns : tie.Need-returns
 returns c = (shaped-same _ _ _ (c .before .before .before .before .before .before .before .pre .0) (search needs), put-some _ _ _ _ _ _ _ (c .before .before .before .before .if1 .taken) (c .before .before .before .before .before .before .before .pre .2) (c .before .before .insert .ensures .0) (c .before .before .insert .ensures .1))
