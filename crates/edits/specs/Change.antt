@@ -14,8 +14,7 @@ use Rattle.placement.specs.declared.Sizes.{Sizes}
 use Rattle.placement.specs.declared.Order.{Order}
 use Rattle.skiplist.specs.Lists.{first-key, chunks}
 use Rattle.skiplist.specs.Image.{image, orders-good, fits, is-image, orders-in, quantities-good}
-use Rattle.skiplist.proofs.Count.{counts}
-use Rattle.skiplist.proofs.Edits.{head-part}
+use Rattle.skiplist.specs.Parts.{head-part, counts}
 use Rattle.skiplist.specs.Questions.{is-key, held}
 
 -- an order between others, and room for all of them

@@ -11,10 +11,7 @@ use Rattle.placement.specs.declared.Sizes.{Sizes}
 use Rattle.placement.specs.declared.Order.{Order}
 use Rattle.skiplist.specs.Lists.{masked, first-key, chunks}
 use Rattle.skiplist.specs.Image.{image, orders-good, fits}
-use Rattle.skiplist.proofs.Parts.{Up, below}
-use Rattle.skiplist.proofs.Descent.{last-from}
-use Rattle.skiplist.proofs.Count.{pieces}
-use Rattle.skiplist.proofs.Edits.{head-part}
+use Rattle.skiplist.specs.Parts.{Up, below, last-from, pieces, head-part}
 use Rattle.levels.specs.declared.Spot.{Spot}
 
 -- from chunk number i on, the chunks of partition f of level k hold some nodes, B in each but the last

@@ -10,7 +10,7 @@ use Rattle.placement.specs.Maps.{Map, Table, Fines, nodes-of, with-nodes, clear
 use Rattle.placement.specs.declared.Sizes.{Sizes}
 use Rattle.placement.specs.declared.Order.{Order}
 use Rattle.placement.specs.declared.Label.{Label}
-use Rattle.skiplist.proofs.Count.{pieces}
+use Rattle.skiplist.specs.Parts.{pieces}
 use Rattle.levels.specs.Edit.{Pieces}
 
 -- a row of bytes begins with some nodes

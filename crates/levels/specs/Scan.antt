@@ -5,7 +5,7 @@ use mathlib.Core.List.{List}
 use Prim.Native.Nat.{ℕ, zero, suc, _+_, _-_, _≤_, _<_}
 use lib.Dec.{ltb}
 use Rattle.placement.specs.Numbers.{field}
-use Rattle.skiplist.proofs.Count.{pieces}
+use Rattle.skiplist.specs.Parts.{pieces}
 use Rattle.levels.specs.declared.Spot.{Spot}
 
 -- a node comes by: it is counted, and kept if it is below y

@@ -8,7 +8,7 @@ use Rattle.placement.specs.Maps.{Map, Table, Fines, nodes-of, with-nodes}
 use Rattle.placement.specs.declared.Sizes.{Sizes}
 use Rattle.placement.specs.declared.Order.{Order}
 use Rattle.placement.specs.declared.Label.{Label}
-use Rattle.skiplist.proofs.Count.{pieces}
+use Rattle.skiplist.specs.Parts.{pieces}
 use Rattle.levels.specs.Edit.{Pieces}
 use Rattle.levels.specs.Pour.{Front, one, Writable}
 

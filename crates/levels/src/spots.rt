@@ -3,7 +3,7 @@ ghost use mathlib.Core.Path.{_≡_};
 ghost use Prim.Native.Nat.{ℕ, _+_, _*_, _-_, _≤_, _<_};
 ghost use lib.ListN.{length};
 ghost use Rattle.placement.specs.Place.{Shaped};
-ghost use Rattle.skiplist.proofs.Count.{pieces};
+ghost use Rattle.skiplist.specs.Parts.{pieces};
 ghost use Rattle.levels.specs.Edit.{Scans};
 ghost use Rattle.levels.specs.Scan.{passed, passes};
 use crate::Spot;

@@ -16,7 +16,7 @@ use Rattle.placement.specs.declared.Order.{Order}
 use Rattle.skiplist.specs.Lists.{list-at, masked}
 use Rattle.skiplist.specs.Image.{image, orders-in, orders-good, fits}
 use Rattle.skiplist.specs.Questions.{reserve}
-use Rattle.skiplist.proofs.Walk.{each, spread}
+use Rattle.skiplist.specs.Parts.{each, spread}
 use Rattle.readings.specs.declared.Visit.{Visit}
 use Rattle.readings.specs.declared.calls.Sought.{Sought}
 use Rattle.readings.specs.declared.calls.Sought.the-variants.{Is, Nothing}

@@ -5,7 +5,7 @@ ghost use Prim.Native.Nat.{_≤_, _<_};
 ghost use lib.ListN.{drop};
 ghost use Rattle.skiplist.specs.Image.{is-image, orders-in};
 ghost use Rattle.skiplist.specs.Questions.{between};
-ghost use Rattle.skiplist.proofs.Parts.{part};
+ghost use Rattle.skiplist.specs.Parts.{part};
 ghost use Rattle.readings.specs.Visit.{Known, first-enough, with-key};
 use crate::calls::Sought;
 use levels::growth::bottom;

@@ -13,16 +13,8 @@ use Rattle.placement.specs.Hash.{level}
 use Rattle.placement.specs.declared.Sizes.{Sizes}
 use Rattle.placement.specs.declared.Order.{Order}
 use Rattle.skiplist.specs.Lists.{front, at-least, list-at, starts-one, run, rest, partitions, first-key, masked, chunks-of, all-chunks, chunks-from, chunks}
+unfoldable pub use Rattle.skiplist.specs.Parts.{pieces, pieces-all, count, counts}
 use Rattle.skiplist.proofs.Edits.{head-part, tail-part, parts-before, parts-after, parts-split, head-part-long, tail-low, tail-same, after-not, tail-high, after-high}
-
--- a partition of n nodes has this many chunks: n / B, rounded up
-unfoldable pub pieces : (b n : ℕ) → ℕ
-pieces b zero = 0
-pieces b (suc n) = suc (n / b)
-
-unfoldable pub pieces-all : (b : ℕ) → List (List Order) → ℕ
-pieces-all b [] = 0
-pieces-all b (p ∷ ps) = pieces b (length p) + pieces-all b ps
 
 pub pieces-less : (b n : ℕ) → 0 < b → pieces b (suc n) ≡ suc (pieces b (suc n - b))
 unfolding pieces
@@ -61,14 +53,6 @@ unfolding all-chunks pieces-all
 length-all s l [] h = refl
 length-all s l (p ∷ ps) h =
     simp length-append (rw (length-all s l ps h, length-of (length p) (s .nodes) l (first-key p) 0 (map (masked l) p) h (simp length-map (omega arith)), length-map))
-
--- the chunks of one level, and of all
-unfoldable pub count : Sizes → (l : ℕ) → List Order → ℕ
-count s l os = pieces-all (s .nodes) (partitions s l (list-at s l os))
-
-unfoldable pub counts : (left l : ℕ) → Sizes → List Order → ℕ
-counts zero l s os = 0
-counts (suc k) l s os = count s l os + counts k (suc l) s os
 
 pub length-from : (k l : ℕ) (s : Sizes) (os : List Order) → 0 < s .nodes → length (chunks-from k l s os) ≡ counts k l s os
 unfolding chunks-from counts count

@@ -12,14 +12,10 @@ use Rattle.placement.specs.Hash.{level}
 use Rattle.placement.specs.declared.Sizes.{Sizes}
 use Rattle.placement.specs.declared.Order.{Order}
 use Rattle.skiplist.specs.Lists.{front, at-least, starts-one, run, first-key}
+unfoldable pub use Rattle.skiplist.specs.Parts.{last-from}
 use Rattle.skiplist.proofs.Runs.{opened}
 use Rattle.skiplist.proofs.Parts.{Up, up-from, and-left, and-right, first-more, at-least-up, below}
 use Rattle.skiplist.proofs.Edits.{level-most, level-least, starts, stays, head-part, tail-part}
-
--- the last key of a list, k where there is none
-unfoldable pub last-from : (k : ℕ) → List Order → ℕ
-last-from k [] = k
-last-from k (x ∷ xs) = last-from (x .key) xs
 
 pub last-more : (k : ℕ) (p : List Order) (x : Order) → last-from k (p ++ x ∷ []) ≡ x .key
 unfolding last-from

@@ -12,6 +12,7 @@ use Rattle.placement.specs.Hash.{h, divides-from, level}
 use Rattle.placement.specs.declared.Sizes.{Sizes}
 use Rattle.placement.specs.declared.Order.{Order}
 use Rattle.skiplist.specs.Lists.{front, at-least, list-at, starts-one, run, rest, partitions, first-key}
+unfoldable pub use Rattle.skiplist.specs.Parts.{head-part}
 use Rattle.skiplist.proofs.Runs.{closed, opened, runs-split, partitions-front}
 use Rattle.skiplist.proofs.Parts.{Up, Heads, up-past, first-more, at-least-append, at-least-up, rest-heads, pick, part, pick-at, pick-other}
 
@@ -63,10 +64,7 @@ module _ (s : Sizes) (l : ℕ) where
   unfolding starts-one
   stays y p h = rw (ne-eqb (y .key) 0 (omega arith), le-ltb l (level s (y .key)) h) (and-false (ltb l (beta s)))
 
-  -- the partition that is open after some orders, and what some orders go on with it
-  unfoldable pub head-part : List Order → List Order
-  head-part xs = opened (starts-one s l) (front ∷ []) (at-least s l xs)
-
+  -- what some orders go on with the partition that is open
   unfoldable pub tail-part : List Order → List Order
   tail-part zs = run (starts-one s l) (at-least s l zs)
 
@@ -76,7 +74,7 @@ module _ (s : Sizes) (l : ℕ) where
   unfoldable pub parts-after : List Order → List (List Order)
   parts-after zs = rest (starts-one s l) (at-least s l zs)
 
-  pub parts-split : (xs zs : List Order) → partitions s l (list-at s l (xs ++ zs)) ≡ parts-before xs ++ (head-part xs ++ tail-part zs) ∷ parts-after zs
+  pub parts-split : (xs zs : List Order) → partitions s l (list-at s l (xs ++ zs)) ≡ parts-before xs ++ (head-part s l xs ++ tail-part zs) ∷ parts-after zs
   unfolding list-at head-part tail-part parts-before parts-after
   parts-split xs zs = rw (at-least-append s l xs zs, partitions-front s l) (runs-split (starts-one s l) (front ∷ []) (at-least s l xs) (at-least s l zs))
 
@@ -85,12 +83,12 @@ module _ (s : Sizes) (l : ℕ) where
   parts-heads os u = rw (partitions-front s l) (omega arith, rest-heads (starts-one s l) 1 (at-least s l os) (at-least-up s l 1 os u))
 
   -- the open partition is never empty, and what goes on leaves its first key
-  pub head-part-long : (xs : List Order) → 0 < length (head-part xs)
+  pub head-part-long : (xs : List Order) → 0 < length (head-part s l xs)
   unfolding head-part
   head-part-long xs = opened-long (starts-one s l) (front ∷ []) (at-least s l xs) (omega arith)
 
-  pub head-part-first : (xs qs : List Order) → first-key (head-part xs ++ qs) ≡ first-key (head-part xs)
-  head-part-first xs qs = first-more (head-part xs) qs (head-part-long xs)
+  pub head-part-first : (xs qs : List Order) → first-key (head-part s l xs ++ qs) ≡ first-key (head-part s l xs)
+  head-part-first xs qs = first-more (head-part s l xs) qs (head-part-long xs)
 
   -- what y, before some orders, goes on with and starts
   pub tail-low : (y : Order) (zs : List Order) → level s (y .key) < l → tail-part (y ∷ zs) ≡ tail-part zs
@@ -118,23 +116,23 @@ module _ (s : Sizes) (l : ℕ) where
   after-high y zs h = rw (le-leb l (level s (y .key)) (omega arith), starts y h)
 
   module _ (xs zs : List Order) where
-    pub part-at : Up 1 (xs ++ zs) → part s (xs ++ zs) l (first-key (head-part xs)) ≡ head-part xs ++ tail-part zs
+    pub part-at : Up 1 (xs ++ zs) → part s (xs ++ zs) l (first-key (head-part s l xs)) ≡ head-part s l xs ++ tail-part zs
     unfolding part
     part-at u =
         rw (parts-split xs zs, ← head-part-first xs (tail-part zs))
-        (pick-at (parts-before xs) (head-part xs ++ tail-part zs) (parts-after zs) 0 (rw (parts-split xs zs) at (parts-heads (xs ++ zs) u)))
+        (pick-at (parts-before xs) (head-part s l xs ++ tail-part zs) (parts-after zs) 0 (rw (parts-split xs zs) at (parts-heads (xs ++ zs) u)))
 
-    pub part-elsewhere : (g : ℕ) → (first-key (head-part xs) ≡ g → ⊥) → part s (xs ++ zs) l g ≡ pick g (parts-before xs ++ parts-after zs)
+    pub part-elsewhere : (g : ℕ) → (first-key (head-part s l xs) ≡ g → ⊥) → part s (xs ++ zs) l g ≡ pick g (parts-before xs ++ parts-after zs)
     unfolding part
-    part-elsewhere g h = rw (parts-split xs zs) (pick-other g (parts-before xs) (head-part xs ++ tail-part zs) (parts-after zs) (rw head-part-first h))
+    part-elsewhere g h = rw (parts-split xs zs) (pick-other g (parts-before xs) (head-part s l xs ++ tail-part zs) (parts-after zs) (rw head-part-first h))
 
   -- what g heads after y came between xs and zs
   unfoldable pub with-part : (xs : List Order) → Order → (zs : List Order) → (g : ℕ) → List Order
   with-part xs y zs g =
       cond (ltb l (level s (y .key)))
-      (cond (eqb (y .key) g) (y ∷ tail-part zs) (cond (eqb (first-key (head-part xs)) g) (head-part xs) (part s (xs ++ zs) l g)))
+      (cond (eqb (y .key) g) (y ∷ tail-part zs) (cond (eqb (first-key (head-part s l xs)) g) (head-part s l xs) (part s (xs ++ zs) l g)))
       (cond (eqb l (level s (y .key)))
-      (cond (eqb (first-key (head-part xs)) g) (head-part xs ++ y ∷ tail-part zs) (part s (xs ++ zs) l g))
+      (cond (eqb (first-key (head-part s l xs)) g) (head-part s l xs ++ y ∷ tail-part zs) (part s (xs ++ zs) l g))
       (part s (xs ++ zs) l g))
 
   module _ (xs : List Order) (y : Order) (zs : List Order) (u : Up 1 (xs ++ y ∷ zs)) where
@@ -142,20 +140,20 @@ module _ (s : Sizes) (l : ℕ) where
     key-good = up-past xs y zs 1 u
 
     -- below y's level: the open partition is cut in two
-    pub part-left : l < level s (y .key) → part s (xs ++ y ∷ zs) l (first-key (head-part xs)) ≡ head-part xs
+    pub part-left : l < level s (y .key) → part s (xs ++ y ∷ zs) l (first-key (head-part s l xs)) ≡ head-part s l xs
     part-left h = part-at xs (y ∷ zs) u ∙ rw (tail-high y zs h, append-nil)
 
-    pub parts-high : l < level s (y .key) → partitions s l (list-at s l (xs ++ y ∷ zs)) ≡ parts-before xs ++ head-part xs ∷ [] ++ (y ∷ tail-part zs) ∷ parts-after zs
-    parts-high h = rw (parts-split xs (y ∷ zs), tail-high y zs h, after-high y zs h, append-nil (head-part xs), append-assoc)
+    pub parts-high : l < level s (y .key) → partitions s l (list-at s l (xs ++ y ∷ zs)) ≡ parts-before xs ++ head-part s l xs ∷ [] ++ (y ∷ tail-part zs) ∷ parts-after zs
+    parts-high h = rw (parts-split xs (y ∷ zs), tail-high y zs h, after-high y zs h, append-nil (head-part s l xs), append-assoc)
 
     pub part-right : l < level s (y .key) → part s (xs ++ y ∷ zs) l (y .key) ≡ y ∷ tail-part zs
     unfolding part first-key
     part-right h =
         rw (parts-high h)
-        (pick-at (parts-before xs ++ head-part xs ∷ []) (y ∷ tail-part zs) (parts-after zs) 0 (rw (parts-high h) at (parts-heads (xs ++ y ∷ zs) u)))
+        (pick-at (parts-before xs ++ head-part s l xs ∷ []) (y ∷ tail-part zs) (parts-after zs) 0 (rw (parts-high h) at (parts-heads (xs ++ y ∷ zs) u)))
 
     -- at y's level: y comes into it
-    pub part-in : level s (y .key) ≡ l → part s (xs ++ y ∷ zs) l (first-key (head-part xs)) ≡ head-part xs ++ y ∷ tail-part zs
+    pub part-in : level s (y .key) ≡ l → part s (xs ++ y ∷ zs) l (first-key (head-part s l xs)) ≡ head-part s l xs ++ y ∷ tail-part zs
     part-in h = part-at xs (y ∷ zs) u ∙ rw (tail-same y zs key-good h)
 
     -- above y's level: nothing changes
@@ -164,7 +162,7 @@ module _ (s : Sizes) (l : ℕ) where
     part-above g h = rw (parts-split xs (y ∷ zs), parts-split xs zs, tail-low y zs h, after-not y zs key-good (omega arith))
 
     -- every other partition stays
-    pub part-other : (g : ℕ) → (first-key (head-part xs) ≡ g → ⊥) → (y .key ≡ g → ⊥) → part s (xs ++ y ∷ zs) l g ≡ part s (xs ++ zs) l g
+    pub part-other : (g : ℕ) → (first-key (head-part s l xs) ≡ g → ⊥) → (y .key ≡ g → ⊥) → part s (xs ++ y ∷ zs) l g ≡ part s (xs ++ zs) l g
     unfolding first-key
     part-other g a b = part-elsewhere xs (y ∷ zs) g a ∙ go (ltb l (level s (y .key))) refl ∙ sym (part-elsewhere xs zs g a)
       where
@@ -175,14 +173,14 @@ module _ (s : Sizes) (l : ℕ) where
     -- ALL IN ONE
     pub part-with : (g : ℕ) → part s (xs ++ y ∷ zs) l g ≡ with-part xs y zs g
     unfolding with-part
-    part-with g = go (ltb l (level s (y .key))) refl (eqb l (level s (y .key))) refl (eqb (y .key) g) refl (eqb (first-key (head-part xs)) g) refl
+    part-with g = go (ltb l (level s (y .key))) refl (eqb l (level s (y .key))) refl (eqb (y .key) g) refl (eqb (first-key (head-part s l xs)) g) refl
       where
         F : ℕ
-        F = first-key (head-part xs)
+        F = first-key (head-part s l xs)
 
-        go : (a : Bool) → ltb l (level s (y .key)) ≡ a → (b : Bool) → eqb l (level s (y .key)) ≡ b → (c : Bool) → eqb (y .key) g ≡ c → (d : Bool) → eqb (first-key (head-part xs)) g ≡ d →
+        go : (a : Bool) → ltb l (level s (y .key)) ≡ a → (b : Bool) → eqb l (level s (y .key)) ≡ b → (c : Bool) → eqb (y .key) g ≡ c → (d : Bool) → eqb (first-key (head-part s l xs)) g ≡ d →
             part s (xs ++ y ∷ zs) l g
-            ≡ cond a (cond c (y ∷ tail-part zs) (cond d (head-part xs) (part s (xs ++ zs) l g))) (cond b (cond d (head-part xs ++ y ∷ tail-part zs) (part s (xs ++ zs) l g)) (part s (xs ++ zs) l g))
+            ≡ cond a (cond c (y ∷ tail-part zs) (cond d (head-part s l xs) (part s (xs ++ zs) l g))) (cond b (cond d (head-part s l xs ++ y ∷ tail-part zs) (part s (xs ++ zs) l g)) (part s (xs ++ zs) l g))
         go true p b q true r d t = rw (← eqb-true (y .key) g r) (part-right (ltb-true l (level s (y .key)) p))
         go true p b q false r true t = rw (← eqb-true F g t) (part-left (ltb-true l (level s (y .key)) p))
         go true p b q false r false t = part-other g (eqb-false F g t) (eqb-false (y .key) g r)

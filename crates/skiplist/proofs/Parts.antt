@@ -14,11 +14,7 @@ use Rattle.placement.specs.declared.Order.{Order}
 use Rattle.skiplist.specs.Lists.{at-least, list-at, run, rest, partitions, first-key}
 use Rattle.skiplist.specs.Image.{quantities-good, orders-good}
 use Rattle.skiplist.specs.Questions.{without}
-
--- keys rise, from a on
-abbrev pub Up : (a : ℕ) → List Order → Type 0
-Up a [] = Unit {0}
-Up a (x ∷ xs) = (a ≤ x .key) × Up (suc (x .key)) xs
+unfoldable pub use Rattle.skiplist.specs.Parts.{Up, below, pick, part}
 
 -- first keys rise, from a on
 abbrev pub Heads : (a : ℕ) → List (List Order) → Type 0
@@ -110,14 +106,6 @@ module _ (st : Order → Bool) where
       go true v = (u .0, v)
       go false v = heads-from (rest st xs) (omega (arith, u .0)) v
 
--- THE PARTITION that f heads, nothing where it heads none
-unfoldable pub pick : (f : ℕ) → List (List Order) → List Order
-pick f [] = []
-pick f (p ∷ ps) = cond (eqb (first-key p) f) p [] ++ pick f ps
-
-unfoldable pub part : Sizes → (orders : List Order) → (l f : ℕ) → List Order
-part s os l f = pick f (partitions s l (list-at s l os))
-
 pub pick-append : (f : ℕ) (ps qs : List (List Order)) → pick f (ps ++ qs) ≡ pick f ps ++ pick f qs
 unfolding pick
 pick-append f [] qs = refl
@@ -157,11 +145,6 @@ up-out (x ∷ xs) y zs a u = (u .0, up-out xs y zs _ (u .1))
 pub up-front : (xs zs : List Order) (a : ℕ) → Up a (xs ++ zs) → Up a xs
 up-front [] zs a u = tt
 up-front (x ∷ xs) zs a u = (u .0, up-front xs zs (suc (x .key)) (u .1))
-
--- every key of xs is below k
-unfoldable pub below : (k : ℕ) → List Order → Bool
-below k [] = true
-below k (x ∷ xs) = ltb (x .key) k && below k xs
 
 pub below-here : (xs : List Order) (z : Order) (zs : List Order) (a : ℕ) → Up a (xs ++ z ∷ zs) → below (z .key) xs ≡ true
 unfolding below

@@ -6,30 +6,27 @@ use Prim.Native.Nat.{ℕ}
 use Rattle.placement.specs.declared.Sizes.{Sizes}
 use Rattle.placement.specs.declared.Order.{Order}
 use Rattle.skiplist.specs.Lists.{front, starts-one, run, rest, partitions}
+unfoldable pub use Rattle.skiplist.specs.Parts.{opened}
 
 module _ (st : Order → Bool) where
-  -- the partition p is open: what of it is closed by a list, and which one is open after it
+  -- the partition p is open: what of it is closed by a list
   unfoldable pub closed : (p xs : List Order) → List (List Order)
   closed p [] = []
   closed p (x ∷ xs) = cond (st x) (p ∷ closed (x ∷ []) xs) (closed (p ++ x ∷ []) xs)
 
-  unfoldable pub opened : (p xs : List Order) → List Order
-  opened p [] = p
-  opened p (x ∷ xs) = cond (st x) (opened (x ∷ []) xs) (opened (p ++ x ∷ []) xs)
-
   -- ONE LAW: p is open, xs and then zs follow
   pub runs-split : (p xs zs : List Order) →
-      (p ++ run st (xs ++ zs)) ∷ rest st (xs ++ zs) ≡ closed p xs ++ (opened p xs ++ run st zs) ∷ rest st zs
+      (p ++ run st (xs ++ zs)) ∷ rest st (xs ++ zs) ≡ closed p xs ++ (opened st p xs ++ run st zs) ∷ rest st zs
   unfolding run rest closed opened
   runs-split p [] zs = refl
   runs-split p (x ∷ xs) zs = go (runs-split (x ∷ []) xs zs) (runs-split (p ++ x ∷ []) xs zs) (st x)
     where
-      go : (x ∷ run st (xs ++ zs)) ∷ rest st (xs ++ zs) ≡ closed (x ∷ []) xs ++ (opened (x ∷ []) xs ++ run st zs) ∷ rest st zs →
-          (p ++ x ∷ [] ++ run st (xs ++ zs)) ∷ rest st (xs ++ zs) ≡ closed (p ++ x ∷ []) xs ++ (opened (p ++ x ∷ []) xs ++ run st zs) ∷ rest st zs →
+      go : (x ∷ run st (xs ++ zs)) ∷ rest st (xs ++ zs) ≡ closed (x ∷ []) xs ++ (opened st (x ∷ []) xs ++ run st zs) ∷ rest st zs →
+          (p ++ x ∷ [] ++ run st (xs ++ zs)) ∷ rest st (xs ++ zs) ≡ closed (p ++ x ∷ []) xs ++ (opened st (p ++ x ∷ []) xs ++ run st zs) ∷ rest st zs →
           (t : Bool) →
           (p ++ cond t [] (x ∷ run st (xs ++ zs))) ∷ cond t ((x ∷ run st (xs ++ zs)) ∷ rest st (xs ++ zs)) (rest st (xs ++ zs))
           ≡ cond t (p ∷ closed (x ∷ []) xs) (closed (p ++ x ∷ []) xs)
-          ++ (cond t (opened (x ∷ []) xs) (opened (p ++ x ∷ []) xs) ++ run st zs) ∷ rest st zs
+          ++ (cond t (opened st (x ∷ []) xs) (opened st (p ++ x ∷ []) xs) ++ run st zs) ∷ rest st zs
       go a b true = rw (append-nil, a)
       go a b false = rw (← b, append-assoc)
 

@@ -11,19 +11,11 @@ use Rattle.placement.specs.Hash.{level}
 use Rattle.placement.specs.declared.Sizes.{Sizes}
 use Rattle.placement.specs.declared.Order.{Order}
 use Rattle.skiplist.specs.Lists.{front, at-least, list-at, starts-one, run, rest, partitions, first-key}
+unfoldable pub use Rattle.skiplist.specs.Parts.{each, spread}
 use Rattle.skiplist.proofs.Runs.{partitions-front}
 use Rattle.skiplist.proofs.Parts.{Up, Heads, up-from, pick, part, pick-at}
 use Rattle.skiplist.proofs.Edits.{beta-least, starts, stays, parts-heads}
 use Rattle.skiplist.proofs.Descent.{none-above, all-there}
-
-unfoldable pub each : (Order → List Order) → List Order → List Order
-each f [] = []
-each f (x ∷ xs) = f x ++ each f xs
-
--- what a node opens at level l and below: at level 0 itself
-unfoldable pub spread : Sizes → (orders : List Order) → (l : ℕ) → Order → List Order
-spread s os zero x = x ∷ []
-spread s os (suc l) x = each (spread s os l) (part s os (suc l) (x .key))
 
 pub each-append : (f : Order → List Order) (xs zs : List Order) → each f (xs ++ zs) ≡ each f xs ++ each f zs
 unfolding each

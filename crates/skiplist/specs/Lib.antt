@@ -1,4 +1,5 @@
 pub mod Lists
+pub mod Parts
 pub mod Image
 pub mod Questions
 pub mod Book
