@@ -26,10 +26,10 @@ spoilt = record { good = false; some = false; value = 0; count = 0; pieces = rep
 unfoldable pub signed : ℕ → Reader → Reader
 signed v r = record { good = true; some = true; value = v; count = r .count; pieces = r .pieces }
 
-unfoldable pub sign-of : (base zero low high : ℕ) → Reader → ℕ → Reader
-sign-of base zero low high r b =
+unfoldable pub sign-of : (base nought low high : ℕ) → Reader → ℕ → Reader
+sign-of base nought low high r b =
     cond (leb low b && leb b high)
-    (cond (leb (base * r .value + (b - zero)) 4294967295) (signed (base * r .value + (b - zero)) r) spoilt)
+    (cond (leb (base * r .value + (b - nought)) 4294967295) (signed (base * r .value + (b - nought)) r) spoilt)
     spoilt
 
 -- the piece under way ends

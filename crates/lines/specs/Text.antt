@@ -24,6 +24,10 @@ parted (n ∷ ns) = (32 ∷ numeral n) ++ parted ns
 unfoldable pub row : ℕ → List ℕ → List ℕ
 row n ns = (numeral n ++ parted ns) ++ (10 ∷ [])
 
+-- "for each block its number and either `-` or ..": the line of an empty block
+unfoldable pub dash : ℕ → List ℕ
+dash n = (numeral n ++ (32 ∷ [])) ++ (45 ∷ 10 ∷ [])
+
 -- bytes stand at a place of a buffer that was `old`, and r is the place behind them
 pub record Put (old new : List ℕ) (at : ℕ) (bytes : List ℕ) (r : ℕ) : Type 0 where
   pub is : new ≡ sets old at bytes
