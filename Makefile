@@ -5,8 +5,9 @@ CFLAGS ?= -O2 -Wall -Wextra -Werror
 CARGO = CARGO_TARGET_DIR=build/reference cargo
 REFERENCE = build/reference/release
 ARCHIVE = target/staticlib/libballuchaw.a
+PROGRAM = target/bin/console
 
-.PHONY: all run test bench install uninstall clean need reference archive
+.PHONY: all run test bench install uninstall clean need reference archive program
 
 all: archive
 
@@ -20,9 +21,13 @@ reference: need
 archive:
 	rt staticlib balluchaw
 
+program:
+	rt check console
+
 # Document 01's full run.
-run: reference
-	@$(REFERENCE)/console < examples/full-run.txt | tee build/full-run.out
+run: program
+	@mkdir -p build
+	@$(PROGRAM) < examples/full-run.txt | tee build/full-run.out
 	@diff examples/full-run.out build/full-run.out && echo "as document 01 has it"
 
 build/vectors: tests/c/vectors.c include/balluchaw.h archive
@@ -30,9 +35,10 @@ build/vectors: tests/c/vectors.c include/balluchaw.h archive
 	$(CC) $(CFLAGS) -g -Iinclude tests/c/vectors.c $(ARCHIVE) -o $@
 
 # All tests, and last the proofs: the last line is rt ci's own.
-test: reference build/vectors
+test: reference program build/vectors
 	$(CARGO) test --quiet --release --offline --manifest-path reference/Cargo.toml
 	$(REFERENCE)/console < examples/full-run.txt | diff examples/full-run.out -
+	scripts/compare $(PROGRAM) $(REFERENCE) 60
 	$(REFERENCE)/vectors 20000 | build/vectors
 	$(REFERENCE)/vectors 1500 | valgrind --quiet --error-exitcode=9 build/vectors
 	rt fmt --check
