@@ -5,65 +5,171 @@ CFLAGS ?= -O2 -Wall -Wextra -Werror
 CARGO = CARGO_TARGET_DIR=build/reference cargo
 REFERENCE = build/reference/release
 ARCHIVE = target/staticlib/libballuchaw.a
-PROGRAM = target/bin/console
 
-.PHONY: all run test bench install uninstall clean need reference archive program
+# The program of document 01, once its crate is there.
+PROGRAM = $(if $(wildcard crates/console/src),target/bin/console)
 
-all: archive
+.PHONY: all run test tests test-reference test-program test-vectors test-kit test-differential fuzz bench install install-program uninstall clean need reference archive program
+
+all: archive $(if $(PROGRAM),program)
 
 need:
-	@scripts/need cargo:cargo cc:gcc valgrind:valgrind
+	@scripts/need cargo:cargo cc:gcc valgrind:valgrind pkg-config:pkg-config clang:clang \
+		'/usr/lib/llvm-*/lib/clang/*/lib/linux/libclang_rt.fuzzer-x86_64.a:libclang-rt-dev'
 
 reference: need
 	@mkdir -p build
 	@$(CARGO) build --quiet --release --offline --manifest-path reference/Cargo.toml
 
-archive:
+archive: $(ARCHIVE)
+
+$(ARCHIVE): crates.txt $(shell find crates -name '*.rt' -o -name '*.antt')
 	rt staticlib balluchaw
 
 program:
 	rt check console
 
 # Document 01's full run.
-run: program
-	@mkdir -p build
-	@$(PROGRAM) < examples/full-run.txt | tee build/full-run.out
+run: reference
+	@$(REFERENCE)/console < examples/full-run.txt | tee build/full-run.out
 	@diff examples/full-run.out build/full-run.out && echo "as document 01 has it"
 
-build/vectors: tests/c/vectors.c include/balluchaw.h archive
-	@mkdir -p build
-	$(CC) $(CFLAGS) -g -Iinclude tests/c/vectors.c $(ARCHIVE) -o $@
-
 # All tests, and last the proofs: the last line is rt ci's own.
-test: reference program build/vectors
-	$(CARGO) test --quiet --release --offline --manifest-path reference/Cargo.toml
-	$(REFERENCE)/console < examples/full-run.txt | diff examples/full-run.out -
-	scripts/compare $(PROGRAM) $(REFERENCE) 60
-	$(REFERENCE)/vectors 20000 | build/vectors
-	$(REFERENCE)/vectors 1500 | valgrind --quiet --error-exitcode=9 build/vectors
+test: tests
 	rt fmt --check
 	rt ci
 
-# The check beside checks in C, in one process; what the other calls take beyond the check.
-bench: reference archive
-	@mkdir -p build
-	clang -O3 -march=native -c bench/peers/check.c -o build/check.o 2>/dev/null || $(CC) -O3 -march=native -c bench/peers/check.c -o build/check.o
-	clang -O3 -march=native -DTUNED -Dcheck_plain=check_tuned -c bench/peers/check.c -o build/tuned.o 2>/dev/null || $(CC) -O3 -march=native -DTUNED -Dcheck_plain=check_tuned -c bench/peers/check.c -o build/tuned.o
-	$(CC) -O2 -Iinclude -Ibench bench/bench.c build/check.o build/tuned.o $(ARCHIVE) -o build/bench
-	for n in 1000 10000 60000; do $(REFERENCE)/sample 16 16 $$n $$n 80 > build/table-$$n; done
-	$(REFERENCE)/sample 16 16 60000 60000 80 flat > build/table-flat
-	build/bench build/table-1000 build/table-10000 build/table-60000
-	@echo "one partition of 60,000 nodes"
-	build/bench build/table-flat
+# Every test but the proofs. Each says in a line what it did.
+tests: test-reference test-program test-vectors test-kit test-differential fuzz lesson bench-smoke
 
-install: archive
-	install -d $(DESTDIR)$(PREFIX)/lib/pkgconfig $(DESTDIR)$(PREFIX)/include
-	install -m 644 $(ARCHIVE) $(DESTDIR)$(PREFIX)/lib/
-	install -m 644 include/balluchaw.h $(DESTDIR)$(PREFIX)/include/
-	sed 's|@PREFIX@|$(PREFIX)|' balluchaw.pc.in > $(DESTDIR)$(PREFIX)/lib/pkgconfig/balluchaw.pc
+# The reference's own tests, and document 01's full run on its program.
+test-reference: reference
+	@$(CARGO) test --quiet --release --offline --manifest-path reference/Cargo.toml >build/test-reference.log 2>&1 || { cat build/test-reference.log; exit 1; }
+	@$(REFERENCE)/console < examples/full-run.txt | diff examples/full-run.out -
+	@echo "reference: $$(grep -c '^test result: ok' build/test-reference.log) files of tests passed; document 01's full run as it stands there"
+
+# The program beside the reference program: stored runs, and scripts of valid, refused and malformed lines.
+test-program: reference program
+	@scripts/compare $(PROGRAM) $(REFERENCE) 60
+
+# Answers and bytes that the reference recorded, from the archive; some of them again with valgrind watching.
+test-vectors: reference build/vectors
+	@$(REFERENCE)/vectors 20000 | build/vectors
+	@$(REFERENCE)/vectors 1500 | valgrind --quiet --error-exitcode=9 build/vectors heap
+
+build/vectors: tests/c/vectors.c tests/c/zone.h include/balluchaw.h $(ARCHIVE)
+	@mkdir -p build
+	@$(CC) $(CFLAGS) -g -Iinclude tests/c/vectors.c $(ARCHIVE) -o $@
+
+# The archive beside the reference on more than a million calls; then with faults planted, each of which must be found.
+# SEED chooses other calls; TESTS=long does a hundred times as much.
+test-differential: need build/vectors
+	@CARGO_TARGET_DIR=build/differential cargo build --quiet --release --offline --manifest-path tests/differential/Cargo.toml
+	@build/differential/release/differential
+	@build/differential/release/differential faults
+
+# The calls on inputs that a fuzzer makes up, for FUZZ seconds; faults planted before that must be found.
+FUZZ ?= 30
+fuzz: need $(ARCHIVE)
+	@tests/fuzz/run.sh $(FUZZ)
+
+# The example, then the kit as it is installed.
+test-kit: need reference $(ARCHIVE)
+	@mkdir -p build
+	@$(CC) -std=c11 $(CFLAGS) -Iinclude examples/gateway.c $(ARCHIVE) -o build/gateway
+	@build/gateway build/orders.table | diff examples/gateway.out -
+	@echo "gateway: printed what examples/gateway.out has"
+	@CC='$(CC)' tests/install.sh
+
+# The benchmark, see bench/README.md: the archive's calls beside other programs, in one process; then the stack of each call and what the archive takes from
+# elsewhere. Figures go to bench/results. The databases' files stand in a directory of their own in SCRATCH, which should be in memory.
+SCRATCH ?= $(if $(wildcard /dev/shm/.),/dev/shm,build)
+IN_SCRATCH = scratch=$$(mktemp -d $(SCRATCH)/balluchaw-XXXXXX) && trap 'rm -rf "$$scratch"' EXIT
+PEER_CC := $(or $(shell command -v clang),$(CC))
+PEER_FLAGS = -O3 -march=native
+PEERS = build/peers/release/libpeers.a
+BENCH_C = $(addprefix bench/,bench.c timing.c scene.c report.c archive.c plain.c sqlite.c lmdb.c)
+BENCH_H = $(wildcard bench/*.h bench/peers/*.h bench/rust/*.h) include/balluchaw.h
+.PHONY: bench-need bench-build bench-smoke bench-count
+
+bench-need: need
+	@scripts/need sqlite3.h:libsqlite3-dev lmdb.h:liblmdb-dev python3:python3 nm:binutils
+
+bench-build: bench-need archive
+	@mkdir -p build bench/results
+	@CARGO_TARGET_DIR=build/peers cargo build --quiet --release --offline --manifest-path bench/rust/Cargo.toml
+	@$(MAKE) --no-print-directory build/bench build/stack
+
+build/check.o: bench/peers/check.c $(BENCH_H)
+	$(PEER_CC) $(PEER_FLAGS) -c $< -o $@
+
+build/tuned.o: bench/peers/check.c $(BENCH_H)
+	$(PEER_CC) $(PEER_FLAGS) -DTUNED -Dcheck_plain=check_tuned -c $< -o $@
+
+build/bench: $(BENCH_C) $(BENCH_H) build/check.o build/tuned.o $(ARCHIVE) $(PEERS)
+	$(CC) $(CFLAGS) -Iinclude -Ibench -DPEERS_BY='"$(shell $(PEER_CC) --version | head -n 1), $(PEER_FLAGS)"' $(BENCH_C) build/check.o build/tuned.o \
+		$(ARCHIVE) $(PEERS) -lsqlite3 -llmdb -lpthread -ldl -lm -o $@
+
+build/stack: bench/stack.c $(BENCH_H) $(ARCHIVE) $(PEERS)
+	$(CC) $(CFLAGS) -Iinclude -Ibench bench/stack.c $(ARCHIVE) $(PEERS) -lpthread -ldl -lm -o $@
+
+bench: bench-build
+	@$(IN_SCRATCH) && build/bench $$scratch bench/results
+	@(build/stack && bench/undefined $(ARCHIVE)) > build/stack.out; status=$$?; cat build/stack.out; exit $$status
+	@(echo; cat build/stack.out) >> bench/results/results.txt
+	@python3 bench/plot.py bench/results
+
+# The calls' instructions, by callgrind: they do not depend on what else the machine does.
+build/count: bench/count.c $(BENCH_C) $(BENCH_H) build/check.o build/tuned.o $(ARCHIVE) $(PEERS)
+	$(CC) $(CFLAGS) -Iinclude -Ibench bench/count.c bench/scene.c bench/archive.c build/check.o build/tuned.o $(ARCHIVE) $(PEERS) -lpthread -ldl -lm -o $@
+
+bench-count: bench-build
+	@$(MAKE) --no-print-directory build/count
+	@rm -rf build/dumps && mkdir -p build/dumps
+	@valgrind --quiet --tool=callgrind --instr-atstart=no --callgrind-out-file=build/dumps/out build/count
+	@python3 bench/count.py build/dumps | tee bench/results/instructions.txt
+
+# One small table, three rounds: are all answers right, and the bytes as before after a cancel and a put?
+bench-smoke: bench-build
+	@$(IN_SCRATCH) && { build/bench $$scratch > build/bench-smoke.out || { cat build/bench-smoke.out; exit 1; }; }
+	@tail -n 1 build/bench-smoke.out
+	@bench/undefined $(ARCHIVE)
+
+# The kit: what a gateway's programmer needs. uninstall takes away exactly what install puts in place.
+TO = $(DESTDIR)$(PREFIX)
+
+install: archive $(if $(PROGRAM),install-program)
+	install -d $(TO)/lib/pkgconfig $(TO)/include $(TO)/share/man/man3
+	install -m 644 $(ARCHIVE) $(TO)/lib/
+	install -m 644 include/balluchaw.h $(TO)/include/
+	sed 's|@PREFIX@|$(PREFIX)|' balluchaw.pc.in > $(TO)/lib/pkgconfig/balluchaw.pc
+	install -m 644 man/balluchaw.3 $(TO)/share/man/man3/
+
+install-program: program
+	install -d $(TO)/bin $(TO)/share/man/man1
+	install -m 755 $(PROGRAM) $(TO)/bin/balluchaw
+	install -m 644 man/balluchaw.1 $(TO)/share/man/man1/
 
 uninstall:
-	rm -f $(DESTDIR)$(PREFIX)/lib/libballuchaw.a $(DESTDIR)$(PREFIX)/include/balluchaw.h $(DESTDIR)$(PREFIX)/lib/pkgconfig/balluchaw.pc
+	rm -f $(TO)/lib/libballuchaw.a $(TO)/include/balluchaw.h $(TO)/lib/pkgconfig/balluchaw.pc $(TO)/share/man/man3/balluchaw.3
+	rm -f $(TO)/bin/balluchaw $(TO)/share/man/man1/balluchaw.1
 
 clean:
 	rm -rf build target
+
+# ---- documents --------------------------------------------------------------
+.PHONY: pictures lesson
+
+# All pictures again, each from a run through the program.
+pictures: reference
+	@scripts/need python3:python3
+	scripts/pictures pictures
+
+# What docs/class.md and docs/format.md show, the reader, and the stored pictures, against what the programs give now.
+lesson: reference
+	@scripts/need python3:python3
+	scripts/lesson
+	scripts/try-reader
+	rm -rf build/pictures
+	scripts/pictures build/pictures
+	diff -r pictures build/pictures && echo "pictures: as stored"

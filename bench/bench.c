@@ -1,125 +1,168 @@
-/* Times the archive's calls and, beside the check, checks written in C, in one process, the variants taking turns, by thread CPU time.
+/* Times the archive's calls beside other programs that do the same, in one process, the variants taking turns, by thread CPU time.
  *
- *     bench TABLE ..      each TABLE is a file with the bytes of an image
+ *     bench SCRATCH RESULTS      writes RESULTS/results.txt and RESULTS/results.csv; SCRATCH has the files of the databases, best in memory
+ *     bench SCRATCH              one small configuration, few rounds, more questions about the answers; writes nothing
  *
- * For each variant: the median and the best of the rounds, in ns for each order held, and the median of its ratio to check_fast in the same round. */
+ * Checks are in ns for each order held, other calls in µs; medians of the rounds and the best. A put of the archive leaves canonical bytes and checks the
+ * table first. The others' puts are followed by what makes their bytes canonical; where they check first, it is said. */
 #include "balluchaw.h"
-#include "peers/check.h"
+#include "report.h"
+#include "rust/peers.h"
+#include "variants.h"
 
-#include <stdio.h>
 #include <stdlib.h>
 #include <string.h>
 
-enum { ROUNDS = 41, VARIANTS = 4 };
+enum { MOST_VARIANTS = 32, SMOKE_ROUNDS = 3 };
 
-static int ours(const u8 *t, size_t n) { return (int)balluchaw_check(t, n); }
+/* CPU time for the checks of a configuration, for its calls, and for its calls together with the others'. */
+enum { CHECK_SECONDS = 1, CALL_SECONDS = 2, ALL_SECONDS = 5 };
 
-static double middle(double *v) {
-    qsort(v, ROUNDS, sizeof *v, cmp_dbl);
-    return v[ROUNDS / 2];
+static const configuration configurations[] = {
+    {"load 0.80", 16, 16, 100, 80, RANDOM, 1, 1},    {"load 0.80", 16, 16, 300, 80, RANDOM, 1, 1},   {"load 0.80", 16, 16, 1000, 80, RANDOM, 0, 1},
+    {"load 0.80", 16, 16, 3000, 80, RANDOM, 1, 1},   {"load 0.80", 16, 16, 10000, 80, RANDOM, 0, 1}, {"load 0.80", 16, 16, 30000, 80, RANDOM, 1, 1},
+    {"load 0.80", 16, 16, 60000, 80, RANDOM, 0, 1},  {"load 0.65", 16, 16, 1000, 65, RANDOM, 0, 0},  {"load 0.65", 16, 16, 10000, 65, RANDOM, 0, 0},
+    {"load 0.65", 16, 16, 60000, 65, RANDOM, 0, 0},  {"small blocks", 2, 2, 1000, 80, RANDOM, 0, 0}, {"small blocks", 2, 2, 10000, 80, RANDOM, 0, 0},
+    {"small blocks", 2, 2, 30000, 80, RANDOM, 0, 0}, {"large blocks", 64, 32, 1000, 80, RANDOM, 0, 0}, {"large blocks", 64, 32, 10000, 80, RANDOM, 0, 0},
+    {"large blocks", 64, 32, 60000, 80, RANDOM, 0, 0}, {"full", 16, 16, 1000, 100, RANDOM, 0, 0},    {"full", 16, 16, 10000, 100, RANDOM, 0, 0},
+    {"full", 16, 16, 60000, 100, RANDOM, 0, 0},      {"one home", 16, 16, 10000, 80, ONE_HOME, 0, 0}, {"one partition", 16, 16, 60000, 80, FLAT, 0, 0},
+};
+
+/* Calls between two looks at the clock and batches in a round are set by `prepare`: 0 is one call, FEW and MANY follow the number of orders. */
+enum { FEW = -1, MANY = -2 };
+
+static const variant checks[] = {
+    {"check", "balluchaw", archive_check, 0, 0, MANY, 1, {0}},
+    {"check", "check_plain", check_in_plain_c, 0, 0, MANY, 1, {0}},
+    {"check", "check_tuned", check_in_tuned_c, 0, 0, MANY, 1, {0}},
+    {"check", "check_fast", check_in_fast_c, 0, 0, MANY, 1, {0}},
+    {"check", "reference", plain_check, 0, 0, 1, 1, {0}},
+};
+
+static const variant other_checks[] = {
+    {"check", "SQLite integrity_check", sqlite_check, 0, 0, 1, 1, {0}},
+    {"check", "SQLite WITHOUT ROWID integrity_check", clustered_check, 0, 0, 1, 1, {0}},
+};
+
+/* The check stands here again: it takes turns with the calls that begin with it. */
+static const variant calls[] = {
+    {"check", "balluchaw", archive_check, archive_pick, 0, 1, FEW, {0}},
+    {"lookup", "balluchaw", archive_lookup, archive_pick, 0, 1, FEW, {0}},
+    {"seek", "balluchaw", archive_seek, archive_pick, 0, 1, FEW, {0}},
+    {"span of all", "balluchaw", archive_span, 0, 0, 1, FEW, {0}},
+    {"cancel", "balluchaw", archive_cancel, archive_pick, archive_back, 1, FEW, {0}},
+    {"put", "balluchaw", archive_put, archive_away, archive_kept, 1, FEW, {0}},
+    {"put of a held key", "balluchaw", archive_replace, archive_pick, archive_back, 1, FEW, {0}},
+    {"lookup", "reference", plain_lookup, archive_pick, 0, 1, 1, {0}},
+    {"span of all", "reference", plain_span, 0, 0, 1, 1, {0}},
+    {"cancel", "reference", plain_cancel, archive_pick, archive_back, 1, 1, {0}},
+    {"put", "reference", plain_put, archive_away, archive_kept, 1, 1, {0}},
+};
+
+static const variant other_calls[] = {
+    {"lookup", "BTreeMap", map_lookup, 0, 0, 1000, 1, {0}},
+    {"lookup", "SQLite", sqlite_lookup, 0, 0, 1000, 1, {0}},
+    {"lookup", "LMDB", lmdb_lookup, 0, 0, 1000, 1, {0}},
+    {"span of all", "BTreeMap", map_span, 0, 0, 1, FEW, {0}},
+    {"span of all", "SQLite", sqlite_span, 0, 0, 1, 1, {0}},
+    {"span of all", "LMDB", lmdb_span, 0, 0, 1, FEW, {0}},
+    {"cancel", "BTreeMap + all its bytes", map_cancel, archive_pick, map_back, 1, FEW, {0}},
+    {"cancel", "SQLite + VACUUM INTO", sqlite_cancel, sqlite_pick, sqlite_back, 1, 1, {0}},
+    {"cancel", "SQLite WITHOUT ROWID + VACUUM INTO", clustered_cancel, sqlite_pick, sqlite_back, 1, 1, {0}},
+    {"cancel", "SQLite integrity_check + VACUUM INTO", sqlite_cancel_checked, sqlite_pick, sqlite_back, 1, 1, {0}},
+    {"cancel", "LMDB + sorted copy", lmdb_cancel, lmdb_pick, lmdb_back, 1, 1, {0}},
+    {"put", "BTreeMap + all its bytes", map_put, map_away, 0, 1, FEW, {0}},
+    {"put", "SQLite + VACUUM INTO", sqlite_put, sqlite_away, sqlite_back, 1, 1, {0}},
+    {"put", "SQLite WITHOUT ROWID + VACUUM INTO", clustered_put, sqlite_away, sqlite_back, 1, 1, {0}},
+    {"put", "SQLite integrity_check + VACUUM INTO", sqlite_put_checked, sqlite_away, sqlite_back, 1, 1, {0}},
+    {"put", "LMDB + sorted copy", lmdb_put, lmdb_away, 0, 1, 1, {0}},
+};
+
+static int often(int wanted, uint32_t held) {
+    if (wanted == FEW) return 1 + 10000 / (int)held;
+    if (wanted == MANY) return 1 + 60000 / (int)held;
+    return wanted;
 }
 
-static u8 *file(const char *name, size_t *length) {
-    FILE *f = fopen(name, "rb");
-    if (!f) exit(2);
-    fseek(f, 0, SEEK_END);
-    *length = (size_t)ftell(f);
-    rewind(f);
-    u8 *bytes = malloc(*length);
-    if (!bytes || fread(bytes, 1, *length, f) != *length) exit(2);
-    fclose(f);
-    return bytes;
-}
-
-static void checks(const u8 *table, size_t length, u32 held) {
-    int (*call[VARIANTS])(const u8 *, size_t) = {ours, check_plain, check_tuned, check_fast};
-    const char *name[VARIANTS] = {"balluchaw_check", "check_plain", "check_tuned", "check_fast"};
-    double ns[VARIANTS][ROUNDS], ratio[ROUNDS];
-    int turns = 1 + 60000 / (int)held;
-    for (int v = 0; v < VARIANTS; v++)
-        if (call[v](table, length) != 0) {
-            fprintf(stderr, "%s refuses the table\n", name[v]);
-            exit(1);
-        }
-    for (int r = -1; r < ROUNDS; r++)
-        for (int v = 0; v < VARIANTS; v++) {
-            double start = now_ns();
-            for (int i = 0; i < turns; i++)
-                if (call[v](table, length) != 0) exit(1);
-            if (r >= 0) ns[v][r] = (now_ns() - start) / ((double)turns * held);
-        }
-    for (int v = 0; v < VARIANTS; v++) {
-        double best = 1e99, copy[ROUNDS];
-        for (int r = 0; r < ROUNDS; r++) {
-            ratio[r] = ns[v][r] / ns[VARIANTS - 1][r];
-            copy[r] = ns[v][r];
-            if (ns[v][r] < best) best = ns[v][r];
-        }
-        printf("%-16s %7u orders  %7.2f ns/order  best %7.2f  %5.2f of check_fast\n", name[v], held, middle(copy), best, middle(ratio));
+static int add(variant *to, int count, const variant *from, size_t bytes, uint32_t held) {
+    for (size_t i = 0; i < bytes / sizeof *from; i++, count++) {
+        if (count == MOST_VARIANTS) exit(2);
+        to[count] = from[i];
+        to[count].batch = often(from[i].batch, held);
+        to[count].turns = often(from[i].turns, held);
     }
+    return count;
 }
 
-/* A reading's time beyond the check's, in µs. */
-static void beyond(const char *name, const u8 *table, size_t length, u32 held, int reading) {
-    double more[ROUNDS];
-    size_t room = 12 * (size_t)held;
-    u8 *output = malloc(room ? room : 1);
-    u64 state = 7;
-    for (int r = 0; r < ROUNDS; r++) {
-        u32 key = 1 + (u32)(rng(&state) % (P31 - 1));
-        double start = now_ns();
-        balluchaw_check(table, length);
-        double middle_time = now_ns();
-        if (reading == 0) balluchaw_lookup(table, length, key);
-        if (reading == 1) balluchaw_span(table, length, 1, P31 - 1, output, room);
-        if (reading == 2) balluchaw_seek(table, length, key, P31 - 1, 4000000000u);
-        more[r] = (now_ns() - middle_time - (middle_time - start)) / 1000;
-    }
-    printf("%-16s %7u orders  %7.2f µs beyond the check\n", name, held, middle(more));
-    free(output);
+static void measure_checks(scene *s, int rounds) {
+    variant variants[MOST_VARIANTS];
+    int count = add(variants, 0, checks, sizeof checks, s->of.held);
+    if (s->of.others) count = add(variants, count, other_checks, sizeof other_checks, s->of.held);
+    report_keep(variants, count, take_turns(variants, count, s, CHECK_SECONDS, rounds), 0);
 }
 
-/* A cancel's and a put's time beyond the check's, in µs: random orders are taken out and put back, and the bytes are as before. */
-static void edits(u8 *table, size_t length, u32 held) {
-    double out[ROUNDS], in[ROUNDS];
-    size_t room = 12 * (size_t)held;
-    u8 *rows = malloc(room), *before = malloc(length);
-    u64 state = 11;
-    if (!rows || !before) exit(2);
-    memcpy(before, table, length);
-    balluchaw_span(table, length, 1, P31 - 1, rows, room);
-    for (int r = 0; r < ROUNDS; r++) {
-        const u8 *row = rows + 12 * (rng(&state) % held);
-        double start = now_ns();
-        balluchaw_check(table, length);
-        double checked = now_ns();
-        u32 one = balluchaw_cancel(table, length, be32(row));
-        double cancelled = now_ns();
-        balluchaw_check(table, length);
-        double again = now_ns();
-        u32 two = balluchaw_put(table, length, be32(row), be32(row + 4), be32(row + 8));
-        double put = now_ns();
-        if (one || two || memcmp(before, table, length)) exit(1);
-        out[r] = (cancelled - checked - (checked - start)) / 1000;
-        in[r] = (put - again - (again - cancelled)) / 1000;
+static void measure_calls(scene *s, int rounds) {
+    variant variants[MOST_VARIANTS];
+    int count = add(variants, 0, calls, sizeof calls, s->of.held);
+    if (s->of.others) count = add(variants, count, other_calls, sizeof other_calls, s->of.held);
+    report_keep(variants, count, take_turns(variants, count, s, s->of.others ? ALL_SECONDS : CALL_SECONDS, rounds), 1);
+    same_bytes(s);
+}
+
+static void measure(configuration of, int strict) {
+    scene s;
+    scene_open(&s, of, strict);
+    if (of.others) {
+        map_open(&s);
+        sqlite_open(&s);
+        lmdb_open(&s);
     }
-    printf("%-16s %7u orders  %7.2f µs beyond the check\n", "cancel", held, middle(out));
-    printf("%-16s %7u orders  %7.2f µs beyond the check\n", "put", held, middle(in));
-    free(rows);
-    free(before);
+    report_begin(&s);
+    measure_checks(&s, strict ? SMOKE_ROUNDS : 0);
+    if (!of.checks_only) measure_calls(&s, strict ? SMOKE_ROUNDS : 0);
+    report_last(stdout);
+    fflush(stdout);
+    if (of.others) {
+        map_close();
+        sqlite_close_all();
+        lmdb_close();
+    }
+    scene_close(&s);
+}
+
+static FILE *result(const char *directory, const char *name) {
+    char path[600];
+    snprintf(path, sizeof path, "%s/%s", directory, name);
+    FILE *to = fopen(path, "w");
+    if (!to) {
+        perror(path);
+        exit(2);
+    }
+    return to;
+}
+
+static void write_results(const char *directory) {
+    FILE *text = result(directory, "results.txt"), *csv = result(directory, "results.csv");
+    fprintf(text, "One process, variants taking turns, CPU time of the thread; medians of the rounds.\n");
+    fprintf(text, "The checks in C: %s. SQLite %s in memory, secure_delete on. %s.\n\n", PEERS_BY, sqlite_name(), lmdb_name());
+    report_summary(text);
+    report_all(text);
+    report_csv(csv);
+    if (fclose(text) != 0 || fclose(csv) != 0) exit(2);
 }
 
 int main(int argc, char **argv) {
-    for (int i = 1; i < argc; i++) {
-        size_t length;
-        u8 *table = file(argv[i], &length);
-        u32 held = be16(table + 11);
-        checks(table, length, held);
-        beyond("lookup", table, length, held, 0);
-        beyond("span of all", table, length, held, 1);
-        beyond("seek", table, length, held, 2);
-        edits(table, length, held);
-        free(table);
+    if (argc < 2 || argc > 3) return fprintf(stderr, "bench SCRATCH [RESULTS]\n"), 2;
+    scratch = argv[1];
+    if (argc == 2) {
+        measure((configuration){"load 0.80", 16, 16, 1000, 80, RANDOM, 0, 1}, 1);
+        measure((configuration){"full", 2, 2, 300, 100, RANDOM, 0, 0}, 1);
+        printf("\nall answers were right, and the bytes were as before after each cancel and put\n");
+        return 0;
     }
+    for (size_t i = 0; i < sizeof configurations / sizeof *configurations; i++) measure(configurations[i], 0);
+    printf("\n");
+    report_summary(stdout);
+    write_results(argv[2]);
     return 0;
 }

@@ -15,10 +15,25 @@ pub fn program(input: &[u8]) -> Vec<u8> {
     output
 }
 
-/// Reads lines until the input ends and answers each. "The last line may lack
-/// its line end"; the end of input straight after a line end is no line.
-pub fn run(mut input: impl BufRead, mut output: impl Write) -> io::Result<()> {
+/// Reads lines until the input ends and answers each.
+pub fn run(input: impl BufRead, output: impl Write) -> io::Result<()> {
+    answer_all(&mut Console::new(), input, output)
+}
+
+/// The bytes of the table that a run leaves, of length 0 if it makes none.
+pub fn table_after(input: impl BufRead) -> io::Result<Vec<u8>> {
     let mut console = Console::new();
+    answer_all(&mut console, input, io::sink())?;
+    Ok(console.table)
+}
+
+/// "The last line may lack its line end"; the end of input straight after a line
+/// end is no line.
+fn answer_all(
+    console: &mut Console,
+    mut input: impl BufRead,
+    mut output: impl Write,
+) -> io::Result<()> {
     let mut line = Vec::new();
     while input.read_until(b'\n', &mut line)? != 0 {
         if line.last() == Some(&b'\n') {
@@ -170,7 +185,7 @@ impl Console {
                     _ => writeln!(output, "{number}"),
                 }
             }
-            Line::Blocks => self.blocks(output),
+            Line::Blocks => show_blocks(&self.table, output),
         }
     }
 
@@ -204,22 +219,22 @@ impl Console {
         }
         Ok(())
     }
+}
 
-    /// "`blocks` prints 0, then for each block its number and either `-` or level,
-    /// chunk number, first key, count, and the keys."
-    fn blocks(&self, output: &mut impl Write) -> io::Result<()> {
-        let Some(blocks) = image::blocks(&self.table) else {
-            return writeln!(output, "4");
-        };
-        writeln!(output, "0")?;
-        for (number, block) in blocks.iter().enumerate() {
-            match block {
-                Some(block) => writeln!(output, "{number} {}", shown(block))?,
-                None => writeln!(output, "{number} -")?,
-            }
+/// "`blocks` prints 0, then for each block its number and either `-` or level,
+/// chunk number, first key, count, and the keys."
+pub fn show_blocks(table: &[u8], output: &mut impl Write) -> io::Result<()> {
+    let Some(blocks) = image::blocks(table) else {
+        return writeln!(output, "4");
+    };
+    writeln!(output, "0")?;
+    for (number, block) in blocks.iter().enumerate() {
+        match block {
+            Some(block) => writeln!(output, "{number} {}", shown(block))?,
+            None => writeln!(output, "{number} -")?,
         }
-        Ok(())
     }
+    Ok(())
 }
 
 /// Level, chunk number, first key, count, and the keys.

@@ -1,6 +1,8 @@
-//! Made-up numbers for the vectors and the tests, the same on every run.
+//! Made-up numbers for the vectors, the tests and the benchmarks, the same on every run.
 
-use crate::sizes::{Seed, P};
+use crate::image::image;
+use crate::lists::{chunks, lists, Orders, Quantities};
+use crate::sizes::{Made, Seed, Sizes, P};
 
 /// A xorshift generator with 64 bits of state, never 0.
 pub struct Xorshift(u64);
@@ -112,6 +114,61 @@ pub fn some_quantities(generator: &mut Xorshift) -> (u32, u32) {
         _ => generator.within(0, total),
     };
     (total, displayed)
+}
+
+/// The seed of a made-up table.
+#[derive(Clone, Copy, Debug, PartialEq, Eq)]
+pub enum Shape {
+    Random,
+    /// h is the constant 1: every key has level 1, and one partition has every order.
+    Flat,
+    /// h is the constant 0: every key has level β.
+    Tall,
+    /// g is the constant 1: first chunks of all partitions of a level have one home.
+    OneHome,
+}
+
+impl Shape {
+    fn seed(self, generator: &mut Xorshift) -> Seed {
+        let mut seed = random_seed(generator);
+        match self {
+            Shape::Random => {}
+            Shape::Flat => seed.a = [1, 0, 0, 0, 0],
+            Shape::Tall => seed.a = [0; 5],
+            Shape::OneHome => seed.b = [1, 0, 0, 0, 0],
+        }
+        seed
+    }
+}
+
+/// The image of `held` made-up orders, at most `orders`, in as many blocks as make
+/// the chunks `percent` of them.
+pub fn sample(
+    gamma: u32,
+    nodes: u32,
+    orders: u32,
+    held: u32,
+    percent: u32,
+    shape: Shape,
+) -> Vec<u8> {
+    let mut generator = Xorshift::new(u64::from(held));
+    let seed = shape.seed(&mut generator);
+    let mut book = Orders::new();
+    while book.len() < held as usize {
+        let (total, displayed) = some_quantities(&mut generator);
+        book.insert(generator.within(1, P - 1), Quantities { total, displayed });
+    }
+    let sizes = Sizes {
+        gamma,
+        nodes,
+        orders,
+        blocks: 0,
+    };
+    let mut made = Made { sizes, seed };
+    let count = chunks(&made, &lists(&made, &book)).len() as u32;
+    made.sizes.blocks = (count * 100).div_ceil(percent).max(made.sizes.beta());
+    assert!(made.sizes.allowed(), "{} chunks, {sizes:?}", count);
+    image(&made, &book).expect("as many blocks as chunks at least")
 }
 
 /// The 64-bit FNV-1a hash.

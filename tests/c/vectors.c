@@ -1,57 +1,24 @@
 /* Runs the archive on recorded vectors: lines on standard input, in the form that the reference's `vectors` describes.
- * Every lent buffer is a heap block of exactly its length, so that a tool that watches memory sees any step outside it. */
+ * Every lent buffer has exactly its length. By turns it stands against a page behind it and a page before it that nobody may touch; with the
+ * word `heap` it is a heap block of its own, for a tool that watches those. A buffer of length 0 is by turns NULL and such a place. */
+#define _GNU_SOURCE
 #include "balluchaw.h"
+#include "zone.h"
 
 #include <inttypes.h>
-#include <stdio.h>
-#include <stdlib.h>
-#include <string.h>
+
+enum { TABLE, SEED, OUTPUT };
 
 static uint8_t *store;
 static size_t size;
-static unsigned long line_number, calls, wrong;
+static unsigned long line_number, calls, wrong, lendings;
+static zone zones[3];
+static int heap;
 
 static uint64_t fnv(const uint8_t *bytes, size_t n) {
     uint64_t h = 0xcbf29ce484222325u;
     for (size_t i = 0; i < n; i++) h = (h ^ bytes[i]) * 0x100000001b3u;
     return h;
-}
-
-static uint8_t *room(size_t n) {
-    uint8_t *p = malloc(n ? n : 1);
-    if (!p) abort();
-    return p;
-}
-
-/* The first `length` bytes of the store, lent as a block of their own, and taken back afterwards. */
-static uint8_t *lend(size_t length) {
-    if (length > size) {
-        fprintf(stderr, "line %lu: a table longer than the store\n", line_number);
-        exit(2);
-    }
-    uint8_t *p = room(length);
-    if (length) memcpy(p, store, length);
-    return p;
-}
-
-static void take_back(uint8_t *p, size_t length) {
-    if (length) memcpy(store, p, length);
-    free(p);
-}
-
-static size_t unhex(const char *text, uint8_t **out) {
-    if (strcmp(text, "-") == 0) {
-        *out = room(0);
-        return 0;
-    }
-    size_t n = strlen(text) / 2;
-    *out = room(n);
-    for (size_t i = 0; i < n; i++) {
-        unsigned b;
-        if (sscanf(text + 2 * i, "%2x", &b) != 1) exit(2);
-        (*out)[i] = (uint8_t)b;
-    }
-    return n;
 }
 
 static void same(int right, const char *what) {
@@ -60,6 +27,58 @@ static void same(int right, const char *what) {
         wrong++;
         if (wrong <= 10) fprintf(stderr, "line %lu: %s\n", line_number, what);
     }
+}
+
+static uint8_t *room(size_t n) {
+    uint8_t *p = malloc(n);
+    if (!p && n) abort();
+    return p;
+}
+
+/* A buffer of n bytes to be lent. */
+static uint8_t *borrow(int which, size_t n) {
+    lendings++;
+    if (n == 0 && lendings % 2) return NULL;
+    if (heap) return room(n);
+    uint8_t *p = zone_place(&zones[which], n, lendings / 2 % 2);
+    zone_mark(&zones[which], p, n);
+    return p;
+}
+
+static void give_back(int which, uint8_t *p, size_t n) {
+    if (heap) free(p);
+    else if (p) same(zone_whole(&zones[which], p, n), "bytes beside a buffer");
+}
+
+/* The first `length` bytes of the store, lent as a buffer of their own, and taken back afterwards. */
+static uint8_t *lend(size_t length) {
+    if (length > size) {
+        fprintf(stderr, "line %lu: a table longer than the store\n", line_number);
+        exit(2);
+    }
+    uint8_t *p = borrow(TABLE, length);
+    if (length) memcpy(p, store, length);
+    return p;
+}
+
+static void take_back(uint8_t *p, size_t length) {
+    if (length) memcpy(store, p, length);
+    give_back(TABLE, p, length);
+}
+
+static uint8_t hex_byte(const char *text, size_t i) {
+    const char digits[3] = {text[2 * i], text[2 * i + 1], 0};
+    char *end;
+    unsigned long byte = strtoul(digits, &end, 16);
+    if (end != digits + 2) exit(2);
+    return (uint8_t)byte;
+}
+
+/* The bytes of a text, written where there is an output; how many they are. */
+static size_t unhex(const char *text, uint8_t *out) {
+    size_t n = strcmp(text, "-") == 0 ? 0 : strlen(text) / 2;
+    for (size_t i = 0; out && i < n; i++) out[i] = hex_byte(text, i);
+    return n;
 }
 
 static uint32_t number(void) {
@@ -104,20 +123,22 @@ static void step(char *line) {
         if (place < size) store[place] ^= (uint8_t)byte;
     } else if (strcmp(word, "set") == 0) {
         uint32_t place = number();
-        uint8_t *bytes;
-        size_t n = unhex(strtok(NULL, " \n"), &bytes);
-        if (place + n > size) exit(2);
-        memcpy(store + place, bytes, n);
-        free(bytes);
+        char *text = strtok(NULL, " \n");
+        if (place + unhex(text, NULL) > size) exit(2);
+        unhex(text, store + place);
     } else if (strcmp(word, "make") == 0) {
         uint32_t gamma = number(), nodes = number(), orders = number(), blocks = number();
-        uint8_t *seed;
-        size_t seed_length = unhex(strtok(NULL, " \n"), &seed), length = number();
-        uint8_t *t = lend(length);
+        char *text = strtok(NULL, " \n");
+        size_t seed_length = unhex(text, NULL), length = number();
+        uint8_t *t = lend(length), *seed = borrow(SEED, seed_length);
+        unhex(text, seed);
         equals_sign();
         uint32_t n = balluchaw_make(t, length, gamma, nodes, orders, blocks, seed, seed_length);
         take_back(t, length);
-        free(seed);
+        size_t kept = 0;
+        while (kept < seed_length && seed[kept] == hex_byte(text, kept)) kept++;
+        same(kept == seed_length, "the seed after make");
+        give_back(SEED, seed, seed_length);
         expect("make", only(n));
     } else if (strcmp(word, "check") == 0) {
         size_t length = number();
@@ -162,28 +183,30 @@ static void step(char *line) {
         size_t length = number();
         uint32_t lo = number(), hi = number();
         size_t n = number();
-        uint8_t *t = lend(length), *output = room(n);
+        uint8_t *t = lend(length), *output = borrow(OUTPUT, n);
         for (size_t i = 0; i < n; i++) output[i] = (uint8_t)(i % 251);
         equals_sign();
         balluchaw_reply r = balluchaw_span(t, length, lo, hi, output, n);
         take_back(t, length);
         expect("span", r);
         same(fnv(output, n) == strtoull(strtok(NULL, " \n"), NULL, 16), "the output of a span");
-        free(output);
+        give_back(OUTPUT, output, n);
     } else {
         fprintf(stderr, "line %lu: unknown step %s\n", line_number, word);
         exit(2);
     }
 }
 
-int main(void) {
-    static char line[1 << 20];
-    store = room(0);
-    while (fgets(line, sizeof line, stdin)) {
+int main(int count, char **words) {
+    heap = count > 1 && strcmp(words[1], "heap") == 0;
+    char *line = NULL;
+    size_t line_room = 0;
+    while (getline(&line, &line_room, stdin) > 0) {
         line_number++;
         step(line);
     }
+    free(line);
     free(store);
-    printf("vectors: %lu comparisons, %lu wrong\n", calls, wrong);
+    printf("vectors: %lu comparisons, %lu wrong; each buffer exactly as long as lent, %s\n", calls, wrong, heap ? "on the heap" : "against a page");
     return wrong == 0 && calls > 0 ? 0 : 1;
 }

@@ -42,19 +42,19 @@ pub extern "C" fn balluchaw_cancel(table: &mut [u8], key: u32) -> u32
 pub extern "C" fn balluchaw_lookup(table: &[u8], key: u32) -> Reply
     ensures { λ r. ⌜ Look-says (now (table .entry)) key r × (now (table .exit) ≡ now (table .entry)) ⌝ }
 {
-    table::readings::lookup(table, key)
+    readings::calls::lookup(table, key)
 }
 
 #[no_mangle]
 pub extern "C" fn balluchaw_span(table: &[u8], lo: u32, hi: u32, output: &mut [u8]) -> Reply
     ensures { λ r. ⌜ Span-says (now (table .entry)) lo hi r (now (output .entry)) (now (output .exit)) × (now (table .exit) ≡ now (table .entry)) ⌝ }
 {
-    table::readings::span(table, lo, hi, output)
+    readings::calls::span(table, lo, hi, output)
 }
 
 #[no_mangle]
 pub extern "C" fn balluchaw_seek(table: &[u8], lo: u32, hi: u32, reserve: u32) -> Reply
     ensures { λ r. ⌜ Seek-says (now (table .entry)) lo hi reserve r × (now (table .exit) ≡ now (table .entry)) ⌝ }
 {
-    table::readings::seek(table, lo, hi, reserve)
+    readings::calls::seek(table, lo, hi, reserve)
 }

@@ -73,20 +73,20 @@ pub fn cancel(table: &mut [u8], long: usize, key: u32) -> u32
 pub fn show(table: &[u8], long: usize, key: u32) -> Reply
     requires { ⌜ long ≤ length (now table) ⌝ }
 {
-    table::readings::lookup(&table[0..long], key)
+    readings::calls::lookup(&table[0..long], key)
 }
 
 pub fn span(table: &[u8], long: usize, lo: u32, hi: u32, found: &mut [u8]) -> Reply
     requires { ⌜ long ≤ length (now table) ⌝ }
     ensures { λ r. ⌜ (12 * r .total ≤ length (now (found .entry))) × (length (now (found .exit)) ≡ length (now (found .entry))) ⌝ }
 {
-    table::readings::span(&table[0..long], lo, hi, found)
+    readings::calls::span(&table[0..long], lo, hi, found)
 }
 
 pub fn seek(table: &[u8], long: usize, lo: u32, hi: u32, reserve: u32) -> Reply
     requires { ⌜ long ≤ length (now table) ⌝ }
 {
-    table::readings::seek(&table[0..long], lo, hi, reserve)
+    readings::calls::seek(&table[0..long], lo, hi, reserve)
 }
 
 pub fn check(table: &[u8], long: usize) -> u32

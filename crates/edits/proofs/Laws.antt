@@ -1,2 +1,17 @@
--- Laws by subject.
+-- Laws by subject: one level after the other, and what put and cancel answer.
+pub mod WayLevels
+pub mod Settings
+pub mod WaySpots
+pub mod Changed
+pub mod PutTurns
+pub mod CancelTurns
+pub mod Ways
+pub mod TurnLoops
+pub mod Swaps
+pub mod Helds
+pub mod EditAnswers
+pub mod ChunkBounds
+pub mod PutAnswers
+pub mod CancelAnswers
+pub mod SweptImage
 pub mod Sightings

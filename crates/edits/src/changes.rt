@@ -2,31 +2,34 @@
 ghost use mathlib.Core.Path.{_≡_};
 ghost use mathlib.Core.Bool.{true};
 ghost use Prim.Native.Nat.{ℕ, _≤_, _<_};
-ghost use Rattle.placement.specs.Header.{held-in};
+ghost use lib.ListN.{length};
+ghost use Rattle.placement.specs.Header.{held-in, sizes-in};
+ghost use Rattle.skiplist.specs.Lists.{chunks};
 ghost use Rattle.skiplist.specs.Image.{is-image, orders-in};
 ghost use Rattle.skiplist.specs.Questions.{is-key, held};
 ghost use Rattle.placement.specs.Place.{Shaped};
+ghost use Rattle.table.specs.Check.{swept};
 ghost use Rattle.table.specs.Calls.{Put-says, Cancel-says};
-ghost use Rattle.table.specs.Change.{Put-turn, Put-new, Put-held, Cancel-turn, Cancel-held, Put-sure, Sized, Put-free};
+ghost use Rattle.edits.specs.Change.{Put-turn, Put-new, Put-held, Cancel-turn, Cancel-held, Put-sure, Sized, Put-free};
+use levels::edit::cancel_below;
+use levels::edit::cancel_in;
+use levels::edit::put_below;
+use levels::edit::put_in;
+use levels::edit::replace;
+use levels::growth::bottom;
+use levels::growth::growth;
+use levels::spots::scan;
 use placement::Order;
 use placement::Sizes;
 use placement::hash::highest;
 use placement::hash::level_of;
 use placement::header::Header;
 use placement::numbers::put2;
+use readings::calls::Sought;
+use readings::calls::is_key;
+use readings::descent::order_of;
 use table::checking::check;
-use table::growth::bottom;
-use table::growth::growth;
-use table::levels::cancel_below;
-use table::levels::cancel_in;
-use table::levels::put_below;
-use table::levels::put_in;
-use table::levels::replace;
-use table::readings::Sought;
-use table::readings::first_with;
-use table::readings::is_key;
-use table::spots::scan;
-use table::sweep::sweep;
+use table::checking::examine;
 
 // One level of a put; the first key of the partition one level down.
 fn put_level(table: &mut [u8], s: Sizes, level: u32, l: u32, first: u32, o: Order) -> u32
@@ -77,20 +80,19 @@ fn is_held(table: &[u8], key: u32) -> bool
     requires { ⌜ (is-image (now table) ≡ true) × (is-key key ≡ true) × (1 ≤ key) ⌝ }
     ensures { λ r. ⌜ r ≡ held key (orders-in (now (table .entry))) ⌝ }
 {
-    let Sought::Is(o) = first_with(table, key, key, 0) else {
+    let Sought::Is(o) = order_of(table, key) else {
         return false;
     };
     o.key == key
 }
 
-// A put of a key that is not held, while there are fewer orders than N: 8 is counted before any change.
-fn put_free(table: &mut [u8], s: Sizes, held: u32, top: u32, l: u32, o: Order) -> u32
-    requires { ⌜ Put-sure (now table) (o .key) (o .total) (o .displayed) × Sized (now table) s top l (o .key) × Put-free (now table) s (o .key) × (held ≡ held-in (now table)) × (top ≤ 19) ⌝ }
+// A put of a key that is not held, while there are fewer orders than N: 8 is counted before any change. `full` blocks are not empty.
+fn put_free(table: &mut [u8], s: Sizes, held: u32, full: u32, top: u32, l: u32, o: Order) -> u32
+    requires { ⌜ Put-sure (now table) (o .key) (o .total) (o .displayed) × Sized (now table) s top l (o .key) × Put-free (now table) s (o .key) × (held ≡ held-in (now table)) × (full ≡ length (chunks s (orders-in (now table)))) × (top ≤ 19) ⌝ }
     ensures { λ r. ⌜ Put-says (o .key) (o .total) (o .displayed) r (now (table .entry)) (now (table .exit)) ⌝ }
 {
-    let t = sweep(table, s);
     let more = growth(table, s, top, l, o.key);
-    if s.blocks < t.full + more {
+    if s.blocks < full + more {
         return 8;
     }
     put_new(table, s, top, l, o);
@@ -99,8 +101,8 @@ fn put_free(table: &mut [u8], s: Sizes, held: u32, top: u32, l: u32, o: Order) -
 }
 
 // A put that questions 4, 5 and 6 let pass: 7 and 8 are asked of a key that is not held.
-fn put_sure(table: &mut [u8], o: Order) -> u32
-    requires { ⌜ Put-sure (now table) (o .key) (o .total) (o .displayed) × (1 ≤ o .key) ⌝ }
+fn put_sure(table: &mut [u8], full: u32, o: Order) -> u32
+    requires { ⌜ Put-sure (now table) (o .key) (o .total) (o .displayed) × (1 ≤ o .key) × (full ≡ swept (sizes-in (now table)) (now table) .full) ⌝ }
     ensures { λ r. ⌜ Put-says (o .key) (o .total) (o .displayed) r (now (table .entry)) (now (table .exit)) ⌝ }
 {
     let h = Header::read(table);
@@ -114,14 +116,15 @@ fn put_sure(table: &mut [u8], o: Order) -> u32
     if s.orders <= h.held {
         return 7;
     }
-    put_free(table, s, h.held, top, l, o)
+    put_free(table, s, h.held, full, top, l, o)
 }
 
 // Put: 4, 5, 6, 7, 8.
 pub fn put(table: &mut [u8], key: u32, total: u32, displayed: u32) -> u32
     ensures { λ r. ⌜ Put-says key total displayed r (now (table .entry)) (now (table .exit)) ⌝ }
 {
-    if check(table) != 0 {
+    let t = examine(table);
+    if !t.clean {
         return 4;
     }
     if !is_key(key) {
@@ -135,6 +138,7 @@ pub fn put(table: &mut [u8], key: u32, total: u32, displayed: u32) -> u32
     }
     put_sure(
         table,
+        t.full,
         Order {
             key: key,
             total: total,
@@ -197,7 +201,7 @@ pub fn cancel(table: &mut [u8], key: u32) -> u32
     if !is_key(key) {
         return 5;
     }
-    let Sought::Is(o) = first_with(table, key, key, 0) else {
+    let Sought::Is(o) = order_of(table, key) else {
         return 9;
     };
     cancel_sure(table, o.key);

@@ -7,4 +7,5 @@ pub mod Chunks
 pub mod Parts
 pub mod Place
 pub mod Decode
+pub mod Kinds
 pub mod Maps

@@ -1,12 +1,15 @@
 -- What placement promises the layer above: a table told as a map from labels to nodes, [] for a label that is absent, and the bytes that keep one. Assumes nothing: these are definitions.
 use mathlib.Core.Path.{_≡_}
 use mathlib.Core.Logic.{_≢_}
-use mathlib.Core.Bool.{Bool, true, _&&_, cond}
-use mathlib.Core.List.{List, [], _∷_, _++_}
+use mathlib.Core.Bool.{Bool, true, _&&_}
+use mathlib.Core.List.{List, [], _++_}
 use Prim.Native.Nat.{ℕ, _<_, _≤_}
 use lib.Dec.{eqb}
 use lib.ListN.{length}
-use Rattle.placement.specs.Blocks.{Block, holds, Stands, Rule-3, how-many}
+use Rattle.placement.specs.Blocks.{Block, holds}
+use Rattle.placement.specs.Numbers.{Each}
+use Rattle.placement.specs.Kinds.{Kind}
+use Rattle.placement.specs.Kinds
 use Rattle.placement.specs.Sizes.{made}
 use Rattle.placement.specs.Header.{sizes-in, block-long}
 use Rattle.placement.specs.Chunks.{Chunk, home, label-before, block-bytes, all-bytes}
@@ -17,6 +20,7 @@ use Rattle.placement.specs.declared.Label.{Label}
 use Rattle.placement.specs.declared.Found.{Found}
 use Rattle.placement.specs.declared.Found.the-variants.{At, Nothing}
 
+-- THIS VERSION'S CHUNKS: labels of level, first key and chunk number, and rows that are orders. A map takes the three parts of a label
 abbrev pub Map : Type 0
 Map = (level first number : ℕ) → List Order
 
@@ -26,33 +30,44 @@ at F c = F (c .level) (c .first) (c .number)
 abbrev pub chunk : Map → (level first number : ℕ) → Chunk
 chunk F l f i = record { level = l; first = f; number = i; nodes = F l f i }
 
--- the table holds what the map tells
-pub record Holds (m : ℕ) (bs : List (Block Chunk)) (F : Map) : Type 0 where
-  pub told : (c : Chunk) → Stands m bs c → at F c ≡ c .nodes
-  pub full : (c : Chunk) → Stands m bs c → c .nodes ≢ []
-  pub all : (l f i : ℕ) → F l f i ≢ [] → Stands m bs (chunk F l f i)
+-- a label with nodes; a map of labels
+abbrev pub labelled : Label → List Order → Chunk
+labelled w ns = record { level = w .level; first = w .first; number = w .number; nodes = ns }
 
--- the map with a chunk put in, and with a label taken out
+abbrev pub nodes-of : Map → Label → List Order
+nodes-of F w = F (w .level) (w .first) (w .number)
+
+abbrev pub by-parts : (Label → List Order) → Map
+by-parts G l f i = G (record { level = l; first = f; number = i })
+
 unfoldable pub is-label : Chunk → (level first number : ℕ) → Bool
 is-label c l f i = eqb (c .level) l && (eqb (c .first) f && eqb (c .number) i)
 
-unfoldable pub with-chunk : Chunk → Map → Map
-with-chunk c F l f i = cond (is-label c l f i) (c .nodes) (F l f i)
+abbrev pub chunk-kind : Kind Chunk Label Order
+chunk-kind = record {
+  label = λ c. record { level = c .level; first = c .first; number = c .number };
+  rows = λ c. c .nodes;
+  make = λ w ns. labelled w ns;
+  has = λ c w. is-label c (w .level) (w .first) (w .number);
+}
 
-unfoldable pub without-label : Chunk → Map → Map
-without-label c F l f i = cond (is-label c l f i) [] (F l f i)
+-- the table holds what the map tells
+abbrev pub Holds : (m : ℕ) → List (Block Chunk) → Map → Type 0
+Holds m bs F = Kinds.Holds chunk-kind m bs (nodes-of F)
 
 -- a table of sizes s that keeps rule 3 and holds the map F in n blocks
-pub record Keeps (s : Sizes) (bs : List (Block Chunk)) (F : Map) (n : ℕ) : Type 0 where
-  pub long : length bs ≡ s .blocks
-  pub rule-3 : Rule-3 (home s) label-before (s .blocks) bs
-  pub map : Holds (s .blocks) bs F
-  pub count : how-many bs ≡ n
+abbrev pub Keeps : Sizes → List (Block Chunk) → Map → (n : ℕ) → Type 0
+Keeps s bs F n = Kinds.Keeps chunk-kind (home s) label-before (s .blocks) bs (nodes-of F) n
 
--- the map of some chunks
+-- the map with a chunk put in, the map with a label taken out, and the map of some chunks
+unfoldable pub with-chunk : Chunk → Map → Map
+with-chunk c F = by-parts (Kinds.with-chunk chunk-kind c (nodes-of F))
+
+unfoldable pub without-label : Chunk → Map → Map
+without-label c F = by-parts (Kinds.without-label chunk-kind c (nodes-of F))
+
 unfoldable pub map-of : List Chunk → Map
-map-of [] l f i = []
-map-of (c ∷ cs) l f i = cond (is-label c l f i) (c .nodes) (map-of cs l f i)
+map-of cs = by-parts (Kinds.map-of chunk-kind cs)
 
 -- a node of numbers of four bytes
 pub record Fine (o : Order) : Type 0 where
@@ -61,8 +76,7 @@ pub record Fine (o : Order) : Type 0 where
   pub displayed : o .displayed < 4294967296
 
 abbrev pub Fines : List Order → Type 0
-Fines [] = Unit {0}
-Fines (o ∷ os) = Fine o × Fines os
+Fines os = Each Fine os
 
 -- a chunk that the bytes of a block can hold
 pub record Holdable (s : Sizes) (c : Chunk) : Type 0 where
@@ -75,13 +89,6 @@ pub record Holdable (s : Sizes) (c : Chunk) : Type 0 where
 -- every chunk of the map is one that a block can hold
 abbrev pub Sound : Sizes → Map → Type 0
 Sound s F = (l f i : ℕ) → F l f i ≢ [] → Holdable s (chunk F l f i)
-
--- a label with nodes
-abbrev pub labelled : Label → List Order → Chunk
-labelled w ns = record { level = w .level; first = w .first; number = w .number; nodes = ns }
-
-abbrev pub nodes-of : Map → Label → List Order
-nodes-of F w = F (w .level) (w .first) (w .number)
 
 -- the map with nodes under a label, and with the label cleared
 abbrev pub with-nodes : Label → List Order → Map → Map

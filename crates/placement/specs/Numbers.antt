@@ -1,6 +1,6 @@
 -- Numbers in bytes. Document 01, "Bytes of the table": big-endian throughout. Assumes nothing: these are definitions.
 use mathlib.Core.List.{List, [], _∷_, _++_}
-use Prim.Native.Nat.{ℕ, zero, suc, _+_, _*_, _/_, _%_, _^_}
+use Prim.Native.Nat.{ℕ, zero, suc, _+_, _*_, _-_, _/_, _%_, _^_}
 use lib.ListN.{take, drop}
 
 -- the number v in n bytes, and the number that some bytes say
@@ -24,3 +24,12 @@ rows f (x ∷ xs) = f x ++ rows f xs
 unfoldable pub rows-in : {A : Type 0} → (w : ℕ) → (List ℕ → A) → (n : ℕ) → List ℕ → List A
 rows-in w f zero bs = []
 rows-in w f (suc k) bs = f bs ∷ rows-in w f k (drop w bs)
+
+-- 2^32 over d, rounded up: x * over d / 2^32 is x / d, or one more
+unfoldable pub over : (d : ℕ) → ℕ
+over d = (4294967296 + (d - 1)) / d
+
+-- each of a list
+abbrev pub Each : {A : Type 0} → (A → Type 0) → List A → Type 0
+Each P [] = Unit {0}
+Each P (x ∷ xs) = P x × Each P xs

@@ -3,6 +3,7 @@ ghost use mathlib.Core.Path.{_≡_};
 ghost use mathlib.Core.Bool.{true};
 ghost use Prim.Native.Nat.{ℕ, _+_, _*_, _-_, _%_, _^_, _<_, _≤_};
 ghost use lib.Dec.{eqb};
+ghost use Rattle.placement.specs.Numbers.{over};
 ghost use Rattle.placement.specs.Sizes.{least-power, beta, made, seed-good};
 ghost use Rattle.placement.specs.Hash.{hash-from, divides-from, level};
 use crate::Sizes;
@@ -116,4 +117,12 @@ pub fn has_level(s: Sizes, top: u32, l: u32, power: u32, key: u32) -> bool
         return true;
     }
     h / power % s.gamma != 0
+}
+
+// Is the level of a key, which is not the front's, 1? `ratio` is 2^32 over gamma, rounded up.
+pub fn is_lowest(s: Sizes, ratio: u64, key: u32) -> bool
+    requires { ⌜ (seed-good (s .seed) ≡ true) × (0 < s .gamma) × (ratio ≡ over (s .gamma)) × (0 < key) ⌝ }
+    ensures { λ r. ⌜ r ≡ eqb (level s key) 1 ⌝ }
+{
+    !crate::numbers::divisible(hash(s, 0, key), s.gamma, ratio)
 }

@@ -3,6 +3,7 @@ ghost use mathlib.Core.Path.{_≡_};
 ghost use Prim.Native.Nat.{ℕ, _+_, _*_, _<_, _≤_};
 ghost use Rattle.placement.specs.Header.{block-long};
 ghost use mathlib.Core.Bool.{true};
+ghost use Rattle.placement.specs.Numbers.{over};
 ghost use Rattle.placement.specs.Sizes.{seed-good};
 ghost use Rattle.placement.specs.Place.{Shaped, label-in, before-label, same-label, passes-label, home-of};
 use crate::Label;
@@ -76,4 +77,17 @@ pub fn home(s: Sizes, want: Label) -> u32
     let h = crate::hash::hash(s, 5, want.first);
     let t = (h as u64 + 65536 * (want.level as u64) + want.number as u64) % 2147483647;
     (t % (s.blocks as u64)) as u32
+}
+
+// The same without a division: `round` is 2^32 over the number of blocks, rounded up.
+pub fn home_over(s: Sizes, round: u64, want: Label) -> u32
+    requires { ⌜ (seed-good (s .seed) ≡ true) × (0 < s .blocks) × (s .blocks ≤ 65535) × (round ≡ over (s .blocks)) × (want .level ≤ 19) × (want .number ≤ 65535) ⌝ }
+    ensures { λ r. ⌜ (r ≡ home-of s want) × (r < s .blocks) ⌝ }
+{
+    let h = crate::hash::hash(s, 5, want.first);
+    let t = h + 65536 * want.level + want.number;
+    if t < 2147483647 {
+        return crate::numbers::remainder(t, s.blocks, round);
+    }
+    crate::numbers::remainder(t - 2147483647, s.blocks, round)
 }

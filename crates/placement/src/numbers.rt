@@ -1,9 +1,10 @@
 // Numbers in bytes, big-endian, and runs of bytes.
 ghost use mathlib.Core.Path.{_≡_};
-ghost use Prim.Native.Nat.{ℕ, _+_, _*_, _<_, _≤_};
+ghost use Prim.Native.Nat.{ℕ, _+_, _*_, _/_, _%_, _<_, _≤_};
+ghost use lib.Dec.{eqb};
 ghost use lib.ListN.{length, take, drop, replicate};
 ghost use lib.Seq.{sets};
-ghost use Rattle.placement.specs.Numbers.{big, field};
+ghost use Rattle.placement.specs.Numbers.{big, field, over};
 ghost use Rattle.placement.specs.Parts.{Apart, Forward};
 
 // A byte as a wider number.
@@ -19,6 +20,43 @@ fn push(v: u32, b: u8) -> u32
     ensures { λ r. ⌜ (r ≡ 256 * v + b) × (r < 256 * v + 256) ⌝ }
 {
     256 * v + wide(b)
+}
+
+// 2^32 over d, rounded up: what stands in for a division by d.
+pub fn over(d: u32) -> u64
+    requires { ⌜ 0 < d ⌝ }
+    ensures { λ r. ⌜ r ≡ over d ⌝ }
+{
+    (4294967296 + (d as u64 - 1)) / (d as u64)
+}
+
+// x over d, or one more.
+fn quotient(x: u32, d: u32, up: u64) -> u64
+    requires { ⌜ (0 < d) × (up ≡ over d) ⌝ }
+    ensures { λ r. ⌜ (r ≡ x * up / 4294967296) × (r < 4294967296) ⌝ }
+{
+    x as u64 * up / 4294967296
+}
+
+// Does d divide x? Then the quotient is exact.
+pub fn divisible(x: u32, d: u32, up: u64) -> bool
+    requires { ⌜ (0 < d) × (up ≡ over d) ⌝ }
+    ensures { λ r. ⌜ r ≡ eqb (x % d) 0 ⌝ }
+{
+    quotient(x, d, up) * (d as u64) == x as u64
+}
+
+// The remainder of x by d: the quotient is right, or one too large.
+pub fn remainder(x: u32, d: u32, up: u64) -> u32
+    requires { ⌜ (0 < d) × (d ≤ 65535) × (x < 2147483648) × (up ≡ over d) ⌝ }
+    ensures { λ r. ⌜ (r ≡ x % d) × (r < d) ⌝ }
+{
+    let y = x as u64;
+    let t = quotient(x, d, up) * (d as u64);
+    if y < t {
+        return (y + d as u64 - t) as u32;
+    }
+    (y - t) as u32
 }
 
 pub fn be2(s: &[u8], at: usize) -> u32

@@ -1,32 +1,43 @@
 // The search for a label, and what stands in the block that it finds.
 ghost use mathlib.Core.Path.{_≡_};
-ghost use Prim.Native.Nat.{ℕ, _+_, _*_, _<_, _≤_};
+ghost use Prim.Native.Nat.{ℕ, _+_, _*_, _%_, _<_, _≤_};
 ghost use lib.ListN.{getD};
-ghost use Rattle.placement.specs.Numbers.{field};
+ghost use Rattle.placement.specs.Numbers.{field, over};
 ghost use Rattle.placement.specs.Header.{block-long};
-ghost use Rattle.placement.specs.Place.{Shaped, label-in, search-in, free-in};
+ghost use Rattle.placement.specs.Place.{Shaped, label-in, home-of, search-in, free-in};
 use crate::Found;
 use crate::Label;
 use crate::Sizes;
 use crate::labels::home;
+use crate::labels::home_over;
 use crate::labels::label_at;
 use crate::labels::offset;
 use crate::labels::passes;
 use crate::labels::same;
 
+// The block after one, going round.
+fn next(i: u32, m: u32) -> u32
+    requires { ⌜ (i < m) × (m ≤ 65535) ⌝ }
+    ensures { λ r. ⌜ (r ≡ (i + 1) % m) × (r < m) ⌝ }
+{
+    if i + 1 < m {
+        return i + 1;
+    }
+    0
+}
+
 // The block with a label, or nothing: from home on, to the first block that is empty or has that label or a larger one, at most once around.
-pub fn find(table: &[u8], s: Sizes, want: Label) -> Found
-    requires { ⌜ Shaped s (now table) ⌝ }
+fn find_from(table: &[u8], s: Sizes, start: u32, want: Label) -> Found
+    requires { ⌜ Shaped s (now table) × (start ≡ home-of s want) × (start < s .blocks) ⌝ }
     ensures { λ r. ⌜ r ≡ search-in s (now (table .entry)) want ⌝ }
 {
     let m = s.blocks;
-    let start = home(s, want);
+    let mut i = start;
     let mut k: u32 = 0;
     let found = loop {
         if m <= k {
             break Found::Nothing;
         }
-        let i = (start + k) % m;
         let l = label_at(table, s, i);
         if !passes(l, want) {
             if same(l, want) {
@@ -34,9 +45,25 @@ pub fn find(table: &[u8], s: Sizes, want: Label) -> Found
             }
             break Found::Nothing;
         }
+        i = next(i, m);
         k += 1;
     };
     found
+}
+
+pub fn find(table: &[u8], s: Sizes, want: Label) -> Found
+    requires { ⌜ Shaped s (now table) ⌝ }
+    ensures { λ r. ⌜ r ≡ search-in s (now (table .entry)) want ⌝ }
+{
+    find_from(table, s, home(s, want), want)
+}
+
+// The same without a division: `round` is 2^32 over the number of blocks, rounded up.
+pub fn find_over(table: &[u8], s: Sizes, round: u64, want: Label) -> Found
+    requires { ⌜ Shaped s (now table) × (round ≡ over (s .blocks)) × (want .level ≤ 19) × (want .number ≤ 65535) ⌝ }
+    ensures { λ r. ⌜ r ≡ search-in s (now (table .entry)) want ⌝ }
+{
+    find_from(table, s, home_over(s, round, want), want)
 }
 
 // The first empty block from one on, going round.

@@ -1,12 +1,12 @@
 -- Blocks that bytes can hold are read back from their bytes.
 use mathlib.Core.Path.{_≡_, refl, sym, ap, _∙_}
-use mathlib.Core.List.{List, [], _∷_, _++_, map, append-assoc}
+use mathlib.Core.List.{List, [], _++_, map}
 use Prim.Native.Nat.{ℕ, suc, _+_, _*_, _-_}
 use native.Mathlib.Omega.{arith}
 use borrow.Author.Tests.{ne-eqb}
 use lib.ListN.{length, drop, replicate, length-map}
 use lib.Seq.{drop-at}
-use Rattle.placement.specs.Numbers.{big, field, rows, rows-in}
+use Rattle.placement.specs.Numbers.{big, field}
 use Rattle.placement.specs.Header.{block-long}
 use Rattle.placement.specs.Blocks.{Block, holds}
 use Rattle.placement.specs.Chunks.{Chunk, node-bytes, nodes-bytes, block-bytes, all-bytes}
@@ -16,8 +16,9 @@ use Rattle.placement.specs.declared.Sizes.{Sizes}
 use Rattle.placement.specs.declared.Order.{Order}
 use Rattle.placement.specs.declared.Label.{Label}
 use Rattle.placement.proofs.Laws.Numbers.{field-big}
+use Rattle.placement.proofs.Laws.Rows.{rows-back}
 use Rattle.placement.proofs.Laws.Cells.{join, head-label, cut-join}
-use Rattle.placement.proofs.Laws.Bridge.{label-of, Good, free, held, All-good, good-none, good-more, head-of, all-join, even-all}
+use Rattle.placement.proofs.Laws.Bridge.{label-of, Good, free, held, All-good, good-none, good-more, node-long, head-of, all-join, even-all}
 
 node-back : (o : Order) (r : List ℕ) → Fine o → node-in (node-bytes o ++ r) ≡ o
 unfolding node-in node-bytes field big
@@ -27,16 +28,8 @@ node-back o r f =
     let d = field-big 4 (o .displayed) [] (f .displayed) in
     λ i. record { key = k i; total = t i; displayed = d i }
 
-node-past : (o : Order) (r : List ℕ) → drop 12 (node-bytes o ++ r) ≡ r
-unfolding node-bytes big
-node-past o r = refl
-
 nodes-back : (ns : List Order) (r : List ℕ) → Fines ns → nodes-from (length ns) (nodes-bytes ns ++ r) ≡ ns
-unfolding rows rows-in
-nodes-back [] r f = refl
-nodes-back (n ∷ ns) r f =
-    let x = nodes-bytes ns ++ r in
-    rw (append-assoc (node-bytes n) (nodes-bytes ns) r, node-back n x (f .0), node-past n x, nodes-back ns r (f .1))
+nodes-back = rows-back 12 node-bytes node-long node-in Fine node-back
 
 nodes-past : (s : Sizes) (c : Chunk) → nodes-from (length (c .nodes)) (drop 8 (block-bytes s (holds c))) ≡ nodes-from (length (c .nodes)) (nodes-bytes (c .nodes) ++ replicate (12 * (s .nodes - length (c .nodes))) 0)
 unfolding block-bytes big

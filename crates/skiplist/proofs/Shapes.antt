@@ -2,17 +2,18 @@
 use mathlib.Core.Path.{_≡_, refl, ap, _∙_, subst}
 use mathlib.Core.Bool.{Bool, true, false, _&&_, _||_, cond, or-true, and-false}
 use mathlib.Core.List.{List, [], _∷_, _++_, append-nil}
-use Prim.Native.Nat.{ℕ, suc, _≤_}
+use Prim.Native.Nat.{ℕ, suc, _≤_, _<_}
 use native.Mathlib.Omega.{arith}
 use borrow.Author.Tests.{ltb-true, ltb-false, eqb-true, eqb-false, eq-eqb, ne-eqb, lt-ltb, le-ltb}
-use lib.Dec.{ltb, eqb}
+use lib.Dec.{ltb, leb, eqb}
+use Rattle.placement.specs.Hash.{level}
 use Rattle.placement.specs.declared.Sizes.{Sizes}
 use Rattle.placement.specs.declared.Order.{Order}
 use Rattle.skiplist.specs.Lists.{front, at-least, list-at, starts-one, run, rest, first-key}
 use Rattle.skiplist.specs.Image.{into}
 use Rattle.skiplist.specs.Questions.{held, without, with-order}
 use Rattle.skiplist.proofs.Runs.{partitions-front}
-use Rattle.skiplist.proofs.Parts.{Up, up-from, and-left, and-right, at-least-up, rest-heads, pick, part, pick-past, without-here, below, below-here}
+use Rattle.skiplist.proofs.Parts.{Up, up-from, and-left, and-right, or-left, or-right, at-least-up, rest-heads, pick, part, pick-past, without-here, below, below-here}
 
 -- where a key comes among rising orders
 pub data Place (k : ℕ) (os : List Order) : Type 0 where
@@ -114,3 +115,22 @@ part-direct s os l f u =
           append-nil (run (starts-one s l) (at-least s l os)),
         )
     go false e = refl
+
+-- a key that is not held heads no partition
+from-none : (st : Order → Bool) (f : ℕ) (xs : List Order) → held f xs ≡ false → from-key st f xs ≡ []
+unfolding from-key held
+from-none st f [] e = refl
+from-none st f (x ∷ xs) e = rw (or-left (eqb (x .key) f) (held f xs) e) (from-none st f xs (or-right (eqb (x .key) f) (held f xs) e))
+
+held-least : (s : Sizes) (l f : ℕ) (xs : List Order) → held f xs ≡ false → held f (at-least s l xs) ≡ false
+unfolding held at-least
+held-least s l f [] e = e
+held-least s l f (x ∷ xs) e = go (leb l (level s (x .key))) (held-least s l f xs (or-right (eqb (x .key) f) (held f xs) e))
+  where
+    go : (t : Bool) → held f (at-least s l xs) ≡ false → held f (cond t (x ∷ at-least s l xs) (at-least s l xs)) ≡ false
+    go true h = rw (or-left (eqb (x .key) f) (held f xs) e) h
+    go false h = h
+
+pub part-none : (s : Sizes) (os : List Order) (l f : ℕ) → Up 1 os → 0 < f → held f os ≡ false → part s os l f ≡ []
+unfolding list-at held front
+part-none s os l f u p e = part-direct s os l f u ∙ from-none (starts-one s l) f (list-at s l os) (rw (ne-eqb 0 f (omega arith)) (held-least s l f os e))

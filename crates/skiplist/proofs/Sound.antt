@@ -15,6 +15,7 @@ use Rattle.placement.specs.Chunks.{Chunk}
 use Rattle.placement.specs.Maps.{map-of, Fine, Fines, Holdable, Sound}
 use Rattle.placement.specs.declared.Sizes.{Sizes}
 use Rattle.placement.specs.declared.Order.{Order}
+use Rattle.placement.proofs.Laws.Sizes.{some-blocks}
 use Rattle.placement.proofs.Laws.Keeps.{map-only}
 use Rattle.skiplist.specs.Lists.{front, at-least, list-at, partitions, first-key, masked, chunks}
 use Rattle.skiplist.specs.Image.{quantities-good, orders-good, fits}
@@ -123,4 +124,4 @@ chunks-full s os m c a e = omega (arith, piece-full s os c (limits s m .nodes-so
 pub chunks-sound : (s : Sizes) (os : List Order) → made s ≡ true → orders-good 1 os ≡ true → fits s os ≡ true → Sound s (map-of (chunks s os))
 unfolding Chunks-are
 chunks-sound s os m g f l h i w =
-    map-only (Holdable s) (chunks s os) (λ c a. piece-holdable s os c m g f (chunks-are s os c m .0 a)) l h i w
+    map-only s (some-blocks s m) (Holdable s) (chunks s os) (λ c a. piece-holdable s os c m g f (chunks-are s os c m .0 a)) l h i w

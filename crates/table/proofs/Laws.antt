@@ -1,4 +1,4 @@
--- Laws by subject: the code's steps (Steps, Turns, Passes); then that the check decides question 4 (Came to Decides).
+-- Laws by subject: the code's steps (Steps, Turns, Passes); that the check decides question 4 (Came to Decides); runs of calls (Makes to Wrong); make.
 pub mod Steps
 pub mod Turns
 pub mod Passes
@@ -28,37 +28,4 @@ pub mod Decided
 pub mod Seeds
 pub mod Fronts
 pub mod Making
-pub mod Visits
-pub mod Rows
-pub mod Chunked
-pub mod Tours
-pub mod Tallies
-pub mod Answers
-pub mod Replies
-pub mod Scanning
-pub mod Growing
-pub mod CarryFronts
-pub mod Takes
-pub mod Flushes
-pub mod Chunking
-pub mod Pouring
-pub mod Replacing
-pub mod Levels
-pub mod Parting
-pub mod Changing
 pub mod MaskedKeys
-pub mod WayLevels
-pub mod Settings
-pub mod WaySpots
-pub mod Changed
-pub mod PutTurns
-pub mod CancelTurns
-pub mod Ways
-pub mod TurnLoops
-pub mod Swaps
-pub mod Helds
-pub mod EditAnswers
-pub mod ChunkBounds
-pub mod PutAnswers
-pub mod CancelAnswers
-pub mod SweptImage

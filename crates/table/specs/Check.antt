@@ -1,4 +1,5 @@
 -- The check as it is computed: rule 1, one pass over the blocks, and the walk. Assumes nothing: these are definitions.
+use mathlib.Core.Path.{_≡_}
 use mathlib.Core.Bool.{Bool, true, false, _&&_, cond}
 use mathlib.Core.List.{List}
 use Prim.Native.Nat.{ℕ, zero, suc, _+_, _*_, _-_}
@@ -7,6 +8,7 @@ use lib.ListN.{getD}
 use Rattle.placement.specs.Sizes.{beta}
 use Rattle.placement.specs.Header.{block-long, sizes-in, held-in, rule-1}
 use Rattle.placement.specs.declared.Sizes.{Sizes}
+use Rattle.skiplist.specs.Image.{is-image}
 use Rattle.table.specs.declared.Seen.{Seen}
 use Rattle.table.specs.declared.Tally.{Tally}
 use Rattle.table.specs.Walk.{opens-of}
@@ -49,3 +51,13 @@ ended x = x .ok && (eqb (x .orders) 0 && eqb (x .chunks) 0)
 unfoldable pub check-passes : List ℕ → Bool
 check-passes bs =
     rule-1 bs && (swept (sizes-in bs) bs .clean && ended (walked (sizes-in bs) bs (held-in bs) (swept (sizes-in bs) bs .full)))
+
+-- what it gives: whether the bytes pass, and where they do the number of full blocks that the pass counted
+pub record Passed (bs : List ℕ) (r : Tally) : Type 0 where
+  pub passes : r .clean ≡ check-passes bs
+  pub count : r .clean ≡ true → r .full ≡ swept (sizes-in bs) bs .full
+
+-- .. and bytes that pass are an image
+pub record Examined (bs : List ℕ) (r : Tally) : Type 0 where
+  pub image : r .clean ≡ is-image bs
+  pub count : r .clean ≡ true → r .full ≡ swept (sizes-in bs) bs .full

@@ -2,9 +2,4 @@ pub mod Walk
 pub mod Check
 pub mod Make
 pub mod Calls
-pub mod Visit
-pub mod Edit
-pub mod Pour
-pub mod Scan
-pub mod Change
 pub mod Promise

@@ -2,9 +2,10 @@
 ghost use mathlib.Core.Path.{_≡_};
 ghost use Prim.Native.Nat.{_/_, _^_, _≤_};
 ghost use Rattle.placement.specs.Sizes.{beta};
-ghost use Rattle.table.specs.Check.{check-passes};
+ghost use Rattle.table.specs.Check.{Passed, Examined};
 ghost use Rattle.table.specs.Calls.{check-number};
 use crate::Seen;
+use crate::Tally;
 use crate::sweep::finished;
 use crate::sweep::sweep;
 use crate::walk::walk_partition;
@@ -12,19 +13,23 @@ use placement::Sizes;
 use placement::hash::highest;
 use placement::header::Header;
 use placement::header::rule_one;
+use placement::numbers::over;
 
-// Do the bytes pass rule 1, the pass over the blocks and the walk?
-fn passes(table: &[u8]) -> bool
-    ensures { λ r. ⌜ r ≡ check-passes (now (table .entry)) ⌝ }
+// Do the bytes pass rule 1, the pass over the blocks and the walk? Where they do, how many blocks are full.
+fn passes(table: &[u8]) -> Tally
+    ensures { λ r. ⌜ Passed (now (table .entry)) r ⌝ }
 {
     if !rule_one(table) {
-        return false;
+        return Tally {
+            clean: false,
+            full: 0,
+        };
     }
     let h = Header::read(table);
     let s = h.sizes;
     let t = sweep(table, s);
     if !t.clean {
-        return false;
+        return t;
     }
     let top = highest(s);
     let x = Seen {
@@ -33,14 +38,35 @@ fn passes(table: &[u8]) -> bool
         orders: h.held + 1,
         chunks: t.full,
     };
-    finished(walk_partition(table, s, top, top, power(s, top), 0, x))
+    let clean = finished(walk_partition(
+        table,
+        s,
+        over(s.gamma),
+        over(s.blocks),
+        top,
+        top,
+        power(s, top),
+        0,
+        x,
+    ));
+    Tally {
+        clean: clean,
+        full: t.full,
+    }
+}
+
+// Are the bytes an image, and of how many chunks?
+pub fn examine(table: &[u8]) -> Tally
+    ensures { λ r. ⌜ Examined (now (table .entry)) r ⌝ }
+{
+    passes(table)
 }
 
 // Check: question 4.
 pub fn check(table: &[u8]) -> u32
     ensures { λ r. ⌜ (r ≡ check-number (now (table .entry))) × (now (table .exit) ≡ now (table .entry)) ⌝ }
 {
-    if passes(table) {
+    if examine(table).clean {
         return 0;
     }
     4

@@ -1,9 +1,10 @@
 // One pass over the blocks, and the whole check.
 ghost use mathlib.Core.Path.{_≡_};
 ghost use mathlib.Core.Bool.{Bool, cond};
-ghost use Prim.Native.Nat.{ℕ, _+_, _<_, _≤_};
+ghost use Prim.Native.Nat.{ℕ, _+_, _-_, _<_, _≤_};
+ghost use lib.ListN.{length};
 ghost use Rattle.placement.specs.Place.{Shaped};
-ghost use Rattle.table.specs.Check.{used-of, more-of, swept, ended};
+ghost use Rattle.table.specs.Check.{zeros-from, used-of, more-of, swept, ended};
 use crate::Seen;
 use crate::Tally;
 use placement::Sizes;
@@ -30,6 +31,31 @@ fn more(full: u32, level: u32) -> u32
     full + 1
 }
 
+// Where a run of unused nodes ends that is looked at as one: 256 bytes on, or where the block ends.
+fn run(j: usize, long: usize) -> usize
+    requires { ⌜ (j < long) × (long ≤ 392) ⌝ }
+    ensures { λ r. ⌜ (j < r) × (r ≤ long) ⌝ }
+{
+    if j + 256 < long {
+        return j + 256;
+    }
+    long
+}
+
+// Whether all bytes from a place up to another are zero. Every byte is looked at, so that many can be at once.
+fn zeros(table: &[u8], from: usize, end: usize) -> bool
+    requires { ⌜ end ≤ length (now table) ⌝ }
+    ensures { λ r. ⌜ r ≡ zeros-from (now (table .entry)) (end - from) from ⌝ }
+{
+    let mut any: u8 = 0;
+    let mut j = from;
+    while j < end {
+        any = any | table[j];
+        j += 1;
+    }
+    any == 0
+}
+
 // Whether all unused bytes are zero, and how many blocks are not empty.
 pub fn sweep(table: &[u8], s: Sizes) -> Tally
     requires { ⌜ Shaped s (now table) ⌝ }
@@ -46,11 +72,12 @@ pub fn sweep(table: &[u8], s: Sizes) -> Tally
         let n = placement::numbers::wide(table[at + 1]);
         let mut j = used(level, n);
         while j < long {
-            if table[at + j] != 0 {
+            let end = run(j, long);
+            if !zeros(table, at + j, at + end) {
                 clean = false;
                 break 'blocks;
             }
-            j += 1;
+            j = end;
         }
         full = more(full, level);
         i += 1;

@@ -4,7 +4,8 @@ ghost use mathlib.Core.Bool.{Bool, true};
 ghost use Prim.Native.Nat.{ℕ, _+_, _*_, _-_, _/_, _^_, _<_, _≤_};
 ghost use lib.ListN.{length};
 ghost use Rattle.placement.specs.Sizes.{beta, seed-good};
-ghost use Rattle.table.specs.Walk.{Walkable, node-of, wrong-seen, nothing-in, quantities-ok, belongs-in, counted, enters-ok, entered-seen, ended-seen, stops-at, nodes-by, opens-of};
+ghost use Rattle.placement.specs.Numbers.{over};
+ghost use Rattle.table.specs.Walk.{Walkable, node-of, wrong-seen, nothing-in, quantities-ok, belongs-in, counts, counted, enters-ok, entered-seen, ended-seen, stops-at, nodes-by, opens-of};
 use crate::Seen;
 use placement::Found;
 use placement::Label;
@@ -77,28 +78,43 @@ fn belongs(s: Sizes, top: u32, level: u32, power: u32, first: u32, opens: bool, 
     placement::hash::has_level(s, top, level, power, key)
 }
 
-// A node of level 1 comes by: the front, or an order.
-fn count(key: u32, x: Seen) -> Seen
-    ensures { λ r. ⌜ r ≡ counted key x ⌝ }
+// May a node of level 1 come by, the front or an order?
+fn comes(key: u32, x: Seen) -> bool
+    ensures { λ r. ⌜ r ≡ counts key x ⌝ }
 {
     if !x.ok {
-        return wrong();
+        return false;
     }
     if key < x.low {
-        return wrong();
+        return false;
     }
     if 2147483647 <= key {
-        return wrong();
+        return false;
     }
-    if x.orders == 0 {
-        return wrong();
-    }
+    1 <= x.orders
+}
+
+// It comes by.
+fn came(key: u32, x: Seen) -> Seen
+    requires { ⌜ counts key x ≡ true ⌝ }
+    ensures { λ r. ⌜ r ≡ counted key x ⌝ }
+{
     Seen {
         ok: true,
         low: key + 1,
         orders: x.orders - 1,
         chunks: x.chunks,
     }
+}
+
+// It comes by if it may.
+fn count(key: u32, x: Seen) -> Seen
+    ensures { λ r. ⌜ r ≡ counted key x ⌝ }
+{
+    if !comes(key, x) {
+        return wrong();
+    }
+    came(key, x)
 }
 
 // A chunk of so many nodes may come next.
@@ -150,18 +166,71 @@ fn stops(nodes: u32, n: u32, x: Seen) -> bool
     n < nodes
 }
 
+// Whether a node of a level 1 chunk has its key: as `belongs` at level 1.
+fn belongs_lowest(s: Sizes, ratio: u64, first: u32, opens: bool, key: u32) -> bool
+    requires { ⌜ (seed-good (s .seed) ≡ true) × (0 < s .gamma) × (ratio ≡ over (s .gamma)) ⌝ }
+    ensures { λ r. ⌜ r ≡ belongs-in s 1 first opens key ⌝ }
+{
+    if opens {
+        return key == first;
+    }
+    if key == 0 {
+        return false;
+    }
+    placement::hash::is_lowest(s, ratio, key)
+}
+
+// The nodes of a level 1 chunk: each stands for itself. `ratio` is 2^32 over gamma, rounded up.
+fn walk_lowest(
+    table: &[u8],
+    s: Sizes,
+    ratio: u64,
+    first: u32,
+    opens: bool,
+    at: usize,
+    left: u32,
+    x: Seen,
+) -> Seen
+    requires { ⌜ Walkable s (now table) × (ratio ≡ over (s .gamma)) × (at + 12 * left ≤ length (now table)) ⌝ }
+    ensures { λ r. ⌜ r ≡ nodes-by (opens-of s (now (table .entry)) 0) s (now (table .entry)) 1 first left at opens x ⌝ }
+{
+    let mut y = x;
+    let mut o = opens;
+    let mut place = at;
+    let mut k = left;
+    while 0 < k {
+        let n = node_of(table, place);
+        if !comes(n.key, y) {
+            return wrong();
+        }
+        if !belongs_lowest(s, ratio, first, o, n.key) {
+            return wrong();
+        }
+        if !quantities(1, n) {
+            return wrong();
+        }
+        y = came(n.key, y);
+        o = false;
+        place += 12;
+        k -= 1;
+    }
+    y
+}
+
 // A partition: its chunks, one after the other, a next one only behind a full one. At level 0 a node stands for itself.
 // `power` is gamma^level / gamma, which is gamma^(level - 1) above level 0.
 pub fn walk_partition(
     table: &[u8],
     s: Sizes,
+    ratio: u64,
+    round: u64,
     top: u32,
     level: u32,
     power: u32,
     first: u32,
     x: Seen,
 ) -> Seen
-    requires { ⌜ Walkable s (now table) × (top ≡ beta s) × (level ≤ top) × (power ≡ s .gamma ^ level / s .gamma) ⌝ }
+    requires { ⌜ Walkable s (now table) × (ratio ≡ over (s .gamma)) × (round ≡ over (s .blocks)) × (top ≡ beta s) × (level ≤ top) × (power ≡ s .gamma ^ level / s .gamma) ⌝ }
     ensures { λ r. ⌜ r ≡ opens-of s (now (table .entry)) level first x ⌝ }
 {
     if level == 0 {
@@ -171,9 +240,10 @@ pub fn walk_partition(
     let mut seen = x;
     let mut number: u32 = 0;
     while number < s.blocks {
-        let Found::At(i) = placement::search::find(
+        let Found::At(i) = placement::search::find_over(
             table,
             s,
+            round,
             Label {
                 level: level,
                 first: first,
@@ -190,6 +260,8 @@ pub fn walk_partition(
         seen = walk_nodes(
             table,
             s,
+            ratio,
+            round,
             top,
             level,
             power,
@@ -212,6 +284,8 @@ pub fn walk_partition(
 pub fn walk_nodes(
     table: &[u8],
     s: Sizes,
+    ratio: u64,
+    round: u64,
     top: u32,
     level: u32,
     power: u32,
@@ -222,34 +296,31 @@ pub fn walk_nodes(
     left: u32,
     x: Seen,
 ) -> Seen
-    requires { ⌜ Walkable s (now table) × (top ≡ beta s) × (1 ≤ level) × (level ≤ top) × (power ≡ s .gamma ^ level / s .gamma) × (below ≡ power / s .gamma) × (at + 12 * left ≤ length (now table)) ⌝ }
+    requires { ⌜ Walkable s (now table) × (ratio ≡ over (s .gamma)) × (round ≡ over (s .blocks)) × (top ≡ beta s) × (1 ≤ level) × (level ≤ top) × (power ≡ s .gamma ^ level / s .gamma) × (below ≡ power / s .gamma) × (at + 12 * left ≤ length (now table)) ⌝ }
     ensures { λ r. ⌜ r ≡ nodes-by (opens-of s (now (table .entry)) (level - 1)) s (now (table .entry)) level first left at opens x ⌝ }
 {
-    if left == 0 {
-        return x;
+    if level == 1 {
+        return walk_lowest(table, s, ratio, first, opens, at, left, x);
     }
-    if !x.ok {
-        return wrong();
+    let mut y = x;
+    let mut o = opens;
+    let mut place = at;
+    let mut k = left;
+    while 0 < k {
+        if !y.ok {
+            return wrong();
+        }
+        let n = node_of(table, place);
+        if !belongs(s, top, level, power, first, o, n.key) {
+            return wrong();
+        }
+        if !quantities(level, n) {
+            return wrong();
+        }
+        y = walk_partition(table, s, ratio, round, top, level - 1, below, n.key, y);
+        o = false;
+        place += 12;
+        k -= 1;
     }
-    let n = node_of(table, at);
-    if !belongs(s, top, level, power, first, opens, n.key) {
-        return wrong();
-    }
-    if !quantities(level, n) {
-        return wrong();
-    }
-    let y = walk_partition(table, s, top, level - 1, below, n.key, x);
-    walk_nodes(
-        table,
-        s,
-        top,
-        level,
-        power,
-        below,
-        first,
-        false,
-        at + 12,
-        left - 1,
-        y,
-    )
+    y
 }

@@ -10,10 +10,10 @@ use Rattle.placement.specs.declared.Order.{Order}
 use Rattle.skiplist.specs.Image.{orders-in}
 use Rattle.skiplist.specs.Questions.{is-key, held, between}
 use Rattle.table.specs.Calls.{Cancel-says}
-use Rattle.table.specs.Visit.{first-enough}
-use Rattle.table.specs.declared.readings.Sought.{Sought}
-use Rattle.table.specs.declared.readings.Sought.the-variants.{Is, Nothing}
-use Rattle.table.proofs.Laws.Replies.{first-is, first-empty, spot-inside, spot-held, none-held}
+use Rattle.readings.specs.Visit.{first-enough}
+use Rattle.readings.specs.declared.calls.Sought.{Sought}
+use Rattle.readings.specs.declared.calls.Sought.the-variants.{Is, Nothing}
+use Rattle.readings.proofs.Laws.Replies.{first-is, first-empty, spot-inside, spot-held, none-held}
 
 module _ (k : ℕ) (os : List Order) (q : Sought) (e : q ≡ first-enough 0 (between k k os)) where
   module _ (o : Order) (z : q ≡ Is o) where

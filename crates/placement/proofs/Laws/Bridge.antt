@@ -1,23 +1,24 @@
--- From the bytes of a table to the orders' blocks: hashes, homes, labels, and each edit. Assumes nothing.
-use mathlib.Core.Path.{_≡_, refl, ap, sym, _∙_}
-use mathlib.Core.List.{List, [], _∷_, _++_, map, append-assoc}
-use Prim.Native.Nat.{ℕ, zero, suc, _+_, _*_, _%_, _≤_, _<_}
-use native.Mathlib.Nat.{mod-lt}
+-- This version's blocks in bytes: a head of 8 bytes with the label, nodes of 12 bytes each, and zeros. The laws of bytes over any width are in Rows and Coded; here the width is fixed. Assumes nothing.
+use mathlib.Core.Path.{_≡_, refl}
+use mathlib.Core.List.{List, [], append-assoc, map}
+use Prim.Native.Nat.{ℕ, suc, _+_, _*_}
 use native.Mathlib.Omega.{arith}
-use lib.ListN.{length, getD, set, length-append, length-set, length-replicate, length-map}
+use lib.ListN.{length, getD, set, length-append, length-replicate}
 use Rattle.placement.specs.declared.Sizes.{Sizes}
 use Rattle.placement.specs.declared.Order.{Order}
-use Rattle.placement.specs.Chunks.{Chunk, home, label-before, block-bytes, all-bytes, nodes-bytes, node-bytes}
-use Rattle.placement.specs.Hash.{h}
+use Rattle.placement.specs.declared.Label.{Label}
 use Rattle.placement.specs.Blocks.{Block, empty, holds}
 use Rattle.placement.specs.Numbers.{field, value-from, big}
 use Rattle.placement.specs.Header.{block-long}
-use Rattle.placement.specs.Place.{label-in, bytes, Store, pull, settle, probe, before-label}
-use Rattle.placement.specs.declared.Label.{Label}
+use Rattle.placement.specs.Chunks.{Chunk, label-before, block-bytes, all-bytes, nodes-bytes, node-bytes}
+use Rattle.placement.specs.Place.{Store, before-label}
 use Rattle.placement.specs.Maps.{Holdable}
-use Rattle.placement.proofs.Laws.Cells.{join, Even, none, more, head-label, cells, Same, cells-same, pull-same, settle-same}
-use Rattle.placement.specs.Numbers.{rows}
 use Rattle.placement.proofs.Laws.Numbers.{field-big}
+use Rattle.placement.proofs.Laws.Rows.{length-rows}
+use Rattle.placement.proofs.Laws.Cells.{join, Even, head-label}
+use Rattle.placement.proofs.Laws.Coded.{Coding, All, listed, rows-join}
+use Rattle.placement.proofs.Laws.Coded
+pub use Rattle.placement.proofs.Laws.Coded.{good-none, good-more}
 
 -- LABELS: what the head of a block's bytes says is the chunk's label
 unfoldable pub label-of : Block Chunk → Label
@@ -33,9 +34,16 @@ pub data Good (s : Sizes) : Block Chunk → Type 0 where
   free : Good s empty
   held : {c : Chunk} → Holdable s c → Good s (holds c)
 
-pub data All-good (s : Sizes) : List (Block Chunk) → Type 0 where
-  good-none : All-good s []
-  good-more : {b : Block Chunk} {bl : List (Block Chunk)} → Good s b → All-good s bl → All-good s (b ∷ bl)
+abbrev pub All-good : Sizes → List (Block Chunk) → Type 0
+All-good s bl = All (Good s) bl
+
+-- a list of blocks as a store
+abbrev pub places : Store (List (Block Chunk))
+places = listed label-of
+
+pub node-long : (o : Order) → length (node-bytes o) ≡ 12
+unfolding node-bytes big
+node-long o = refl
 
 module _ (s : Sizes) where
   number-of : (c : Chunk) → Holdable s c → field 2 2 (block-bytes s (holds c)) ≡ c .number
@@ -54,9 +62,7 @@ module _ (s : Sizes) where
   head-of (held {c = c} k) = rw (number-of c k, first-of c k)
 
   pub length-nodes : (os : List Order) → length (nodes-bytes os) ≡ 12 * length os
-  unfolding rows node-bytes big
-  length-nodes [] = refl
-  length-nodes (o ∷ os) = omega (arith, length-nodes os)
+  length-nodes os = length-rows 12 node-bytes node-long os
 
   pub length-block : {b : Block Chunk} → Good s b → length (block-bytes s b) ≡ block-long s
   unfolding block-bytes block-long big
@@ -64,91 +70,19 @@ module _ (s : Sizes) where
   length-block (held {c = c} k) =
       simp (length-append, length-nodes, length-replicate) (omega (arith, k .nodes))
 
--- BLOCKS as a store: an edit on a list of blocks, and on their bytes, is one edit
-abbrev pub places : Store (List (Block Chunk))
-places =
-    record {
-      look = λ bl i. label-of (getD bl i empty);
-      copy = λ bl i j. set bl j (getD bl i empty);
-      swap = λ bl i j. set (set bl i (getD bl j empty)) j (getD bl i empty);
-      clear = λ bl i. set bl i empty;
-    }
+  -- the coding of a block, in 8 bytes and 12 for each node
+  pub coding : Coding (block-long s) (block-bytes s) label-of (Good s)
+  unfolding block-bytes block-long
+  coding = record { wide = omega arith; clear = refl; free = free; long = λ k. length-block k; head = λ k. head-of k }
 
-module _ (s : Sizes) where
   pub good-at : {bl : List (Block Chunk)} → All-good s bl → (i : ℕ) → Good s (getD bl i empty)
-  good-at good-none i = free
-  good-at (good-more k r) zero = k
-  good-at (good-more k r) (suc i) = good-at r i
+  good-at v i = Coded.good-at coding v i
 
   pub good-set : {bl : List (Block Chunk)} {b : Block Chunk} → All-good s bl → (i : ℕ) → Good s b → All-good s (set bl i b)
-  good-set good-none i kb = good-none
-  good-set (good-more k r) zero kb = good-more kb r
-  good-set (good-more k r) (suc i) kb = good-more k (good-set r i kb)
+  good-set v i k = Coded.good-set coding v i k
 
-  pub map-set : (x : List (Block Chunk)) (i : ℕ) (b : Block Chunk) → map (block-bytes s) (set x i b) ≡ set (map (block-bytes s) x) i (block-bytes s b)
-  map-set [] i b = refl
-  map-set (y ∷ x) zero b = refl
-  map-set (y ∷ x) (suc i) b = ap (λ (r : List (List ℕ)). block-bytes s y ∷ r) (map-set x i b)
-
-  pub bytes-at : (x : List (Block Chunk)) (i m : ℕ) → i < m → length x ≡ m → getD (map (block-bytes s) x) i [] ≡ block-bytes s (getD x i empty)
-  bytes-at [] i m l e = absurd (omega arith)
-  bytes-at (y ∷ x) zero m l e = refl
-  bytes-at (y ∷ x) (suc i) zero l e = absurd (omega arith)
-  bytes-at (y ∷ x) (suc i) (suc m) l e = bytes-at x i m (omega arith) (omega arith)
-
-  pub places-same : (m : ℕ) → Same (cells (block-long s)) places m (λ bl. map (block-bytes s) bl) (λ bl. All-good s bl × (length bl ≡ m))
-  unfolding block-bytes
-  places-same m =
-      record {
-        look = λ x v i l. ap head-label (bytes-at x i m l (v .1)) ∙ head-of s (good-at (v .0) i);
-        copy = λ x v i j li lj. rw (bytes-at x i m li (v .1)) (sym (map-set x j _));
-        swap = λ x v i j li lj. rw (bytes-at x i m li (v .1), bytes-at x j m lj (v .1), ← map-set x i, ← map-set);
-        clear = λ x v i l. sym (map-set x i empty);
-        copy-valid = λ x v i j li lj. (good-set (v .0) j (good-at (v .0) i), length-set x j _ ∙ v .1);
-        swap-valid = λ x v i j li lj.
-            (good-set (good-set (v .0) i (good-at (v .0) j)) j (good-at (v .0) i), simp length-set (v .1));
-      }
-
-  -- THE WHOLE WAY: an edit on the bytes of a head and blocks is the edit on the blocks
   pub all-join : (bl : List (Block Chunk)) → all-bytes s bl ≡ join (map (block-bytes s) bl)
-  unfolding rows join
-  all-join [] = refl
-  all-join (b ∷ bl) = ap (λ (r : List ℕ). block-bytes s b ++ r) (all-join bl)
+  all-join bl = rows-join (block-bytes s) bl
 
   pub even-all : {bl : List (Block Chunk)} → All-good s bl → Even (block-long s) (map (block-bytes s) bl)
-  even-all good-none = none
-  even-all (good-more k r) = more (length-block s k) (even-all r)
-
-  module _ (m : ℕ) (pos : 0 < m) (hd : List ℕ) (eh : length hd ≡ 53) where
-    w8 : 8 ≤ block-long s
-    unfolding block-long
-    w8 = omega arith
-
-    long : (bl : List (Block Chunk)) → length bl ≡ m → length (map (block-bytes s) bl) ≡ m
-    long bl l = length-map bl (block-bytes s) ∙ l
-
-    in-cells : Same (bytes (block-long s)) (cells (block-long s)) m (λ bl. hd ++ join bl) (λ bl. Even (block-long s) bl × (length bl ≡ m))
-    in-cells = cells-same (block-long s) m hd eh w8
-
-    module _ (bl : List (Block Chunk)) (v : All-good s bl) (l : length bl ≡ m) where
-      pub pull-blocks : (home : Label → ℕ) (k e i : ℕ) → e < m → pull (bytes (block-long s)) home m k e i (hd ++ all-bytes s bl) ≡ hd ++ all-bytes s (pull places home m k e i bl)
-      pull-blocks home k e i h =
-          rw (all-join, all-join)
-          (pull-same (bytes (block-long s)) (cells (block-long s)) m _ _ in-cells pos home k e i (map (block-bytes s) bl) (even-all v, long bl l) h
-          ∙ ap (λ (r : List (List ℕ)). hd ++ join r) (pull-same (cells (block-long s)) places m _ _ (places-same m) pos home k e i bl (v, l) h))
-
-      pub settle-blocks : (k e i : ℕ) → e < m → settle (bytes (block-long s)) m k e i (hd ++ all-bytes s bl) ≡ hd ++ all-bytes s (settle places m k e i bl)
-      settle-blocks k e i h =
-          rw (all-join, all-join)
-          (settle-same (bytes (block-long s)) (cells (block-long s)) m _ _ in-cells pos k e i (map (block-bytes s) bl) (even-all v, long bl l) h
-          ∙ ap (λ (r : List (List ℕ)). hd ++ join r) (settle-same (cells (block-long s)) places m _ _ (places-same m) pos k e i bl (v, l) h))
-
-      pub label-blocks : (i : ℕ) → i < m → label-in (block-long s) (hd ++ all-bytes s bl) i ≡ label-of (getD bl i empty)
-      label-blocks i h =
-          rw all-join
-          (in-cells .look (map (block-bytes s) bl) (even-all v, long bl l) i h ∙ places-same m .look bl (v, l) i h)
-
-      pub probe-blocks : (want : Label) (k i : ℕ) → probe (label-in (block-long s) (hd ++ all-bytes s bl)) m want k i ≡ probe (λ j. label-of (getD bl j empty)) m want k i
-      unfolding probe
-      probe-blocks want zero i = refl
-      probe-blocks want (suc k) i = rw (label-blocks (i % m) (mod-lt i pos), probe-blocks want k (suc i))
+  even-all v = Coded.even-all coding v

@@ -20,9 +20,9 @@ use Rattle.placement.specs.declared.Sizes.{Sizes}
 use Rattle.placement.proofs.Laws.Bridge.{Good, free, held, All-good, good-none, good-more, all-join}
 use Rattle.placement.proofs.Laws.Cells.{join, cut-length, as-table}
 use Rattle.placement.specs.Numbers.{rows-in}
-use Rattle.placement.specs.Numbers.{rows}
+use Rattle.placement.proofs.Laws.Rows.{rows-count, rows-some, rows-again, each-read}
 use Rattle.placement.proofs.Laws.Numbers.{Bytes, bytes-take, bytes-drop, take-more, field-again, field-less}
-use Rattle.placement.specs.Maps.{Fines}
+use Rattle.placement.specs.Maps.{Fine}
 
 pub node-again : (xs : List ℕ) → 12 ≤ length xs → Bytes xs → node-bytes (node-in xs) ≡ take 12 xs
 unfolding node-bytes node-in
@@ -30,25 +30,15 @@ node-again xs h b =
     rw (field-again 0 4 xs (omega arith) b, field-again 4 4 xs (omega arith) b, field-again 8 4 xs (omega arith) b, take-more 4 4 xs, take-more 8 4 xs)
 
 pub nodes-again : (k : ℕ) (xs : List ℕ) → 12 * k ≤ length xs → Bytes xs → nodes-bytes (nodes-from k xs) ≡ take (12 * k) xs
-unfolding rows rows-in
-nodes-again zero xs h b = refl
-nodes-again (suc k) xs h b =
-    let e : 12 * suc k ≡ 12 + 12 * k = omega arith in
-    rw (e, node-again xs (omega arith) b, nodes-again k (drop 12 xs) (simp length-drop (omega arith)) (bytes-drop 12 xs b)) (take-more 12 (12 * k) xs)
+nodes-again = rows-again 12 node-in node-bytes node-again
 
--- nodes read from bytes are of numbers of four bytes
-fine-read : (k : ℕ) (xs : List ℕ) → 12 * k ≤ length xs → Bytes xs → Fines (nodes-from k xs)
-unfolding rows-in node-in
-fine-read zero xs h b = tt
-fine-read (suc k) xs h b = (
-  record { key = field-less 0 4 xs (omega arith) b; total = field-less 4 4 xs (omega arith) b; displayed = field-less 8 4 xs (omega arith) b },
-  fine-read k (drop 12 xs) (simp length-drop (omega arith)) (bytes-drop 12 xs b),
-)
+-- a node read from bytes is of numbers of four bytes
+fine-read : (xs : List ℕ) → 12 ≤ length xs → Bytes xs → Fine (node-in xs)
+unfolding node-in
+fine-read xs h b = record { key = field-less 0 4 xs (omega arith) b; total = field-less 4 4 xs (omega arith) b; displayed = field-less 8 4 xs (omega arith) b }
 
 pub nodes-count : (k : ℕ) (xs : List ℕ) → length (nodes-from k xs) ≡ k
-unfolding rows-in
-nodes-count zero xs = refl
-nodes-count (suc k) xs = ap suc (nodes-count k (drop 12 xs))
+nodes-count = rows-count 12 node-in
 
 -- what is asked of the bytes of one block: all zero, or a label, nodes and zeros
 pub data Clean (s : Sizes) (x : List ℕ) : Type 0 where
@@ -94,16 +84,11 @@ block-holdable s x long b (filled l one few rest) =
       level = l;
       first = field-less 4 4 x (omega arith) b;
       number = field-less 2 2 x (omega arith) b;
-      fine = fine-read (getD x 1 0) (drop 8 x) (simp length-drop (omega arith)) (bytes-drop 8 x b);
+      fine = each-read 12 node-in Fine fine-read (getD x 1 0) (drop 8 x) (simp length-drop (omega arith)) (bytes-drop 8 x b);
       nodes = rw nodes-count few;
     }))
 
 -- .. and its chunk has nodes
-some-nodes : (k : ℕ) (xs : List ℕ) → 0 < k → nodes-from k xs ≢ []
-unfolding rows-in
-some-nodes zero xs h e = omega arith
-some-nodes (suc k) xs h e = true≢false cc
-
 pub block-full : (s : Sizes) (x : List ℕ) → Clean s x → (c : Chunk) → block-of x ≡ holds c → c .nodes ≢ []
 unfolding block-of chunk-of
 block-full s x (zeros z e) c h =
@@ -112,7 +97,7 @@ block-full s x (zeros z e) c h =
 block-full s x (filled l one few rest) c h =
     let f : cond (eqb (getD x 0 0) 0) empty (holds (chunk-of x)) ≡ holds (chunk-of x) = rw (ne-eqb (getD x 0 0) 0 (omega arith)) in
     let g : chunk-of x ≡ c = cc (f, h) in
-    subst (λ (d : Chunk). d .nodes ≢ []) g (some-nodes (getD x 1 0) (drop 8 x) one)
+    subst (λ (d : Chunk). d .nodes ≢ []) g (rows-some 12 node-in (getD x 1 0) (drop 8 x) one)
 
 -- ALL BLOCKS
 module _ (s : Sizes) where

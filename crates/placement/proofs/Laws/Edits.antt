@@ -2,11 +2,11 @@
 use mathlib.Core.Path.{_≡_, refl, sym, ap, _∙_}
 use mathlib.Core.Logic.{_≢_}
 use mathlib.Core.Bool.{false}
-use mathlib.Core.List.{List, [], _++_, map}
+use mathlib.Core.List.{List, [], _++_}
 use Prim.Native.Nat.{ℕ, _+_, _*_, _-_, _%_, _≤_, _<_}
 use native.Mathlib.Nat.{mod-lt, add-zero}
 use native.Mathlib.Omega.{arith}
-use lib.ListN.{length, getD, set, length-map, length-set}
+use lib.ListN.{length, getD, set, length-set}
 use Rattle.placement.specs.Blocks.{Block, empty, holds, around, is-free}
 use Rattle.placement.specs.declared.Sizes.{Sizes}
 use Rattle.placement.specs.declared.Order.{Order}
@@ -14,18 +14,19 @@ use Rattle.placement.specs.Chunks.{Chunk, home, label-before, block-byte
 use Rattle.placement.specs.Header.{block-long}
 use Rattle.placement.specs.Parts.{block-in, put-block}
 use Rattle.placement.specs.Place.{label-in, probe, search-in, distance-of, bytes, pull, settle, free-in, head-bytes, block-with, inserted, home-of}
-use Rattle.placement.specs.Maps.{Map, at, Keeps, Holdable, labelled, nodes-of}
+use Rattle.placement.specs.Maps.{Map, Keeps, Holdable, labelled, nodes-of, chunk-kind}
 use Rattle.placement.specs.declared.Label.{Label}
 use Rattle.placement.specs.declared.Found.{Found}
 use Rattle.placement.specs.declared.Found.the-variants.{At, Nothing}
-use Rattle.placement.proofs.Laws.Maps.{absent-other}
+use Rattle.placement.proofs.Laws.Kinds.{absent-other}
+use Rattle.placement.proofs.Laws.Maps.{lawful}
 use Rattle.placement.proofs.Laws.Round.{steps-to}
 use Rattle.placement.proofs.Laws.Placed.{gap}
 use Rattle.placement.proofs.Laws.Removal.{removed-at}
 use Rattle.placement.proofs.Laws.Insertion.{insert-from, Carry}
 use Rattle.placement.proofs.Laws.Labels.{labels-strict, labels-chain, home-tied, home-inside}
-use Rattle.placement.proofs.Laws.Cells.{join, table-block, table-put}
-use Rattle.placement.proofs.Laws.Bridge.{Good, held, All-good, label-of, good-at, good-set, all-join, even-all, map-set, bytes-at, length-block, pull-blocks, settle-blocks, label-blocks, probe-blocks}
+use Rattle.placement.proofs.Laws.Bridge.{Good, held, All-good, label-of, good-at, good-set, coding}
+use Rattle.placement.proofs.Laws.Coded.{block-read, block-write, pull-blocks, settle-blocks, label-blocks, probe-blocks}
 use Rattle.placement.proofs.Laws.Pulling.{pull-removed, distance-steps}
 use Rattle.placement.proofs.Laws.Settling.{Ahead, settle-theory, First-free, free-first, free-found}
 use Rattle.placement.specs.Hash.{level}
@@ -61,27 +62,19 @@ home-labelled s w ns = refl
 -- a table of sizes s: a header and blocks
 module _ (s : Sizes) (some : 0 < s .blocks) (hd : List ℕ) (eh : length hd ≡ 53) (bl : List (Block Chunk)) (v : All-good s bl) (long : length bl ≡ s .blocks) where
   -- a block of the bytes, and one written
-  cells-long : length (map (block-bytes s) bl) ≡ s .blocks
-  cells-long = length-map bl (block-bytes s) ∙ long
-
   pub block-bytes-at : (i : ℕ) → i < s .blocks → block-in (block-long s) (hd ++ all-bytes s bl) i ≡ block-bytes s (getD bl i empty)
-  block-bytes-at i h =
-      rw all-join
-      (table-block (block-long s) hd eh (even-all s v) i (omega (arith, cells-long)) ∙ bytes-at s bl i (s .blocks) h long)
+  block-bytes-at = block-read (coding s) (s .blocks) some hd eh bl v long
 
   pub block-put : (i : ℕ) (b : Block Chunk) → i < s .blocks → Good s b → put-block (block-long s) (hd ++ all-bytes s bl) i (block-bytes s b) ≡ hd ++ all-bytes s (set bl i b)
-  block-put i b h q =
-      rw (all-join s bl)
-      (table-put (block-long s) hd eh (even-all s v) i (omega (arith, cells-long)) (block-bytes s b) (length-block s q)
-      ∙ ap (λ (x : List ℕ). hd ++ x) (ap join (sym (map-set s bl i b)) ∙ sym (all-join s (set bl i b))))
+  block-put = block-write (coding s) (s .blocks) some hd eh bl v long
 
   pub search-blocks : (w : Label) → search-in s (hd ++ all-bytes s bl) w ≡ probe (λ j. label-of (getD bl j empty)) (s .blocks) w (s .blocks) (home s (labelled w []))
   unfolding search-in
-  search-blocks w = rw (home-labelled s w []) (probe-blocks s (s .blocks) some hd eh bl v long w (s .blocks) (home s (labelled w [])))
+  search-blocks w = rw (home-labelled s w []) (probe-blocks (coding s) (s .blocks) some hd eh bl v long w (s .blocks) (home s (labelled w [])))
 
   pub pull-at : (i : ℕ) → i < s .blocks → pull (bytes (block-long s)) (home-of s) (s .blocks) (s .blocks - 1) i (i + 1) (hd ++ all-bytes s bl) ≡ hd ++ all-bytes s (removed-at (home s) (s .blocks) i bl)
   pull-at i h =
-      pull-blocks s (s .blocks) some hd eh bl v long (home-of s) (s .blocks - 1) i (i + 1) h
+      pull-blocks (coding s) (s .blocks) some hd eh bl v long (home-of s) (s .blocks - 1) i (i + 1) h
       ∙ ap (λ (x : List (Block Chunk)). hd ++ all-bytes s x) (pull-removed s some i bl v h)
 
   -- INSERTION
@@ -91,7 +84,7 @@ module _ (s : Sizes) (some : 0 < s .blocks) (hd : List ℕ) (eh : length hd ≡ 
 
     look-at : (j : ℕ) → label-in (block-long s) (hd ++ all-bytes s bl) (j % s .blocks) ≡ label-of (around (s .blocks) bl j)
     unfolding around
-    look-at j = label-blocks s (s .blocks) some hd eh bl v long (j % s .blocks) (mod-lt j some)
+    look-at j = label-blocks (coding s) (s .blocks) some hd eh bl v long (j % s .blocks) (mod-lt j some)
 
     good-around : (j : ℕ) → Good s (around (s .blocks) bl j)
     unfolding around
@@ -128,7 +121,7 @@ module _ (s : Sizes) (some : 0 < s .blocks) (hd : List ℕ) (eh : length hd ≡ 
       carry = record {
         long = long;
         rule-3 = k .rule-3;
-        other = absent-other s some bl F (labelled w ns) (k .map) gone;
+        other = absent-other chunk-kind (home s) label-before (s .blocks) (lawful s some) bl (nodes-of F) (labelled w ns) (k .map) gone;
         steps = 0;
         there = ap (λ (x : ℕ). x % s .blocks) (add-zero start);
         smaller = λ l h. absurd (omega arith);
@@ -144,7 +137,7 @@ module _ (s : Sizes) (some : 0 < s .blocks) (hd : List ℕ) (eh : length hd ≡ 
           ≡ hd ++ all-bytes s (insert-from label-before (s .blocks) start (s .blocks) (labelled w ns) bl)
       insert-here =
           rw (block-put e (holds (labelled w ns)) inside (held q))
-          (settle-blocks s (s .blocks) some hd eh (set bl e (holds (labelled w ns))) (good-set s v e (held q)) (length-set bl e _ ∙ long) (r .steps) e start inside
+          (settle-blocks (coding s) (s .blocks) some hd eh (set bl e (holds (labelled w ns))) (good-set s v e (held q)) (length-set bl e _ ∙ long) (r .steps) e start inside
           ∙ ap (λ (x : List (Block Chunk)). hd ++ all-bytes s x) (settle-theory s some e inside (r .steps) (s .blocks) start (labelled w ns) bl carry ahead))
 
     pub insert-at : (r : Found) → r ≡ free-in (label-in (block-long s) (hd ++ all-bytes s bl)) (s .blocks) (s .blocks) start

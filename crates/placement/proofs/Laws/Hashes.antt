@@ -254,3 +254,14 @@ module _ (s : Sizes) (b l p v x : ℕ) (pos : 0 < s .gamma) (lo : 1 ≤ l) (hi :
             let m = divides-least (b - 1 - (l - 1 + 1)) (l - 1 + 1) (s .gamma) v in
             other (λ z. omega (arith, r .rest, m))
         go false q = same (dividing-stop v (s .gamma) (b - 1) (l - 1) (v / p) pos (power-at e) (omega (arith, ne)) (eqb-false _ _ q))
+
+-- THE LOWEST LEVEL by one remainder: there is always a higher one
+beta-two : (s : Sizes) → 2 ≤ beta s
+unfolding beta
+beta-two s = omega arith
+
+pub lowest-says : (s : Sizes) (v x : ℕ) (t : Bool) → 0 < s .gamma → 0 < x → v ≡ hash-from 5 0 (s .seed) x → t ≡ eqb (v % s .gamma) 0 → not t ≡ eqb (level s x) 1
+lowest-says s v x t pos nz ev et =
+    let b = beta-two s in
+    let r = level-next s (beta s) 1 1 v x pos (omega arith) (omega arith) (simp unary-clauses) nz refl ev (mod-one v) (λ e. omega arith) in
+    ap not et ∙ (rw div-one at r)

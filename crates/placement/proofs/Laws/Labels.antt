@@ -99,8 +99,3 @@ home-inside s h c = mod-lt _ h
 pub home-tied : (s : Sizes) (a b : Chunk) → label-before a b ≡ false → label-before b a ≡ false → home s a ≡ home s b
 unfolding home
 home-tied s a b p q = let l = same-label a b p q in let e = l .level in let f = l .first in let n = l .number in cc
-
--- chunks of one label are not before one another
-pub not-before : (c x : Chunk) → c .level ≡ x .level → c .first ≡ x .first → c .number ≡ x .number → (label-before x c ≡ false) × (label-before c x ≡ false)
-unfolding label-before
-not-before c x p q r = (cc (labels-strict c), cc (labels-strict c))

@@ -1,9 +1,9 @@
 -- What the loops of this crate keep, and their turns. Assumes nothing.
-use mathlib.Core.Path.{_≡_, refl, sym, _∙_}
+use mathlib.Core.Path.{_≡_, refl, sym, ap, _∙_}
 use mathlib.Core.List.{List, [], _∷_, _++_}
 use mathlib.Core.Bool.{Bool, true, false, cond}
 use Prim.Native.Nat.{ℕ, zero, suc, _+_, _*_, _-_, _/_, _%_, _≤_, _<_}
-use native.Mathlib.Nat.{le-refl, add-zero, sub-zero, pos-of-ne-zero, mod-lt, lt-of-lt-of-le}
+use native.Mathlib.Nat.{le-refl, add-zero, sub-zero, pos-of-ne-zero, mod-lt, mod-eq-of-lt, mod-eq-sub-mod, mod-self, mod-add-mod, lt-of-lt-of-le}
 use native.Mathlib.Omega.{arith}
 use native.Mathlib.Numerals.{towards-suc}
 use lib.Dec.{leb, eqb}
@@ -40,28 +40,45 @@ module _ (look : ℕ → Label) (m : ℕ) (w : Label) (home start : ℕ) where
         let f : m - k ≡ 0 = omega arith in
         rw (i .rest, f)
 
-    module _ (l : Label) (s : Bool) (at : l ≡ look ((start + k) % m)) (es : s ≡ passes-label l w) (lt : k < m) where
+    module _ (p : ℕ) (ep : p ≡ (start + k) % m) (l : Label) (s : Bool) (at : l ≡ look p) (es : s ≡ passes-label l w) (lt : k < m) where
       pub probing-more : s ≡ true → Probing look m w home start (k + 1)
       unfolding probe
       probing-more e =
           let f : m - k ≡ suc (m - (k + 1)) = omega arith in
           let n : start + (k + 1) ≡ suc (start + k) = omega arith in
-          let p : passes-label (look ((start + k) % m)) w ≡ true = rw (← at, ← es, e) in
-          record { within = omega arith; rest = i .rest ∙ rw (f, p, n) }
+          let q : passes-label (look ((start + k) % m)) w ≡ true = rw (← ep, ← at, ← es, e) in
+          record { within = omega arith; rest = i .rest ∙ rw (f, q, n) }
 
       module _ (e : s ≡ false) (t : Bool) (et : t ≡ same-label l w) where
-        stopped : probe look m w m home ≡ cond t (At ((start + k) % m)) Nothing
+        stopped : probe look m w m home ≡ cond t (At p) Nothing
         unfolding probe
         stopped =
             let f : m - k ≡ suc (m - (k + 1)) = omega arith in
-            let p : passes-label (look ((start + k) % m)) w ≡ false = rw (← at, ← es, e) in
-            i .rest ∙ rw (f, p, et, at)
+            let q : passes-label (look ((start + k) % m)) w ≡ false = rw (← ep, ← at, ← es, e) in
+            i .rest ∙ rw (f, q, et, at, ← ep)
 
-        pub probing-same : t ≡ true → At ((start + k) % m) ≡ probe look m w m home
+        pub probing-same : t ≡ true → At p ≡ probe look m w m home
         probing-same h = sym (stopped ∙ rw h)
 
         pub probing-other : t ≡ false → Nothing ≡ probe look m w m home
         probing-other h = sym (stopped ∙ rw h)
+
+-- the block after one, going round
+pub next-inside : (i m : ℕ) → i + 1 < m → i + 1 ≡ (i + 1) % m
+next-inside i m h = sym (mod-eq-of-lt h)
+
+pub next-round : (i m : ℕ) → i < m → m ≤ i + 1 → 0 ≡ (i + 1) % m
+next-round i m h l =
+    let e : i + 1 ≡ m = omega arith in
+    sym (rw e (mod-self m))
+
+pub index-start : (start m : ℕ) → start < m → start ≡ (start + 0) % m
+index-start start m h = sym (rw add-zero (mod-eq-of-lt h))
+
+pub index-next : (start k m p n : ℕ) → p ≡ (start + k) % m → n ≡ (p + 1) % m → n ≡ (start + (k + 1)) % m
+index-next start k m p n e f =
+    let a : start + (k + 1) ≡ start + k + 1 = omega arith in
+    f ∙ rw (e, mod-add-mod, a)
 
 -- a block that the search finds is one of the table
 below : Found → (m : ℕ) → Type 0
@@ -185,6 +202,16 @@ label-made w bs i a l n f ea el en ef = rw (el, en, ef, ea)
 pub home-made : (s : Sizes) (w : Label) (h : ℕ) → h ≡ hash-from 5 5 (s .seed) (w .first) → (h + 65536 * w .level + w .number) % 2147483647 % s .blocks ≡ home-of s w
 unfolding home-of g
 home-made s w h e = rw e
+
+-- a sum below p, and one that is less than p past it
+pub home-below : (s : Sizes) (w : Label) (h r : ℕ) → h ≡ hash-from 5 5 (s .seed) (w .first) → h + 65536 * w .level + w .number < 2147483647
+    → r ≡ (h + 65536 * w .level + w .number) % s .blocks → r ≡ home-of s w
+home-below s w h r e l f = f ∙ ap (λ (i : ℕ). i % s .blocks) (sym (mod-eq-of-lt l)) ∙ home-made s w h e
+
+pub home-past : (s : Sizes) (w : Label) (h r : ℕ) → h ≡ hash-from 5 5 (s .seed) (w .first) → h < 2147483647 → w .level ≤ 19 → w .number ≤ 65535
+    → 2147483647 ≤ h + 65536 * w .level + w .number → r ≡ (h + 65536 * w .level + w .number - 2147483647) % s .blocks → r ≡ home-of s w
+home-past s w h r e b hl hn l f =
+    f ∙ ap (λ (i : ℕ). i % s .blocks) (sym (mod-eq-sub-mod l ∙ mod-eq-of-lt (omega arith))) ∙ home-made s w h e
 
 pub mod-fits : (a m : ℕ) → 0 < m → m ≤ 65535 → Fits w32 (a % m)
 mod-fits a m p h = record { fits = lt-of-lt-of-le (mod-lt a p) (omega arith) }

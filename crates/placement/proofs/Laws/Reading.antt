@@ -1,5 +1,5 @@
 -- What stands in the bytes of a block that a search found: the number of nodes, and each node. Assumes nothing.
-use mathlib.Core.Path.{_≡_, refl, sym, ap, _∙_}
+use mathlib.Core.Path.{_≡_, sym, ap, _∙_}
 use mathlib.Core.List.{List, [], _∷_, _++_, append-assoc, append-nil}
 use Prim.Native.Nat.{ℕ, zero, suc, _+_, _*_, _-_, _≤_, _<_}
 use native.Mathlib.Nat.{add-zero}
@@ -16,26 +16,16 @@ use Rattle.placement.specs.Parts.{block-in}
 use Rattle.placement.specs.Place.{head-bytes}
 use Rattle.placement.specs.Maps.{labelled, Fine, Fines}
 use Rattle.placement.specs.declared.Label.{Label}
-use Rattle.placement.specs.Numbers.{rows}
-use Rattle.placement.proofs.Laws.Numbers.{length-big, field-big, field-past, field-part, field-head}
+use Rattle.placement.proofs.Laws.Rows.{row-field}
+use Rattle.placement.proofs.Laws.Bridge.{node-long}
+use Rattle.placement.proofs.Laws.Numbers.{length-big, field-big, field-past, field-part}
 
 abbrev pub node-at : List Order → ℕ → Order
 node-at ns j = getD ns j (record { key = 0; total = 0; displayed = 0 })
 
-node-long : (o : Order) → length (node-bytes o) ≡ 12
-unfolding node-bytes big
-node-long o = refl
-
 -- a field of node j
 pub node-field : (ns : List Order) (r : List ℕ) (j a n : ℕ) → j < length ns → a + n ≤ 12 → field (12 * j + a) n (nodes-bytes ns ++ r) ≡ field a n (node-bytes (node-at ns j))
-unfolding rows
-node-field [] r j a n h k = absurd (omega arith)
-node-field (o ∷ ns) r zero a n h k =
-    let e : 12 * 0 + a ≡ a = omega arith in
-    rw (e, append-assoc) (field-head a n (node-bytes o) (nodes-bytes ns ++ r) (omega (arith, node-long o)))
-node-field (o ∷ ns) r (suc j) a n h k =
-    let e : 12 * suc j + a ≡ length (node-bytes o) + (12 * j + a) = omega (arith, node-long o) in
-    rw (e, append-assoc, field-past (node-bytes o) (nodes-bytes ns ++ r) (12 * j + a) n) (node-field ns r j a n (omega arith) k)
+node-field ns = row-field 12 node-bytes node-long ns (record { key = 0; total = 0; displayed = 0 })
 
 -- a number behind some bytes
 number-past : (x : List ℕ) (v : ℕ) (y : List ℕ) (a : ℕ) → length x ≡ a → v < 4294967296 → field a 4 (x ++ big 4 v ++ y) ≡ v

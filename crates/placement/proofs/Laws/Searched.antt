@@ -24,7 +24,8 @@ use Rattle.placement.proofs.Laws.Round.{steps-same}
 use Rattle.placement.proofs.Laws.Sizes.{some-blocks}
 use Rattle.placement.proofs.Laws.Labels.{home-inside}
 use Rattle.placement.proofs.Laws.Search.{at-place, absent, search-step, search-from}
-use Rattle.placement.proofs.Laws.Bridge.{Good, held, All-good, good-at, label-of, label-blocks}
+use Rattle.placement.proofs.Laws.Bridge.{Good, held, All-good, good-at, label-of, coding}
+use Rattle.placement.proofs.Laws.Coded.{label-blocks}
 use Rattle.placement.proofs.Laws.Decoding.{Clean, table-again, blocks-good, blocks-many, blocks-full}
 use Rattle.placement.proofs.Laws.Finding.{place-of, probe-theory}
 use Rattle.placement.proofs.Laws.Edits.{search-blocks}
@@ -129,7 +130,7 @@ module _ (s : Sizes) (good : made s ≡ true) (hd : List ℕ) (head : length hd 
         good = good;
         head = head;
         sizes = sizes;
-        sound = λ l f i n. stands-holdable (chunk (nodes-at bl) l f i) (map .all l f i n);
+        sound = λ l f i n. stands-holdable (chunk (nodes-at bl) l f i) (map .all (record { level = l; first = f; number = i }) n);
         blocks = bl;
         is = refl;
         keeps = record { long = long; rule-3 = rule; map = map; count = refl };
@@ -151,7 +152,7 @@ module _ (s : Sizes) (good : made s ≡ true) (bs : List ℕ) (long : length bs 
   label-is : (c : Chunk) (i : ℕ) → i < s .blocks → getD (blocks-in s bs) i empty ≡ holds c → label-in (block-long s) bs i ≡ label-of (holds c)
   label-is c i h e =
       ap (λ (x : List ℕ). label-in (block-long s) x i) is
-      ∙ label-blocks s (s .blocks) (some-blocks s good) (take 53 bs) head (blocks-in s bs) all (blocks-many s bs long bytes clean) i h ∙ ap label-of e
+      ∙ label-blocks (coding s) (s .blocks) (some-blocks s good) (take 53 bs) head (blocks-in s bs) all (blocks-many s bs long bytes clean) i h ∙ ap label-of e
 
   level-is : (c : Chunk) (i : ℕ) → getD (blocks-in s bs) i empty ≡ holds c → label-of (holds c) .level ≢ 0
   level-is c i e z = omega (arith, level-of s (some-blocks s good) (blocks-in s bs) all c (level-at s (some-blocks s good) (blocks-in s bs) all c (getD (blocks-in s bs) i empty) (good-at s all i) e))

@@ -139,7 +139,7 @@ module _ (s : Sizes) (F : Map) (n : ℕ) (hd bs : List ℕ) (t : Table s F n hd 
 
   pub count-some : (w : Label) → nodes-of F w ≢ [] → 0 < n
   count-some w full =
-      let z = t .keeps .map .all (w .level) (w .first) (w .number) full in
+      let z = t .keeps .map .all w full in
       let j = removed (home s) label-before (s .blocks) labels-strict labels-chain (home-tied s) (home-inside s some) (z .at) (labelled w (nodes-of F w)) (t .blocks) (t .keeps .long) (t .keeps .rule-3) (z .is) in
       omega (arith, j .count, t .keeps .count)
 
@@ -217,7 +217,7 @@ module _ (s : Sizes) (F : Map) (n : ℕ) (hd bs : List ℕ) (t : Table s F n hd 
           ∙ block-put s some hd (t .head) (t .blocks) all (t .keeps .long) i (holds (labelled w ns)) h (held q)
           ∙ ap (λ (x : List (Block Chunk)). hd ++ all-bytes s x) (stored-inside (s .blocks) (t .blocks) i (holds (labelled w ns)) h))
           (sound-with s F (labelled w ns) (t .sound) q)
-          (change s some (t .blocks) F n (labelled w (nodes-of F w)) (labelled w ns) i (t .keeps) z refl refl refl full)
+          (change s some (t .blocks) F n (labelled w (nodes-of F w)) (labelled w ns) i (t .keeps) z refl full)
 
   -- the form of the bytes that the functions ask
   pub shaped : Shaped s bs

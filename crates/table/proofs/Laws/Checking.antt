@@ -1,8 +1,8 @@
 -- The whole check: what rule 1 gives the pass and the walk, and what the three say together. Assumes nothing.
 use mathlib.Core.Path.{_≡_, refl, ap, sym, _∙_, subst}
-use mathlib.Core.Bool.{Bool, true, false, and-false}
+use mathlib.Core.Bool.{Bool, true, false, and-false, true≢false}
 use mathlib.Core.List.{List}
-use Prim.Native.Nat.{ℕ, _+_, _≤_}
+use Prim.Native.Nat.{ℕ, _+_, _<_, _≤_}
 use native.Mathlib.Omega.{arith}
 use mir.Val.{Fits}
 use mir.Syntax.{w32}
@@ -16,7 +16,7 @@ use Rattle.placement.proofs.Laws.HeaderLoops.{ruled}
 use Rattle.table.specs.declared.Seen.{Seen}
 use Rattle.table.specs.declared.Tally.{Tally}
 use Rattle.table.specs.Walk.{Walkable, opens-of}
-use Rattle.table.specs.Check.{swept, walked, ended, check-passes}
+use Rattle.table.specs.Check.{swept, walked, ended, check-passes, Passed}
 
 -- bytes of the length that the sizes ask have their form
 pub made-shaped : (s : Sizes) (bs : List ℕ) → made s ≡ true → length bs ≡ table-long s → Shaped s bs
@@ -31,9 +31,9 @@ walkable s bs m e =
     record { shaped = made-shaped s bs m e; base = l .gamma-least; base-most = l .gamma-most; orders-most = l .orders-most }
 
 module _ (bs : List ℕ) (t : Bool) (et : t ≡ rule-1 bs) where
-  pub passes-unruled : t ≡ false → false ≡ check-passes bs
+  pub passes-unruled : t ≡ false → Passed bs (record { clean = false; full = 0 })
   unfolding check-passes
-  passes-unruled e = rw (← et, e)
+  passes-unruled e = record { passes = rw (← et, e); count = λ z. absurd (true≢false (sym z)) }
 
   module _ (e : t ≡ true) where
     pub ruled-long : 53 ≤ length bs
@@ -51,6 +51,12 @@ module _ (bs : List ℕ) (t : Bool) (et : t ≡ rule-1 bs) where
       pub ruled-base : 2 ≤ s .gamma
       ruled-base = ruled-walkable .base
 
+      pub ruled-gamma : 0 < s .gamma
+      ruled-gamma = omega (arith, ruled-walkable .base)
+
+      pub ruled-blocks : 0 < s .blocks
+      ruled-blocks = ruled-walkable .shaped .some
+
       pub ruled-base-most : s .gamma ≤ 64
       ruled-base-most = ruled-walkable .base-most
 
@@ -67,20 +73,23 @@ module _ (bs : List ℕ) (t : Bool) (et : t ≡ rule-1 bs) where
         tally : y ≡ swept (sizes-in bs) bs
         tally = ey ∙ ap (λ (z : Sizes). swept z bs) es
 
-        pub passes-unclean : y .clean ≡ false → false ≡ check-passes bs
+        counted : y .full ≡ swept (sizes-in bs) bs .full
+        counted = ap (λ (w : Tally). w .full) tally
+
+        pub passes-unclean : y .clean ≡ false → Passed bs y
         unfolding check-passes
         passes-unclean q =
             let z : swept (sizes-in bs) bs .clean ≡ false = ap (λ (w : Tally). w .clean) (sym tally) ∙ q in
-            sym (rw (z, and-false))
+            record { passes = q ∙ sym (rw (z, and-false)); count = λ h. counted }
 
         pub passes-walked : y .clean ≡ true → (top n : ℕ) → top ≡ beta s → n ≡ held-in bs → (x : Seen)
-            → x ≡ opens-of s bs top 0 (record { ok = true; low = 0; orders = n + 1; chunks = y .full }) → (r : Bool) → r ≡ ended x → r ≡ check-passes bs
+            → x ≡ opens-of s bs top 0 (record { ok = true; low = 0; orders = n + 1; chunks = y .full }) → (r : Bool) → r ≡ ended x → Passed bs (record { clean = r; full = y .full })
         unfolding check-passes walked
         passes-walked q top n et′ en x ex r er =
             let z : swept (sizes-in bs) bs .clean ≡ true = ap (λ (w : Tally). w .clean) (sym tally) ∙ q in
-            let f : y .full ≡ swept (sizes-in bs) bs .full = ap (λ (w : Tally). w .full) tally in
+            let f = counted in
             let g : top ≡ beta (sizes-in bs) = et′ ∙ ap beta es in
             let h : rule-1 bs ≡ true = sym et ∙ e in
             let w : x ≡ opens-of (sizes-in bs) bs (beta (sizes-in bs)) 0 (record { ok = true; low = 0; orders = held-in bs + 1; chunks = swept (sizes-in bs) bs .full })
             = ex ∙ (λ i. opens-of (es i) bs (g i) 0 (record { ok = true; low = 0; orders = en i + 1; chunks = f i })) in
-            er ∙ ap ended w ∙ sym (rw (h, z))
+            record { passes = er ∙ ap ended w ∙ sym (rw (h, z)); count = λ v. f }

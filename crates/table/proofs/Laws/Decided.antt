@@ -7,7 +7,8 @@ use lib.ListN.{getD}
 use Rattle.placement.proofs.Laws.Numbers.{Bytes}
 use Rattle.skiplist.specs.Image.{is-image}
 use Rattle.skiplist.specs.Questions.{first-no, asks-image}
-use Rattle.table.specs.Check.{check-passes}
+use Rattle.table.specs.Check.{check-passes, Passed, Examined}
+use Rattle.table.specs.declared.Tally.{Tally}
 use Rattle.table.specs.Calls.{check-number}
 use Rattle.table.proofs.Laws.Decides.{check-decides}
 
@@ -15,14 +16,15 @@ pub bytes-all : (bs : List ℕ) → ((i : ℕ) → getD bs i 0 < 256) → Bytes 
 bytes-all [] h = tt
 bytes-all (x ∷ xs) h = (h 0, bytes-all xs (λ i. h (suc i)))
 
-module _ (bs : List ℕ) (small : (i : ℕ) → getD bs i 0 < 256) (t : Bool) (et : t ≡ check-passes bs) where
-  decided : (u : Bool) → t ≡ u → is-image bs ≡ u
-  decided u e = sym (check-decides bs (bytes-all bs small)) ∙ sym et ∙ e
+module _ (bs : List ℕ) (small : (i : ℕ) → getD bs i 0 < 256) where
+  pub examined : (r : Tally) → Passed bs r → Examined bs r
+  examined r p = record { image = p .passes ∙ check-decides bs (bytes-all bs small); count = p .count }
 
-  pub check-yes : t ≡ true → 0 ≡ check-number bs
+module _ (bs : List ℕ) (r : Tally) (x : Examined bs r) where
+  pub check-yes : r .clean ≡ true → 0 ≡ check-number bs
   unfolding check-number first-no asks-image
-  check-yes e = sym (rw (decided true e))
+  check-yes e = let z : is-image bs ≡ true = sym (x .image) ∙ e in sym (rw z)
 
-  pub check-no : t ≡ false → 4 ≡ check-number bs
+  pub check-no : r .clean ≡ false → 4 ≡ check-number bs
   unfolding check-number first-no asks-image
-  check-no e = sym (rw (decided false e))
+  check-no e = let z : is-image bs ≡ false = sym (x .image) ∙ e in sym (rw z)

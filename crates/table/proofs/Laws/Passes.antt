@@ -1,12 +1,13 @@
 -- Laws of the pass over the blocks, and of its end. Assumes nothing.
 use mathlib.Core.Path.{_≡_, refl, sym, _∙_}
-use mathlib.Core.Bool.{Bool, true, false, _&&_, cond}
+use mathlib.Core.Bool.{Bool, true, false, _&&_, cond, and-true, and-assoc}
 use mathlib.Core.List.{List}
-use Prim.Native.Nat.{ℕ, suc, _+_, _*_, _-_, _≤_, _<_}
+use Prim.Native.Nat.{ℕ, zero, suc, _+_, _*_, _-_, _≤_, _<_}
 use lib.Dec.{eqb}
-use borrow.Author.Tests.{eq-eqb, ne-eqb}
+use lib.Bits.{bitOr, or-add-and, and-le-l, and-le-r}
+use borrow.Author.Tests.{eq-eqb, ne-eqb, eqb-true, eqb-false}
 use native.Mathlib.Omega.{arith}
-use native.Mathlib.Nat.{sub-zero}
+use native.Mathlib.Nat.{zero-add, add-zero, suc-add, add-suc, sub-zero}
 use native.Mathlib.Numerals.{add-one}
 use lib.ListN.{getD}
 use Rattle.placement.specs.Header.{block-long}
@@ -57,30 +58,66 @@ blocked-made s w bs i at l n u ew ea el en eu =
     let h : at ≡ 53 + i * w = ea ∙ rw ew in
     record { level-is = el ∙ rw h; clean-is = rw (← h, ← el, ← en, ← eu) }
 
-pub record Zeroing (w : ℕ) (bs : List ℕ) (at u j : ℕ) : Type 0 where
-  pub rest : zeros-from bs (w - u) (at + u) ≡ zeros-from bs (w - j) (at + j)
+-- a number made of two by `or` is 0 when both are
+or-zero : (a b : ℕ) → eqb (bitOr a b) 0 ≡ (eqb a 0 && eqb b 0)
+or-zero a b = go (eqb a 0) (eqb b 0) refl refl
+  where
+    go : (t u : Bool) → eqb a 0 ≡ t → eqb b 0 ≡ u → eqb (bitOr a b) 0 ≡ (t && u)
+    go true true p q = eq-eqb (bitOr a b) 0 (omega (arith, or-add-and a b, eqb-true a 0 p, eqb-true b 0 q))
+    go true false p q = ne-eqb (bitOr a b) 0 (λ e. eqb-false b 0 q (omega (arith, or-add-and a b, and-le-l a b, eqb-true a 0 p)))
+    go false u p q = ne-eqb (bitOr a b) 0 (λ e. eqb-false a 0 p (omega (arith, or-add-and a b, and-le-r a b)))
 
-module _ (w : ℕ) (bs : List ℕ) (at u : ℕ) where
-  pub zeroing-start : Zeroing w bs at u u
+-- what the loop of `zeros` keeps: the bytes so far are 0 when their `or` is
+pub record Zeroing (bs : List ℕ) (from end j any : ℕ) : Type 0 where
+  pub rest : zeros-from bs (end - from) from ≡ (eqb any 0 && zeros-from bs (end - j) j)
+
+module _ (bs : List ℕ) (from end : ℕ) where
+  pub zeroing-start : Zeroing bs from end from 0
   zeroing-start = record { rest = refl }
 
-  module _ (j : ℕ) (z : Zeroing w bs at u j) where
-    zeroing-turn : j < w → zeros-from bs (w - u) (at + u) ≡ (eqb (getD bs (at + j) 0) 0 && zeros-from bs (w - (j + 1)) (at + (j + 1)))
+  module _ (j any : ℕ) (z : Zeroing bs from end j any) where
+    pub zeroing-more : j < end → (b : ℕ) → b ≡ getD bs j 0 → Zeroing bs from end (j + 1) (bitOr any b)
     unfolding zeros-from
-    zeroing-turn h =
-        let e : w - j ≡ suc (w - (j + 1)) = omega arith in
-        let f : at + (j + 1) ≡ suc (at + j) = omega arith in
-        z .rest ∙ rw (e, f)
+    zeroing-more h b eb =
+        let e : end - j ≡ suc (end - (j + 1)) = omega arith in
+        record { rest = z .rest ∙ rw (e, ← eb, add-one, or-zero any b, and-assoc) }
 
-    pub zeroing-more : j < w → (b : ℕ) → b ≡ getD bs (at + j) 0 → b ≡ 0 → Zeroing w bs at u (j + 1)
-    zeroing-more h b e f = record { rest = zeroing-turn h ∙ rw (eq-eqb _ _ (sym e ∙ f)) }
-
-    zeroing-stop : j < w → (b : ℕ) → b ≡ getD bs (at + j) 0 → (b ≡ 0 → ⊥) → zeros-from bs (w - u) (at + u) ≡ false
-    zeroing-stop h b e f = zeroing-turn h ∙ rw (ne-eqb _ _ (λ q. f (e ∙ q)))
-
-    zeroing-end : w ≤ j → zeros-from bs (w - u) (at + u) ≡ true
+    pub zeroing-end : end ≤ j → eqb any 0 ≡ zeros-from bs (end - from) from
     unfolding zeros-from
     zeroing-end h =
+        let e : end - j ≡ 0 = omega arith in
+        sym (z .rest ∙ rw (e, and-true))
+
+-- what the loop over the unused nodes of a block keeps: u bytes are used, and the rest is looked at from j on
+pub record Running (w : ℕ) (bs : List ℕ) (at u j : ℕ) : Type 0 where
+  pub rest : zeros-from bs (w - u) (at + u) ≡ zeros-from bs (w - j) (at + j)
+
+zeros-split : (bs : List ℕ) (a b p : ℕ) → zeros-from bs (a + b) p ≡ (zeros-from bs a p && zeros-from bs b (p + a))
+unfolding zeros-from
+zeros-split bs zero b p = rw (zero-add, add-zero)
+zeros-split bs (suc a) b p = rw (suc-add, zeros-split bs a b (suc p), suc-add, add-suc, and-assoc)
+
+module _ (w : ℕ) (bs : List ℕ) (at u : ℕ) where
+  pub running-start : Running w bs at u u
+  running-start = record { rest = refl }
+
+  module _ (j : ℕ) (z : Running w bs at u j) where
+    module _ (e : ℕ) (lo : j < e) (hi : e ≤ w) (t : Bool) (et : t ≡ zeros-from bs (at + e - (at + j)) (at + j)) where
+      turn : zeros-from bs (w - u) (at + u) ≡ (t && zeros-from bs (w - e) (at + e))
+      turn =
+          let a : w - j ≡ at + e - (at + j) + (w - e) = omega arith in
+          let b : at + j + (at + e - (at + j)) ≡ at + e = omega arith in
+          z .rest ∙ rw (a, zeros-split bs (at + e - (at + j)) (w - e) (at + j), b, ← et)
+
+      pub running-more : t ≡ true → Running w bs at u e
+      running-more q = record { rest = turn ∙ rw q }
+
+      running-stop : t ≡ false → zeros-from bs (w - u) (at + u) ≡ false
+      running-stop q = turn ∙ rw q
+
+    running-end : w ≤ j → zeros-from bs (w - u) (at + u) ≡ true
+    unfolding zeros-from
+    running-end h =
         let e : w - j ≡ 0 = omega arith in
         z .rest ∙ rw e
 
@@ -101,16 +138,16 @@ module _ (s : Sizes) (w m : ℕ) (bs : List ℕ) where
         let e : m - i ≡ 0 = omega arith in
         sym (h .rest ∙ rw (e, q))
 
-    module _ (lt : i < m) (at l u j : ℕ) (b : Blocked w bs i at l u) (z : Zeroing w bs at u j) where
+    module _ (lt : i < m) (at l u : ℕ) (b : Blocked w bs i at l u) (j : ℕ) (z : Running w bs at u j) where
       sweeping-turn : (t : Bool) → zeros-from bs (w - u) (at + u) ≡ t → swept s bs ≡ cond t (sweep-from w bs (m - (i + 1)) (i + 1) (more-of full l)) (record { clean = false; full = full })
       unfolding sweep-from
       sweeping-turn t q =
           let e : m - i ≡ suc (m - (i + 1)) = omega arith in
           h .rest ∙ rw (e, b .clean-is, q, add-one, b .level-is)
 
-      pub sweeping-stop : j < w → (v : ℕ) → v ≡ getD bs (at + j) 0 → (v ≡ 0 → ⊥) → _≡_ {A = Tally} (record { clean = false; full = full }) (swept s bs)
-      sweeping-stop le v e f = sym (sweeping-turn false (zeroing-stop w bs at u j z le v e f))
+      pub sweeping-stop : (e : ℕ) → j < e → e ≤ w → (t : Bool) → t ≡ zeros-from bs (at + e - (at + j)) (at + j) → t ≡ false
+          → _≡_ {A = Tally} (record { clean = false; full = full }) (swept s bs)
+      sweeping-stop e lo hi t et q = sym (sweeping-turn false (running-stop w bs at u j z e lo hi t et q))
 
       pub sweeping-more : w ≤ j → (n : ℕ) → n ≡ more-of full l → n ≤ full + 1 → Sweeping s w m bs (i + 1) n
-      sweeping-more le n e f =
-          record { within = omega arith; few = omega (arith, h .few); rest = sweeping-turn true (zeroing-end w bs at u j z le) ∙ rw e }
+      sweeping-more le n e f = record { within = omega arith; few = omega (arith, h .few); rest = sweeping-turn true (running-end w bs at u j z le) ∙ rw e }

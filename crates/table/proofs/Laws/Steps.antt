@@ -1,10 +1,12 @@
 -- Laws of what the walk's small functions give. Assumes nothing.
 use mathlib.Core.Path.{_≡_, refl, sym, _∙_}
-use mathlib.Core.Bool.{Bool, true, false, _&&_, cond, and-false}
+use mathlib.Core.Bool.{Bool, true, false, _&&_, and-false, and-eq-true-iff}
 use mathlib.Core.List.{List}
 use Prim.Native.Nat.{ℕ, _+_, _-_, _≤_, _<_}
 use lib.Dec.{ltb, leb, eqb}
-use borrow.Author.Tests.{eq-eqb, ne-eqb, le-leb, lt-leb, le-ltb, lt-ltb}
+use borrow.Author.Tests.{eq-eqb, ne-eqb, le-leb, lt-leb, le-ltb, lt-ltb, ltb-true, leb-true}
+use mir.Val.{Fits}
+use mir.Syntax.{w32}
 use native.Mathlib.Nat.{add-zero}
 use native.Mathlib.Omega.{arith}
 use Rattle.placement.specs.Numbers.{field}
@@ -63,29 +65,53 @@ module _ (s : Sizes) (l f : ℕ) (o : Bool) (x : ℕ) where
   unfolding belongs-in
   belongs-level v e z q = rw (e, ne-eqb _ _ z) q
 
-module _ (key : ℕ) (x : Seen) (w : Seen) where
-  no : counted key x ≡ cond (x .ok && (leb (x .low) key && (ltb key 2147483647 && leb 1 (x .orders)))) (record { ok = true; low = key + 1; orders = x .orders - 1; chunks = x .chunks }) wrong-seen
-  unfolding counted counts
-  no = refl
+module _ (key : ℕ) (x : Seen) where
+  pub comes-bad : x .ok ≡ false → false ≡ counts key x
+  unfolding counts
+  comes-bad h = sym (rw h)
 
-  pub count-bad : w ≡ wrong-seen → x .ok ≡ false → w ≡ counted key x
-  count-bad e h = e ∙ sym (no ∙ rw h)
+  pub comes-low : key < x .low → false ≡ counts key x
+  unfolding counts
+  comes-low h = sym (rw (lt-leb (x .low) key h, and-false))
 
-  pub count-low : w ≡ wrong-seen → key < x .low → w ≡ counted key x
-  count-low e h = e ∙ sym (no ∙ rw (lt-leb (x .low) key h, and-false))
+  pub comes-high : 2147483647 ≤ key → false ≡ counts key x
+  unfolding counts
+  comes-high h = sym (rw (le-ltb key 2147483647 h, and-false, and-false))
 
-  pub count-high : w ≡ wrong-seen → 2147483647 ≤ key → w ≡ counted key x
-  count-high e h = e ∙ sym (no ∙ rw (le-ltb key 2147483647 h, and-false, and-false))
+  pub comes-last : x .ok ≡ true → x .low ≤ key → key < 2147483647 → leb 1 (x .orders) ≡ counts key x
+  unfolding counts
+  comes-last e l h = rw (e, le-leb (x .low) key l, lt-ltb key 2147483647 h)
 
-  pub count-over : w ≡ wrong-seen → x .orders ≡ 0 → w ≡ counted key x
-  count-over e h = e ∙ sym (no ∙ rw (h, and-false, and-false, and-false))
+  pub comes-so : (t : Bool) → t ≡ counts key x → t ≡ true → counts key x ≡ true
+  comes-so t et e = sym et ∙ e
 
-pub count-more : (key : ℕ) (x : Seen) → x .ok ≡ true → x .low ≤ key → key < 2147483647 → (x .orders ≡ 0 → ⊥)
-    → _≡_ {A = Seen} (record { ok = true; low = key + 1; orders = x .orders - 1; chunks = x .chunks }) (counted key x)
-unfolding counted counts
-count-more key x e l h n =
-    let p : 1 ≤ x .orders = omega arith in
-    rw (e, le-leb (x .low) key l, lt-ltb key 2147483647 h, le-leb 1 (x .orders) p)
+  pub count-none : (t : Bool) (w : Seen) → t ≡ counts key x → t ≡ false → w ≡ wrong-seen → w ≡ counted key x
+  unfolding counted
+  count-none t w et f e =
+      let z : counts key x ≡ false = sym et ∙ f in
+      e ∙ sym (rw z)
+
+  module _ (c : counts key x ≡ true) where
+    parts : (x .ok ≡ true) × (ltb key 2147483647 ≡ true) × (leb 1 (x .orders) ≡ true)
+    unfolding counts
+    parts =
+        let a = and-eq-true-iff (x .ok) (leb (x .low) key && (ltb key 2147483647 && leb 1 (x .orders))) .0 c in
+        let b = and-eq-true-iff (leb (x .low) key) (ltb key 2147483647 && leb 1 (x .orders)) .0 (a .1) in
+        let d = and-eq-true-iff (ltb key 2147483647) (leb 1 (x .orders)) .0 (b .1) in
+        (a .0, d .0, d .1)
+
+    pub came-ok : x .ok ≡ true
+    came-ok = parts .0
+
+    pub came-key : Fits w32 (key + 1)
+    came-key = record { fits = omega (arith, ltb-true key 2147483647 (parts .1)) }
+
+    pub came-order : 1 ≤ x .orders
+    came-order = leb-true 1 (x .orders) (parts .2)
+
+    pub came-made : _≡_ {A = Seen} (record { ok = true; low = key + 1; orders = x .orders - 1; chunks = x .chunks }) (counted key x)
+    unfolding counted
+    came-made = sym (rw c)
 
 module _ (b n : ℕ) (x : Seen) where
   pub enters-last : x .ok ≡ true → 1 ≤ n → n ≤ b → leb 1 (x .chunks) ≡ enters-ok b n x

@@ -1,14 +1,15 @@
 -- The turns of the walk: what the code does next is what the model does next. Assumes nothing.
-use mathlib.Core.Path.{_≡_, ap, sym, _∙_}
+use mathlib.Core.Path.{_≡_, refl, ap, sym, _∙_}
 use mathlib.Core.Bool.{Bool, true, false, _&&_, cond, and-false, and-eq-true-iff}
 use mathlib.Core.List.{List}
-use Prim.Native.Nat.{ℕ, suc, _+_, _*_, _-_, _/_, _^_, _≤_, _<_}
+use Prim.Native.Nat.{ℕ, zero, suc, _+_, _*_, _-_, _/_, _^_, _≤_, _<_}
 use lib.Dec.{leb, eqb}
 use borrow.Author.Tests.{leb-true}
 use native.Mathlib.Omega.{arith}
 use native.Mathlib.Nat.{sub-zero, pow-succ', mul-div-cancel-left}
 use native.Mathlib.Numerals.{add-one}
 use lib.ListN.{length, getD}
+use Rattle.placement.specs.Sizes.{least-power, beta}
 use Rattle.placement.specs.Header.{block-long}
 use Rattle.placement.specs.Place.{search-in, found-at}
 use Rattle.placement.specs.declared.Sizes.{Sizes}
@@ -16,47 +17,115 @@ use Rattle.placement.specs.declared.Order.{Order}
 use Rattle.placement.specs.declared.Found.{Found}
 use Rattle.placement.specs.declared.Found.the-variants.{At, Nothing}
 use Rattle.table.specs.declared.Seen.{Seen}
-use Rattle.table.specs.Walk.{Walkable, node-of, wrong-seen, quantities-ok, belongs-in, counted, enters-ok, entered-seen, ended-seen, stops-at, node-good, nodes-by, spot, chunk-spot, count-in, chunk-by, chunks-by, opens-of}
+use Rattle.table.specs.Walk.{Walkable, node-of, wrong-seen, quantities-ok, belongs-in, counts, counted, enters-ok, entered-seen, ended-seen, stops-at, node-good, nodes-by, spot, chunk-spot, count-in, chunk-by, chunks-by, opens-of}
 
--- NODES
-module _ (d : (key : ℕ) → Seen → Seen) (s : Sizes) (bs : List ℕ) (l f : ℕ) (o : Bool) (a j : ℕ) (x : Seen) where
-  pub nodes-none : j ≡ 0 → x ≡ nodes-by d s bs l f j a o x
-  unfolding nodes-by
-  nodes-none e = ap (λ (i : ℕ). nodes-by d s bs l f i a o x) (sym e)
+-- NODES: what the loop over the nodes of a chunk keeps
+pub record Noding (d : (key : ℕ) → Seen → Seen) (s : Sizes) (bs : List ℕ) (l f j₀ a₀ : ℕ) (o₀ : Bool) (x₀ : Seen) (j a : ℕ) (o : Bool) (x : Seen) : Type 0 where
+  pub room : a + 12 * j ≤ length bs
+  pub rest : nodes-by d s bs l f j₀ a₀ o₀ x₀ ≡ nodes-by d s bs l f j a o x
 
-  step : (j ≡ 0 → ⊥) → (t : Bool) → node-good s l f o (node-of bs a) x ≡ t
-      → nodes-by d s bs l f j a o x ≡ cond t (nodes-by d s bs l f (j - 1) (a + 12) false (d (node-of bs a .key) x)) wrong-seen
-  unfolding nodes-by
-  step ne t e =
-      let f′ : j ≡ suc (j - 1) = omega arith in
-      ap (λ (i : ℕ). nodes-by d s bs l f i a o x) f′
-      ∙ ap (λ (b : Bool). cond b (nodes-by d s bs l f (j - 1) (a + 12) false (d (node-of bs a .key) x)) wrong-seen) e
+-- nothing comes after a wrong node
+nodes-wrong : (d : (key : ℕ) → Seen → Seen) (s : Sizes) (bs : List ℕ) (l f j a : ℕ) (o : Bool) → nodes-by d s bs l f j a o wrong-seen ≡ wrong-seen
+unfolding nodes-by node-good wrong-seen
+nodes-wrong d s bs l f zero a o = refl
+nodes-wrong d s bs l f (suc j) a o = refl
 
-  pub nodes-bad : (w : Seen) → w ≡ wrong-seen → (j ≡ 0 → ⊥) → x .ok ≡ false → w ≡ nodes-by d s bs l f j a o x
-  unfolding node-good
-  nodes-bad w ew ne e = ew ∙ sym (step ne false (rw e))
+module _ (d : (key : ℕ) → Seen → Seen) (s : Sizes) (bs : List ℕ) (l f j₀ a₀ : ℕ) (o₀ : Bool) (x₀ : Seen) where
+  pub noding-start : a₀ + 12 * j₀ ≤ length bs → Noding d s bs l f j₀ a₀ o₀ x₀ j₀ a₀ o₀ x₀
+  noding-start h = record { room = h; rest = refl }
 
-  module _ (n : Order) (en : n ≡ node-of bs a) (b : Bool) (eb : b ≡ belongs-in s l f o (n .key)) where
-    pub nodes-strange : (w : Seen) → w ≡ wrong-seen → (j ≡ 0 → ⊥) → b ≡ false → w ≡ nodes-by d s bs l f j a o x
+  module _ (j a : ℕ) (o : Bool) (x : Seen) (i : Noding d s bs l f j₀ a₀ o₀ x₀ j a o x) where
+    pub noding-room : 0 < j → a + 12 ≤ length bs
+    noding-room p = omega (arith, i .room)
+
+    pub noding-end : j ≤ 0 → x ≡ nodes-by d s bs l f j₀ a₀ o₀ x₀
+    unfolding nodes-by
+    noding-end h =
+        let e : j ≡ 0 = omega arith in
+        sym (i .rest ∙ ap (λ (k : ℕ). nodes-by d s bs l f k a o x) e)
+
+    step : 0 < j → (t : Bool) → node-good s l f o (node-of bs a) x ≡ t
+        → nodes-by d s bs l f j₀ a₀ o₀ x₀ ≡ cond t (nodes-by d s bs l f (j - 1) (a + 12) false (d (node-of bs a .key) x)) wrong-seen
+    unfolding nodes-by
+    step p t e =
+        let f′ : j ≡ suc (j - 1) = omega arith in
+        i .rest
+        ∙ ap (λ (k : ℕ). nodes-by d s bs l f k a o x) f′
+        ∙ ap (λ (b : Bool). cond b (nodes-by d s bs l f (j - 1) (a + 12) false (d (node-of bs a .key) x)) wrong-seen) e
+
+    pub noding-bad : (w : Seen) → w ≡ wrong-seen → 0 < j → x .ok ≡ false → w ≡ nodes-by d s bs l f j₀ a₀ o₀ x₀
     unfolding node-good
-    nodes-strange w ew ne e =
-        let z : belongs-in s l f o (node-of bs a .key) ≡ false = rw (← en, ← eb, e) in
-        ew ∙ sym (step ne false (rw (z, and-false)))
+    noding-bad w ew p e = ew ∙ sym (step p false (rw e))
 
-    module _ (q : Bool) (eq : q ≡ quantities-ok l n) where
-      pub nodes-unfit : (w : Seen) → w ≡ wrong-seen → (j ≡ 0 → ⊥) → q ≡ false → w ≡ nodes-by d s bs l f j a o x
-      unfolding node-good
-      nodes-unfit w ew ne e =
-          let z : quantities-ok l (node-of bs a) ≡ false = rw (← en, ← eq, e) in
-          ew ∙ sym (step ne false (rw (z, and-false, and-false)))
+    module _ (n : Order) (en : n ≡ node-of bs a) where
+      pub noding-gone : (w : Seen) → w ≡ wrong-seen → 0 < j → d (n .key) x ≡ wrong-seen → w ≡ nodes-by d s bs l f j₀ a₀ o₀ x₀
+      noding-gone w ew p e = go (node-good s l f o (node-of bs a) x) refl
+        where
+          z : d (node-of bs a .key) x ≡ wrong-seen
+          z = ap (λ (m : Order). d (m .key) x) (sym en) ∙ e
 
-      pub nodes-more : (y r : Seen) → (j ≡ 0 → ⊥) → x .ok ≡ true → b ≡ true → q ≡ true → y ≡ d (n .key) x
-          → r ≡ nodes-by d s bs l f (j - 1) (a + 12) false y → r ≡ nodes-by d s bs l f j a o x
-      unfolding node-good
-      nodes-more y r ne ex b1 q1 ey er =
-          let z₁ : belongs-in s l f o (node-of bs a .key) ≡ true = rw (← en, ← eb, b1) in
-          let z₂ : quantities-ok l (node-of bs a) ≡ true = rw (← en, ← eq, q1) in
-          er ∙ ap (nodes-by d s bs l f (j - 1) (a + 12) false) (ey ∙ ap (λ (m : Order). d (m .key) x) en) ∙ sym (step ne true (rw (ex, z₁, z₂)))
+          go : (t : Bool) → node-good s l f o (node-of bs a) x ≡ t → w ≡ nodes-by d s bs l f j₀ a₀ o₀ x₀
+          go true q = ew ∙ sym (step p true q ∙ ap (nodes-by d s bs l f (j - 1) (a + 12) false) z ∙ nodes-wrong d s bs l f (j - 1) (a + 12) false)
+          go false q = ew ∙ sym (step p false q)
+
+      module _ (b : Bool) (eb : b ≡ belongs-in s l f o (n .key)) where
+        pub noding-strange : (w : Seen) → w ≡ wrong-seen → 0 < j → b ≡ false → w ≡ nodes-by d s bs l f j₀ a₀ o₀ x₀
+        unfolding node-good
+        noding-strange w ew p e =
+            let z : belongs-in s l f o (node-of bs a .key) ≡ false = rw (← en, ← eb, e) in
+            ew ∙ sym (step p false (rw (z, and-false)))
+
+        module _ (q : Bool) (eq : q ≡ quantities-ok l n) where
+          pub noding-unfit : (w : Seen) → w ≡ wrong-seen → 0 < j → q ≡ false → w ≡ nodes-by d s bs l f j₀ a₀ o₀ x₀
+          unfolding node-good
+          noding-unfit w ew p e =
+              let z : quantities-ok l (node-of bs a) ≡ false = rw (← en, ← eq, e) in
+              ew ∙ sym (step p false (rw (z, and-false, and-false)))
+
+          pub noding-more : (y : Seen) → 0 < j → x .ok ≡ true → b ≡ true → q ≡ true → y ≡ d (n .key) x
+              → Noding d s bs l f j₀ a₀ o₀ x₀ (j - 1) (a + 12) false y
+          unfolding node-good
+          noding-more y p ex b1 q1 ey =
+              let z₁ : belongs-in s l f o (node-of bs a .key) ≡ true = rw (← en, ← eb, b1) in
+              let z₂ : quantities-ok l (node-of bs a) ≡ true = rw (← en, ← eq, q1) in
+              record {
+                room = omega (arith, i .room);
+                rest =
+                    step p true (rw (ex, z₁, z₂))
+                    ∙ ap (nodes-by d s bs l f (j - 1) (a + 12) false) (sym (ey ∙ ap (λ (m : Order). d (m .key) x) en));
+              }
+
+-- at level 1 a node stands for itself
+pub stands : (s : Sizes) (bs : List ℕ) (key : ℕ) (x y : Seen) → y ≡ counted key x → y ≡ opens-of s bs 0 key x
+unfolding opens-of
+stands s bs key x y e = e
+
+pub stands-gone : (s : Sizes) (bs : List ℕ) (key : ℕ) (x : Seen) (t : Bool) → t ≡ counts key x → t ≡ false → opens-of s bs 0 key x ≡ wrong-seen
+unfolding opens-of counted
+stands-gone s bs key x t et e =
+    let z : counts key x ≡ false = sym et ∙ e in
+    rw z
+
+pub nodes-lowest : (s : Sizes) (bs : List ℕ) (l f j a : ℕ) (o : Bool) (x r : Seen) → l ≡ 1 → r ≡ nodes-by (opens-of s bs 0) s bs 1 f j a o x
+    → r ≡ nodes-by (opens-of s bs (l - 1)) s bs l f j a o x
+nodes-lowest s bs l f j a o x r e h = h ∙ ap (λ (i : ℕ). nodes-by (opens-of s bs (i - 1)) s bs i f j a o x) (sym e)
+
+-- A LABEL of the walk: its level is at most β, which is at most 19
+least-most : (k e g n : ℕ) → least-power k e g n ≤ k + e
+unfolding least-power
+least-most zero e g n = omega arith
+least-most (suc k) e g n = go (leb n (g ^ e)) (least-most k (suc e) g n)
+  where
+    go : (t : Bool) → least-power k (suc e) g n ≤ k + suc e → cond t e (least-power k (suc e) g n) ≤ suc k + e
+    go true h = omega arith
+    go false h = omega arith
+
+pub level-most : (s : Sizes) (l top : ℕ) → l ≤ top → top ≡ beta s → l ≤ 19
+unfolding beta
+level-most s l top h e = omega (arith, least-most 17 0 (s .gamma) (s .orders))
+
+pub number-most : (i m : ℕ) → i < m → m ≤ 65535 → i ≤ 65535
+number-most i m h k = omega arith
 
 -- CHUNKS
 pub record Chunking (s : Sizes) (bs : List ℕ) (l f : ℕ) (x : Seen) (i : ℕ) (y : Seen) : Type 0 where
@@ -156,9 +225,6 @@ module _ (b n : ℕ) (y : Seen) (t : Bool) (et : t ≡ enters-ok b n y) (e : t �
 module _ (s : Sizes) (bs : List ℕ) (w : Walkable s bs) (n : ℕ) (y : Seen) (t : Bool) (et : t ≡ enters-ok (s .nodes) n y) (e : t ≡ true) where
   pub chunk-room : (at : ℕ) → at + block-long s ≤ 53 + s .blocks * block-long s → at + 8 + 12 * n ≤ length bs
   chunk-room at h = omega (arith, w .shaped .long, w .shaped .width, enters-most (s .nodes) n y t et e)
-
-  pub chunk-falls : (m l : ℕ) → 64 * l + 63 ≡ m → 64 * l + n < m
-  chunk-falls m l q = omega (arith, w .shaped .few, enters-most (s .nodes) n y t et e)
 
 -- POWERS: one division steps a level down
 module _ (c l p : ℕ) (base : 2 ≤ c) (lo : 1 ≤ l) (ep : p ≡ c ^ l / c) where

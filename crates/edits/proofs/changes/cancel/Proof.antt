@@ -1,9 +1,9 @@
 -- `edits::changes::cancel` meets its contract: each need follows from the laws listed. Assumes nothing.
 use borrow.Author.Needs.{needs}
 use borrow.Author.Tests.{not-true, not-false}
-use Rattle.table.proofs.Laws.EditAnswers.{checked, unchecked, key-yes, key-no}
-use Rattle.table.proofs.Laws.CancelAnswers.{cancel-no-4, cancel-no-5, cancel-no-9}
-use Rattle.table.proofs.Laws.Replies.{key-least}
+use Rattle.edits.proofs.Laws.EditAnswers.{checked, unchecked, key-yes, key-no}
+use Rattle.edits.proofs.Laws.CancelAnswers.{cancel-no-4, cancel-no-5, cancel-no-9}
+use Rattle.readings.proofs.Laws.Replies.{key-least}
 use Rattle.edits.proofs.Laws.Sightings.{unseen-held, seen-held, seen-is-key, seen-cancels}
 use Rattle.edits.proofs.changes.cancel.Statement.{statement}
 use Rattle.edits.proofs.changes.cancel.Tie as tie

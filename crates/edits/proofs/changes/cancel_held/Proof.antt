@@ -1,6 +1,6 @@
--- `table::changes::cancel_held` meets its contract: each need follows from the laws listed. Assumes nothing.
+-- `edits::changes::cancel_held` meets its contract: each need follows from the laws listed. Assumes nothing.
 use borrow.Author.Needs.{needs}
-use Rattle.table.proofs.Laws.TurnLoops.{Cancelling, cancelling-start, cancelling-more, cancelling-end}
+use Rattle.edits.proofs.Laws.TurnLoops.{Cancelling, cancelling-start, cancelling-more, cancelling-end}
 use Rattle.edits.proofs.changes.cancel_held.Statement.{statement}
 use Rattle.edits.proofs.changes.cancel_held.Tie as tie
 

@@ -1,6 +1,6 @@
--- `table::changes::cancel_level` meets its contract: each need follows from the laws listed. Assumes nothing.
+-- `edits::changes::cancel_level` meets its contract: each need follows from the laws listed. Assumes nothing.
 use borrow.Author.Needs.{needs}
-use Rattle.table.proofs.Laws.CancelTurns.{cancel-turn-above, cancel-turn-in, cancel-turn-below}
+use Rattle.edits.proofs.Laws.CancelTurns.{cancel-turn-above, cancel-turn-in, cancel-turn-below}
 use Rattle.edits.proofs.changes.cancel_level.Statement.{statement}
 use Rattle.edits.proofs.changes.cancel_level.Tie as tie
 

@@ -1,7 +1,7 @@
 -- `edits::changes::cancel_sure` meets its contract: each need follows from the laws listed. Assumes nothing.
 use borrow.Author.Needs.{needs}
-use Rattle.table.proofs.Laws.EditAnswers.{image-shaped, image-gamma, image-gamma-some, image-orders, image-nodes, image-blocks, image-seeds, image-head, image-head-kept, sized}
-use Rattle.table.proofs.Laws.CancelAnswers.{held-some, cancel-done}
+use Rattle.edits.proofs.Laws.EditAnswers.{image-shaped, image-gamma, image-gamma-some, image-orders, image-nodes, image-blocks, image-seeds, image-head, image-head-kept, sized}
+use Rattle.edits.proofs.Laws.CancelAnswers.{held-some, cancel-done}
 use Rattle.edits.proofs.changes.cancel_sure.Statement.{statement}
 use Rattle.edits.proofs.changes.cancel_sure.Tie as tie
 

@@ -1,14 +1,13 @@
 -- `edits::changes::put_free` meets its contract: each need follows from the laws listed. Assumes nothing.
 use borrow.Author.Needs.{needs}
-use Rattle.table.proofs.Laws.EditAnswers.{image-shaped, image-nodes, image-head, image-head-kept, held-next}
-use Rattle.table.proofs.Laws.SweptImage.{swept-full}
-use Rattle.table.proofs.Laws.PutAnswers.{put-no-8, put-done-new, put-sum}
+use Rattle.edits.proofs.Laws.EditAnswers.{image-shaped, image-nodes, image-head, image-head-kept, held-next}
+use Rattle.edits.proofs.Laws.PutAnswers.{put-no-8, put-done-new, put-sum}
 use Rattle.edits.proofs.changes.put_free.Statement.{statement}
 use Rattle.edits.proofs.changes.put_free.Tie as tie
 
-ruleset laws = (needs, image-shaped, image-nodes, image-head, image-head-kept, swept-full, put-no-8, put-done-new, put-sum, held-next)
+ruleset laws = (needs, image-shaped, image-nodes, image-head, image-head-kept, put-no-8, put-done-new, put-sum, held-next)
 
 pub put-free-spec : {M : Type 1} → statement M
 put-free-spec =
     tie.close
-    (tie.spec (λ c κs. search laws) (λ c κs. search laws) (λ c. search laws) (λ c. search laws) (λ c. search laws) (λ c κs. search laws) (λ c. search laws) (λ c κs. search laws) (λ c. search laws) (λ c. search laws))
+    (tie.spec (λ c κs. search laws) (λ c. search laws) (λ c. search laws) (λ c. search laws) (λ c κs. search laws) (λ c. search laws) (λ c κs. search laws) (λ c. search laws) (λ c. search laws))

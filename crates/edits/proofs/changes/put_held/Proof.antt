@@ -1,6 +1,6 @@
--- `table::changes::put_held` meets its contract: each need follows from the laws listed. Assumes nothing.
+-- `edits::changes::put_held` meets its contract: each need follows from the laws listed. Assumes nothing.
 use borrow.Author.Needs.{needs}
-use Rattle.table.proofs.Laws.Helds.{put-held-high, put-held-low}
+use Rattle.edits.proofs.Laws.Helds.{put-held-high, put-held-low}
 use Rattle.edits.proofs.changes.put_held.Statement.{statement}
 use Rattle.edits.proofs.changes.put_held.Tie as tie
 

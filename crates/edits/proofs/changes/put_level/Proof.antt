@@ -1,6 +1,6 @@
--- `table::changes::put_level` meets its contract: each need follows from the laws listed. Assumes nothing.
+-- `edits::changes::put_level` meets its contract: each need follows from the laws listed. Assumes nothing.
 use borrow.Author.Needs.{needs}
-use Rattle.table.proofs.Laws.PutTurns.{put-turn-above, put-turn-in, put-turn-below}
+use Rattle.edits.proofs.Laws.PutTurns.{put-turn-above, put-turn-in, put-turn-below}
 use Rattle.edits.proofs.changes.put_level.Statement.{statement}
 use Rattle.edits.proofs.changes.put_level.Tie as tie
 

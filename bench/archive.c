@@ -1,0 +1,92 @@
+/* The archive's seven calls but make, and the checks in C: what is timed of them, and what their answers must be. */
+#include "balluchaw.h"
+#include "peers/check.h"
+#include "variants.h"
+
+enum { RESERVE = 2000000000 };
+
+int archive_check(void *p) {
+    const scene *s = p;
+    return balluchaw_check(s->table, s->length) != 0;
+}
+
+int check_in_plain_c(void *p) {
+    const scene *s = p;
+    return check_plain(s->table, s->length) != 0;
+}
+
+int check_in_tuned_c(void *p) {
+    const scene *s = p;
+    return check_tuned(s->table, s->length) != 0;
+}
+
+int check_in_fast_c(void *p) {
+    const scene *s = p;
+    return check_fast(s->table, s->length) != 0;
+}
+
+int archive_lookup(void *p) {
+    const scene *s = p;
+    balluchaw_reply r = balluchaw_lookup(s->table, s->length, s->picked.key);
+    return r.number != 0 || r.total != s->picked.total || r.displayed != s->picked.displayed;
+}
+
+int archive_span(void *p) {
+    const scene *s = p;
+    balluchaw_reply r = balluchaw_span(s->table, s->length, 1, P31 - 1, s->output, s->room);
+    return r.number != 0 || r.total != s->of.held;
+}
+
+/* From the picked order on, one with a large reserve; near the end there may be none. */
+int archive_seek(void *p) {
+    const scene *s = p;
+    balluchaw_reply r = balluchaw_seek(s->table, s->length, s->picked.key, P31 - 1, RESERVE);
+    return r.number != 12 && (r.number != 0 || r.key < s->picked.key || r.total - r.displayed < RESERVE);
+}
+
+int archive_put(void *p) {
+    const scene *s = p;
+    return balluchaw_put(s->table, s->length, s->picked.key, s->picked.total, s->picked.displayed) != 0;
+}
+
+int archive_cancel(void *p) {
+    const scene *s = p;
+    return balluchaw_cancel(s->table, s->length, s->picked.key) != 0;
+}
+
+/* A put of a held order with other quantities. */
+int archive_replace(void *p) {
+    const scene *s = p;
+    u32 total = s->picked.total == 1 ? 2 : 1;
+    return balluchaw_put(s->table, s->length, s->picked.key, total, 1) != 0;
+}
+
+/* A strict scene is asked whether the table is still one. */
+static void still_a_table(const scene *s) {
+    if (s->strict && (balluchaw_check(s->table, s->length) != 0 || check_fast(s->table, s->length) != 0)) {
+        fprintf(stderr, "after a change the bytes are no image\n");
+        exit(1);
+    }
+}
+
+void archive_pick(void *p) { pick(p); }
+
+void archive_away(void *p) {
+    scene *s = p;
+    pick(s);
+    balluchaw_cancel(s->table, s->length, s->picked.key);
+    still_a_table(s);
+}
+
+void archive_back(void *p) {
+    scene *s = p;
+    still_a_table(s);
+    balluchaw_put(s->table, s->length, s->picked.key, s->picked.total, s->picked.displayed);
+    archive_kept(p);
+}
+
+void archive_kept(void *p) {
+    const scene *s = p;
+    still_a_table(s);
+    if (s->strict) same_bytes(s);
+}

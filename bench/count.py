@@ -1,0 +1,33 @@
+#!/usr/bin/env python3
+"""count.py DIRECTORY   adds up the dumps of count.c there: for each configuration the check's instructions for each order, and the median of
+the instructions that each other call takes beyond a check of the table that it was made with."""
+import glob
+import re
+import statistics
+import sys
+
+CALLS = ["lookup", "seek", "span of all", "cancel", "put", "put of a held key"]
+
+
+def dumps(directory):
+    for name in sorted(glob.glob(f"{directory}/out.*"), key=lambda name: int(name.rsplit(".", 1)[1])):
+        with open(name, encoding="utf-8") as source:
+            text = source.read()
+        call = re.search(r"^desc: Trigger: Client Request: (.*)\|(\d+)\|(.*)$", text, re.M)
+        if call:
+            yield (call[1], int(call[2])), call[3], int(re.search(r"^(?:totals|summary): (\d+)", text, re.M)[1])
+
+
+def main():
+    counts, scenes = {}, {}
+    for scene, call, instructions in dumps(sys.argv[1]):
+        counts.setdefault((scene, call), []).append(instructions)
+        scenes[scene] = None
+    print(f"{'instructions':<24} {'check':>10}   beyond the check, median\n{'':<24} {'an order':>10} " + " ".join(f"{call:>17}" for call in CALLS))
+    for title, held in scenes:
+        check = counts[(title, held), "check"][0]
+        more = [statistics.median(counts[(title, held), call]) - check for call in CALLS]
+        print(f"{title:<16} {held:>7} {check / held:>10.1f} " + " ".join(f"{value:>17,.0f}" for value in more))
+
+
+main()

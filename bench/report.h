@@ -1,0 +1,26 @@
+/* Keeps what was measured, and prints it: as text and as CSV. */
+#ifndef REPORT_H
+#define REPORT_H
+
+#include "scene.h"
+#include "timing.h"
+
+#include <stdio.h>
+
+/* The rows that follow are of this scene. */
+void report_begin(const scene *s);
+
+/* Keeps the medians of variants that took turns on the scene. The first variant of an operation is the archive's. With `beyond` the first of all is the
+ * check, and of the archive's other calls it is kept what they take beyond it. */
+void report_keep(const variant *variants, int count, int rounds, int beyond);
+
+/* The rows of the last scene; of all scenes. */
+void report_last(FILE *to);
+void report_all(FILE *to);
+
+/* A line for each scene, and how many times as fast as the others the archive is. */
+void report_summary(FILE *to);
+
+void report_csv(FILE *to);
+
+#endif

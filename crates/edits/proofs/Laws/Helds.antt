@@ -1,0 +1,78 @@
+-- Where the node of a held key stands at level 1: at the head of a partition of its own, or behind the nodes below it. Assumes nothing.
+use mathlib.Core.Path.{_≡_, refl, sym, ap, _∙_, subst}
+use mathlib.Core.Bool.{Bool, true, false}
+use mathlib.Core.List.{List, [], _∷_, _++_, map-append}
+use Prim.Native.Nat.{ℕ, suc, _≤_, _<_}
+use native.Mathlib.Omega.{arith}
+use borrow.Author.Tests.{eqb-true, eqb-false}
+use lib.Dec.{eqb}
+use lib.ListN.{length, length-append}
+use Rattle.placement.specs.Hash.{level}
+use Rattle.placement.specs.Header.{header}
+use Rattle.placement.specs.Maps.{map-of}
+use Rattle.placement.specs.declared.Sizes.{Sizes}
+use Rattle.placement.specs.declared.Order.{Order}
+use Rattle.skiplist.specs.Lists.{first-key, chunks}
+use Rattle.skiplist.proofs.Parts.{part}
+use Rattle.skiplist.proofs.Descent.{tail-above}
+use Rattle.skiplist.proofs.Image.{image-keeps}
+use Rattle.skiplist.proofs.Edits.{beta-least, level-least, head-part, tail-part, part-in, part-left, part-right, part-other}
+use Rattle.levels.specs.declared.Spot.{Spot}
+use Rattle.levels.specs.Edit.{Scans, Replaces, Bottoms}
+use Rattle.edits.specs.Change.{Put-held}
+use Rattle.table.proofs.Laws.MaskedKeys.{head-most, tail-most}
+use Rattle.edits.proofs.Laws.WayLevels.{as-pieces}
+use Rattle.edits.proofs.Laws.Settings.{all-up, front-below, behind-up, key-pos, some-nodes, few-orders, part-beside}
+use Rattle.edits.proofs.Laws.WaySpots.{Spotted, scanned}
+use Rattle.edits.proofs.Laws.Swaps.{swapped}
+
+module _ (s : Sizes) (top l : ℕ) (o : Order) (bs bs′ : List ℕ) where
+  pub put-held-high : 1 < l → Replaces s (o .key) 0 o bs bs′ → Put-held s top l o bs bs′
+  unfolding Put-held
+  put-held-high h r xs y zs w v e te le i =
+      swapped s xs y o zs e w v (o .key) 0 [] (tail-part s 1 zs) bs bs′ r i refl (omega (arith, tail-most s 1 zs, few-orders s xs o zs v))
+      (subst (λ (g : ℕ). part s (xs ++ y ∷ zs) 1 g ≡ y ∷ tail-part s 1 zs) e (part-right s 1 xs y zs (all-up s xs y zs w) up-y))
+      (part-right s 1 xs o zs (all-up s xs o zs v) up-o) (λ g n. go g n (eqb (first-key (head-part s 1 xs)) g) refl)
+    where
+      up-o : 1 < level s (o .key)
+      up-o = omega (arith, h, le)
+
+      up-y : 1 < level s (y .key)
+      up-y = subst (λ (z : ℕ). 1 < level s z) (sym e) up-o
+
+      go : (g : ℕ) → (o .key ≡ g → ⊥) → (t : Bool) → eqb (first-key (head-part s 1 xs)) g ≡ t → part s (xs ++ y ∷ zs) 1 g ≡ part s (xs ++ o ∷ zs) 1 g
+      go g n true z = rw (← eqb-true (first-key (head-part s 1 xs)) g z) (part-left s 1 xs y zs (all-up s xs y zs w) up-y ∙ sym (part-left s 1 xs o zs (all-up s xs o zs v) up-o))
+      go g n false z =
+          part-other s 1 xs y zs (all-up s xs y zs w) g (eqb-false (first-key (head-part s 1 xs)) g z) (λ q. n (sym e ∙ q))
+          ∙ sym (part-other s 1 xs o zs (all-up s xs o zs v) g (eqb-false (first-key (head-part s 1 xs)) g z) n)
+
+  pub put-held-low : (f : ℕ) (x : Spot) → l ≤ 1 → Bottoms s bs top (o .key) f → Scans s bs 1 f (o .key) x → Replaces s f (x .below) o bs bs′ → Put-held s top l o bs bs′
+  unfolding Put-held Bottoms
+  put-held-low f x h b sc r xs y zs w v e te le i =
+      swapped s xs y o zs e w v (first-key (head-part s 1 xs)) (x .below) (head-part s 1 xs) (tail-part s 1 zs) bs bs′ (rw fe at r) i (seen .below)
+      (simp length-append (omega (arith, head-most s 1 xs, tail-most s 1 zs, few-orders s xs o zs v))) in-y (part-in s 1 xs o zs (all-up s xs o zs v) at-o)
+      (λ g n. part-beside s xs y zs w 1 g at-y n ∙ sym (part-beside s xs o zs v 1 g at-o n))
+    where
+      at-o : level s (o .key) ≡ 1
+      at-o = omega (arith, h, le, level-least s (o .key))
+
+      at-y : level s (y .key) ≡ 1
+      at-y = ap (level s) e ∙ at-o
+
+      in-y : part s (xs ++ y ∷ zs) 1 (first-key (head-part s 1 xs)) ≡ head-part s 1 xs ++ y ∷ tail-part s 1 zs
+      in-y = part-in s 1 xs y zs (all-up s xs y zs w) at-y
+
+      from : o .key ≤ y .key
+      from = omega (arith, e)
+
+      fe : f ≡ first-key (head-part s 1 xs)
+      fe = b xs (y ∷ zs) (w .sizes) (w .good) (w .fit) i (front-below s xs o zs v) (from, behind-up s xs y zs w) (key-pos s xs o zs v) te
+
+      seen : Spotted x (head-part s 1 xs) (y ∷ tail-part s 1 zs)
+      seen =
+          scanned s xs o zs v 1 (omega arith) (map-of (chunks s (xs ++ y ∷ zs))) (length (chunks s (xs ++ y ∷ zs))) (header s (length (xs ++ y ∷ zs))) bs
+          (first-key (head-part s 1 xs)) x (y ∷ tail-part s 1 zs) (rw i (image-keeps s (xs ++ y ∷ zs) (w .sizes) (w .good) (w .fit))) (rw fe at sc)
+          (rw map-append at
+          (as-pieces s (xs ++ y ∷ zs) (some-nodes s xs y zs w) (all-up s xs y zs w) 1 (omega arith) (omega (arith, beta-least s)) (map-of (chunks s (xs ++ y ∷ zs)))
+          (first-key (head-part s 1 xs)) (head-part s 1 xs ++ y ∷ tail-part s 1 zs) in-y (λ j. refl)))
+          (from, tail-above s 1 (suc (y .key)) zs (behind-up s xs y zs w))

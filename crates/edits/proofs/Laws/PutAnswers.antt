@@ -1,0 +1,198 @@
+-- A put's last questions, 7 and 8, and what it leaves. Assumes nothing.
+use mathlib.Core.Path.{_≡_, refl, sym, ap, _∙_, subst}
+use mathlib.Core.Bool.{true, false, true≢false, and-false}
+use mathlib.Core.List.{List, _∷_, _++_}
+use Prim.Native.Nat.{ℕ, suc, _+_, _≤_, _<_}
+use native.Mathlib.Nat.{add-suc}
+use native.Mathlib.Omega.{arith}
+use borrow.Author.Tests.{leb-true, lt-leb, lt-ltb, le-ltb}
+use mir.Syntax.{w32}
+use mir.Val.{Fits}
+use lib.Dec.{ltb, leb}
+use lib.ListN.{length, length-append}
+use lib.Seq.{sets}
+use Rattle.placement.specs.Numbers.{big}
+use Rattle.placement.specs.Sizes.{prime, beta, made}
+use Rattle.placement.specs.Hash.{level}
+use Rattle.placement.specs.Header.{sizes-in, held-in}
+use Rattle.placement.specs.declared.Sizes.{Sizes}
+use Rattle.placement.specs.declared.Order.{Order}
+use Rattle.placement.proofs.Laws.Sizes.{some-nodes}
+use Rattle.skiplist.specs.Lists.{chunks}
+use Rattle.skiplist.specs.Image.{image, is-image, orders-in, quantities-good, fits}
+use Rattle.skiplist.specs.Questions.{first-no, asks-put, is-key, held, order, with-order}
+use Rattle.skiplist.specs.Book.{put, booked, put-refusal, refusal}
+use Rattle.skiplist.proofs.Parts.{Up, and-left, up-past, good-up, below}
+use Rattle.skiplist.proofs.Shapes.{Place, there, absent, place, held-there, held-absent, put-new, put-old}
+use Rattle.skiplist.proofs.Kept.{fits-parts, fits-make, Kept, kept-put}
+use Rattle.table.specs.Calls.{Put-says}
+use Rattle.levels.specs.Edit.{Grows}
+use Rattle.edits.specs.Change.{Put-new, Put-held, Put-sure, Sized, Put-free}
+use Rattle.edits.proofs.Laws.Swaps.{chunks-swap}
+use Rattle.edits.proofs.Laws.ChunkBounds.{chunks-small}
+use Rattle.edits.proofs.Laws.EditAnswers.{refused, accepted, image-held, image-orders, on-image}
+
+pub put-free : (bs : List ℕ) (s : Sizes) (k m : ℕ) → held k (orders-in bs) ≡ false → m ≡ held-in bs → m < s .orders → Put-free bs s k
+put-free bs s k m h e l = record { absent-is = h; more = omega (arith, e, l) }
+
+key-some : (k : ℕ) → is-key k ≡ true → 0 < k
+unfolding is-key
+key-some k e = leb-true 1 k (and-left (leb 1 k) (ltb k prime) e)
+
+module _ (s : Sizes) (k t d : ℕ) (os : List Order) (m : made s ≡ true) (w : Kept s os) (key : is-key k ≡ true) (quant : quantities-good t d ≡ true) where
+  u : Up 1 os
+  u = good-up 1 os (w .good)
+
+  -- ---- a key that is not held
+  module _ (free : held k os ≡ false) where
+    -- what holds wherever the key comes between others
+    new-at : (P : List Order → Type 0) → ((xs zs : List Order) → os ≡ xs ++ zs → below k xs ≡ true → Up (suc k) zs → P (xs ++ zs)) → P os
+    new-at P h = go (place k 1 os u)
+      where
+        go : Place k os → P os
+        go (there xs y zs q e) =
+            absurd (true≢false (sym (subst (λ (z : ℕ). held z (xs ++ y ∷ zs) ≡ true) e (held-there xs y zs)) ∙ subst (λ (z : List Order). held k z ≡ false) q free))
+        go (absent xs zs q f v) = subst P (sym q) (h xs zs q f v)
+
+    new-length : length (with-order (order k t d) os) ≡ suc (length os)
+    new-length = new-at (λ (z : List Order). length (with-order (order k t d) z) ≡ suc (length z))
+        (λ xs zs q f v. rw (put-new (order k t d) xs zs f v, length-append xs (order k t d ∷ zs), length-append xs zs) (add-suc (length xs) (length zs)))
+
+    new-count : (bs : List ℕ) (top l g : ℕ) → bs ≡ image s os → Grows s bs top l k g → top ≡ beta s → l ≡ level s k →
+        g + length (chunks s os) ≡ length (chunks s (with-order (order k t d) os))
+    unfolding Grows
+    new-count bs top l g i h te le = new-at (λ (z : List Order). g + length (chunks s z) ≡ length (chunks s (with-order (order k t d) z)))
+        (λ xs zs q f v. rw (put-new (order k t d) xs zs f v)
+        (h xs (order k t d) zs m (rw q at (w .good)) (rw q at (w .fit)) (rw q at i) f v (key-some k key) refl te le))
+
+    new-no-7 : s .orders ≤ length os → put-refusal s k t d os ≡ 7
+    unfolding put-refusal first-no asks-put
+    new-no-7 h = rw (key, quant, free, le-ltb (length os) (s .orders) h)
+
+    module _ (more : length os < s .orders) where
+      new-no-8 : s .blocks < length (chunks s (with-order (order k t d) os)) → put-refusal s k t d os ≡ 8
+      unfolding put-refusal first-no asks-put fits
+      new-no-8 h =
+          rw (
+            key,
+            quant,
+            free,
+            lt-ltb (length os) (s .orders) more,
+            lt-leb (length (chunks s (with-order (order k t d) os))) (s .blocks) h,
+            and-false (leb (length (with-order (order k t d) os)) (s .orders)),
+          )
+
+      new-yes : length (chunks s (with-order (order k t d) os)) ≤ s .blocks → put-refusal s k t d os ≡ 0
+      unfolding put-refusal first-no asks-put
+      new-yes h =
+          rw (key, quant, free, lt-ltb (length os) (s .orders) more, fits-make s (with-order (order k t d) os) (rw new-length more) h)
+
+    new-image : (bs bs′ : List ℕ) (top l : ℕ) → put-refusal s k t d os ≡ 0 → bs ≡ image s os → top ≡ beta s → l ≡ level s k → Put-new s top l (order k t d) bs bs′ →
+        sets bs′ 11 (big 2 (suc (length os))) ≡ image s (with-order (order k t d) os)
+    unfolding Put-new
+    new-image bs bs′ top l r i te le h =
+        ap (λ (n : ℕ). sets bs′ 11 (big 2 n)) (sym new-length)
+        ∙ new-at (λ (z : List Order). sets bs′ 11 (big 2 (length (with-order (order k t d) z))) ≡ image s (with-order (order k t d) z))
+        (λ xs zs q f v.
+        let v′ = kept-put s k t d os w r in
+        let e : with-order (order k t d) os ≡ xs ++ order k t d ∷ zs = ap (with-order (order k t d)) q ∙ put-new (order k t d) xs zs f v in
+        rw (put-new (order k t d) xs zs f v)
+        (h xs zs (record { sizes = m; good = rw e at (v′ .good); fit = rw e at (v′ .fit) }) te le (rw q at i)))
+
+  -- ---- a held key
+  module _ (there-is : held k os ≡ true) where
+    old-at : (P : List Order → Type 0) → ((xs : List Order) (y : Order) (zs : List Order) → os ≡ xs ++ y ∷ zs → y .key ≡ k → Up 1 (xs ++ y ∷ zs) → P (xs ++ y ∷ zs)) → P os
+    old-at P h = go (place k 1 os u)
+      where
+        go : Place k os → P os
+        go (there xs y zs q e) = subst P (sym q) (h xs y zs q e (subst (Up 1) q u))
+        go (absent xs zs q f v) = absurd (true≢false (sym (subst (λ (z : List Order). held k z ≡ true) q there-is) ∙ held-absent k xs zs f v))
+
+    old-length : length (with-order (order k t d) os) ≡ length os
+    old-length = old-at (λ (z : List Order). length (with-order (order k t d) z) ≡ length z)
+        (λ xs y zs q e v. rw (put-old (order k t d) y xs zs 1 e v) (simp length-append))
+
+    old-count : length (chunks s (with-order (order k t d) os)) ≡ length (chunks s os)
+    old-count = old-at (λ (z : List Order). length (chunks s (with-order (order k t d) z)) ≡ length (chunks s z))
+        (λ xs y zs q e v. rw (put-old (order k t d) y xs zs 1 e v) (sym (chunks-swap s xs y (order k t d) zs e (up-past xs y zs 1 v) (key-some k key) (some-nodes s m))))
+
+    old-yes : put-refusal s k t d os ≡ 0
+    unfolding put-refusal first-no asks-put
+    old-yes =
+        let f = fits-parts s os (w .fit) in
+        rw (key, quant, there-is, fits-make s (with-order (order k t d) os) (rw old-length (f .few)) (rw old-count (f .room)))
+
+    old-image : (bs bs′ : List ℕ) (top l : ℕ) → bs ≡ image s os → top ≡ beta s → l ≡ level s k → Put-held s top l (order k t d) bs bs′ → bs′ ≡ image s (with-order (order k t d) os)
+    unfolding Put-held
+    old-image bs bs′ top l i te le h = old-at (λ (z : List Order). bs′ ≡ image s (with-order (order k t d) z))
+        (λ xs y zs q e v.
+        let v′ = kept-put s k t d os w old-yes in
+        let p = put-old (order k t d) y xs zs 1 e v in
+        let r : with-order (order k t d) os ≡ xs ++ order k t d ∷ zs = ap (with-order (order k t d)) q ∙ p in
+        rw p
+        (h xs y zs (record { sizes = m; good = rw q at (w .good); fit = rw q at (w .fit) }) (record { sizes = m; good = rw r at (v′ .good); fit = rw r at (v′ .fit) }) e te le (rw q at i)))
+
+-- ---- the answers
+
+module _ (bs : List ℕ) (s : Sizes) (k t d : ℕ) (p : Put-sure bs k t d) where
+  put-refused : (n : ℕ) → s ≡ sizes-in bs → put-refusal s k t d (orders-in bs) ≡ n → (n ≡ 0 → ⊥) → Put-says k t d n bs bs
+  unfolding Put-says refusal
+  put-refused n q e h = refused (put k t d) n bs (rw (p .image) (subst (λ (z : Sizes). put-refusal z k t d (orders-in bs) ≡ n) q e)) h
+
+  put-accepted : (bs′ : List ℕ) → s ≡ sizes-in bs → put-refusal s k t d (orders-in bs) ≡ 0 → bs′ ≡ image s (with-order (order k t d) (orders-in bs)) → Put-says k t d 0 bs bs′
+  unfolding Put-says refusal booked
+  put-accepted bs′ q e h =
+      let r : put-refusal (sizes-in bs) k t d (orders-in bs) ≡ 0 = subst (λ (z : Sizes). put-refusal z k t d (orders-in bs) ≡ 0) q e in
+      accepted (put k t d) bs bs′ (rw (p .image, r)) (rw r (subst (λ (z : Sizes). bs′ ≡ image z (with-order (order k t d) (orders-in bs))) q h))
+
+  -- question 7
+  pub put-no-7 : (m : ℕ) → s ≡ sizes-in bs → held k (orders-in bs) ≡ false → m ≡ held-in bs → s .orders ≤ m → Put-says k t d 7 bs bs
+  put-no-7 m q free e h =
+      let w = on-image bs s (p .image) q in
+      put-refused 7 q (new-no-7 s k t d (orders-in bs) (w .sizes-made) (w .kept) (p .key) (p .quantities) free (omega (arith, e, h, image-held bs (p .image)))) (λ z. omega arith)
+
+  module _ (top l : ℕ) (z : Sized bs s top l k) where
+    -- a held key
+    pub put-done-held : (bs′ : List ℕ) → held k (orders-in bs) ≡ true → Put-held s top l (order k t d) bs bs′ → Put-says k t d 0 bs bs′
+    put-done-held bs′ h c =
+        let w = on-image bs s (p .image) (z .sizes-are) in
+        put-accepted bs′ (z .sizes-are) (old-yes s k t d (orders-in bs) (w .sizes-made) (w .kept) (p .key) (p .quantities) h)
+        (old-image s k t d (orders-in bs) (w .sizes-made) (w .kept) (p .key) (p .quantities) h bs bs′ top l (w .is) (z .top-is) (z .level-is) c)
+
+    module _ (f : Put-free bs s k) (full g : ℕ) (n : full ≡ length (chunks s (orders-in bs))) (c : Grows s bs top l k g) where
+      pub counted : full + g ≡ length (chunks s (with-order (order k t d) (orders-in bs)))
+      counted =
+          let w = on-image bs s (p .image) (z .sizes-are) in
+          omega (arith, n, new-count s k t d (orders-in bs) (w .sizes-made) (w .kept) (p .key) (p .quantities) (f .absent-is) bs top l g (w .is) c (z .top-is) (z .level-is))
+
+      pub more-orders : length (orders-in bs) < s .orders
+      more-orders = omega (arith, f .more, image-held bs (p .image))
+
+      -- question 8
+      pub put-no-8 : s .blocks < full + g → Put-says k t d 8 bs bs
+      put-no-8 h =
+          let w = on-image bs s (p .image) (z .sizes-are) in
+          put-refused 8 (z .sizes-are) (new-no-8 s k t d (orders-in bs) (w .sizes-made) (w .kept) (p .key) (p .quantities) (f .absent-is) more-orders (omega (arith, h, counted))) (λ y. omega arith)
+
+      -- a key that was not held
+      pub put-done-new : (m : ℕ) (bs₁ bs′ : List ℕ) → full + g ≤ s .blocks → Put-new s top l (order k t d) bs bs₁ → m ≡ held-in bs → bs′ ≡ sets bs₁ 11 (big 2 (m + 1)) → Put-says k t d 0 bs bs′
+      put-done-new m bs₁ bs′ h v e i =
+          let w = on-image bs s (p .image) (z .sizes-are) in
+          let r = new-yes s k t d (orders-in bs) (w .sizes-made) (w .kept) (p .key) (p .quantities) (f .absent-is) more-orders (omega (arith, h, counted)) in
+          let q : m + 1 ≡ suc (length (orders-in bs)) = omega (arith, e, image-held bs (p .image)) in
+          put-accepted bs′ (z .sizes-are) r
+          (i ∙ ap (λ (x : ℕ). sets bs₁ 11 (big 2 x)) q
+          ∙ new-image s k t d (orders-in bs) (w .sizes-made) (w .kept) (p .key) (p .quantities) (f .absent-is) bs bs₁ top l r (w .is) (z .top-is) (z .level-is) v)
+
+-- the sum of question 8 is one that 32 bits hold
+pub put-sum : (bs : List ℕ) (s : Sizes) (top l k full g : ℕ) → full ≡ length (chunks s (orders-in bs)) → Grows s bs top l k g → is-image bs ≡ true → is-key k ≡ true → Sized bs s top l k → Put-free bs s k → top ≤ 19 → Fits w32 (full + g)
+unfolding quantities-good
+put-sum bs s top l k full g n c i key z f h =
+    let p : Put-sure bs k 1 0 = record { image = i; key = key; quantities = refl } in
+    let w = on-image bs s i (z .sizes-are) in
+    let e = new-length s k 1 0 (orders-in bs) (w .sizes-made) (w .kept) key (p .quantities) (f .absent-is) in
+    record {
+      fits = rw (counted bs s k 1 0 p top l z f full g n c)
+          (chunks-small s (with-order (order k 1 0) (orders-in bs)) (some-nodes s (w .sizes-made)) (omega (arith, h, z .top-is))
+          (omega (arith, e, more-orders bs s k 1 0 p top l z f full g n c, image-orders bs i s (z .sizes-are))));
+    }

@@ -1,0 +1,135 @@
+-- One level of a put: above the key's level nothing changes, at it the key comes into a partition, below it the key starts one. Assumes nothing.
+use mathlib.Core.Path.{_≡_, sym}
+use mathlib.Core.List.{List, [], _∷_, _++_, map, map-append}
+use Prim.Native.Nat.{ℕ, zero, suc, _+_, _≤_, _<_}
+use native.Mathlib.Nat.{add-suc}
+use native.Mathlib.Omega.{arith}
+use lib.ListN.{length, length-append, length-map}
+use Rattle.placement.specs.Sizes.{beta}
+use Rattle.placement.specs.Hash.{level}
+use Rattle.placement.specs.Header.{header}
+use Rattle.placement.specs.declared.Sizes.{Sizes}
+use Rattle.placement.specs.declared.Order.{Order}
+use Rattle.skiplist.specs.Lists.{masked, first-key}
+use Rattle.skiplist.proofs.Parts.{up-from}
+use Rattle.skiplist.proofs.Descent.{tail-above}
+use Rattle.skiplist.proofs.Count.{pieces, count-low, count-same, count-high, counts-more}
+use Rattle.skiplist.proofs.Edits.{head-part, tail-part, head-part-long, part-at, part-in, part-left, part-right, part-above, part-other}
+use Rattle.levels.specs.declared.Spot.{Spot}
+use Rattle.levels.specs.Edit.{Pieces, Scans, Puts-in, Puts-below}
+use Rattle.edits.specs.Change.{Setting, Between, Put-turn}
+use Rattle.table.proofs.Laws.MaskedKeys.{head-most, tail-most}
+use Rattle.edits.proofs.Laws.WayLevels.{pred-suc, as-pieces, same-part, counts-one, level-kept}
+use Rattle.edits.proofs.Laws.Changed.{one-changed, two-changed}
+use Rattle.edits.proofs.Laws.Settings.{all-up, less-up, behind-up, key-pos, order-fine, some-nodes, few-orders, room-all, first-low, less-none, part-beside}
+use Rattle.edits.proofs.Laws.WaySpots.{length-both, Spotted, scanned, room, next-first}
+
+module _ (s : Sizes) (xs : List Order) (o : Order) (zs : List Order) (w : Setting s xs o zs) (j : ℕ) (low : suc j ≤ beta s) where
+  few : length (head-part s (suc j) xs) + length (tail-part s (suc j) zs) ≤ 65536
+  few = omega (arith, head-most s (suc j) xs, tail-most s (suc j) zs, few-orders s xs o zs w)
+
+  module _ (bs : List ℕ) (b : Between s (xs ++ zs) (xs ++ o ∷ zs) (suc j) bs) where
+    -- the partition that the key comes to
+    there : Pieces (b .map) (s .nodes) (suc j) (first-key (head-part s (suc j) xs)) 0 (map (masked (suc j)) (head-part s (suc j) xs) ++ map (masked (suc j)) (tail-part s (suc j) zs))
+    there =
+        rw map-append at
+        (as-pieces s (xs ++ zs) (some-nodes s xs o zs w) (less-up s xs o zs w) (suc j) (omega arith) low (b .map) (first-key (head-part s (suc j) xs)) (head-part s (suc j) xs ++ tail-part s (suc j) zs)
+        (part-at s (suc j) xs zs (less-up s xs o zs w)) (λ i. b .upto (suc j) (first-key (head-part s (suc j) xs)) i (omega arith)))
+
+    seen : (x : Spot) → Scans s bs (suc j) (first-key (head-part s (suc j) xs)) (o .key) x → Spotted x (head-part s (suc j) xs) (tail-part s (suc j) zs)
+    seen x sc =
+        scanned s xs o zs w (suc j) (omega arith) (b .map) (b .full) _ bs (first-key (head-part s (suc j) xs)) x (tail-part s (suc j) zs) (b .table) sc there
+        (tail-above s (suc j) (o .key) zs (up-from zs (omega arith) (behind-up s xs o zs w)))
+
+    module _ (x : Spot) (sc : Scans s bs (suc j) (first-key (head-part s (suc j) xs)) (o .key) x) where
+      -- above the key's level
+      pub put-over : level s (o .key) < suc j → (x .last ≡ first-key (head-part s j xs)) × Between s (xs ++ zs) (xs ++ o ∷ zs) j bs
+      put-over h = (
+        next-first s xs o zs w j x (tail-part s (suc j) zs) (seen x sc),
+        level-kept s (xs ++ zs) (xs ++ o ∷ zs) j bs b
+            (λ g. same-part s (xs ++ zs) (xs ++ o ∷ zs) (some-nodes s xs o zs w) (less-up s xs o zs w) (all-up s xs o zs w) (suc j) g (omega arith) low
+            (sym (part-above s (suc j) xs o zs (all-up s xs o zs w) g h)))
+            (sym (count-low s (suc j) xs o zs (key-pos s xs o zs w) h)),
+      )
+
+      -- at it
+      room-in : level s (o .key) ≡ suc j →
+          b .full + pieces (s .nodes) (suc (length (map (masked (suc j)) (head-part s (suc j) xs) ++ map (masked (suc j)) (tail-part s (suc j) zs))))
+          ≤ s .blocks + pieces (s .nodes) (length (map (masked (suc j)) (head-part s (suc j) xs) ++ map (masked (suc j)) (tail-part s (suc j) zs)))
+      room-in h =
+          rw (length-both (suc j) (head-part s (suc j) xs) (tail-part s (suc j) zs))
+          (omega (
+            arith,
+            b .count,
+            counts-one j s (xs ++ zs),
+            counts-one j s (xs ++ o ∷ zs),
+            count-same s (suc j) xs o zs (key-pos s xs o zs w) h,
+            counts-more j 1 s xs o zs (key-pos s xs o zs w) (some-nodes s xs o zs w),
+            room-all s xs o zs w,
+          ))
+
+      pub put-inside : (bs′ : List ℕ) → level s (o .key) ≡ suc j → Puts-in s (suc j) (first-key (head-part s (suc j) xs)) x o bs bs′ →
+          (x .last ≡ first-key (head-part s j xs)) × Between s (xs ++ zs) (xs ++ o ∷ zs) j bs′
+      unfolding Puts-in
+      put-inside bs′ h p =
+          let ps = head-part s (suc j) xs in
+          let qs = tail-part s (suc j) zs in
+          let c = p (b .map) (b .full) (header s (length (xs ++ zs))) (map (masked (suc j)) ps) (map (masked (suc j)) qs) (b .table)
+          (room s xs o zs w (suc j) (omega arith) (first-key ps) x ps qs o low (first-low s xs o zs w (suc j)) (order-fine s xs o zs w) few (seen x sc)) there (room-in h) in (
+            next-first s xs o zs w j x qs (seen x sc),
+            one-changed s (xs ++ zs) (xs ++ o ∷ zs) (some-nodes s xs o zs w) (less-up s xs o zs w) (all-up s xs o zs w) j low bs b bs′ (first-key ps) (ps ++ qs) (ps ++ o ∷ qs)
+                (rw (map-append (masked (suc j)) ps qs, map-append (masked (suc j)) ps (o ∷ qs)) c)
+                (part-in s (suc j) xs o zs (all-up s xs o zs w) h) (λ g n. sym (part-beside s xs o zs w (suc j) g h n))
+                (rw (length-append ps qs, length-append ps (o ∷ qs), add-suc (length ps) (length qs)) (count-same s (suc j) xs o zs (key-pos s xs o zs w) h)),
+          )
+
+      -- below it
+      room-below : suc j < level s (o .key) →
+          b .full + pieces (s .nodes) (length (map (masked (suc j)) (head-part s (suc j) xs))) + pieces (s .nodes) (suc (length (map (masked (suc j)) (tail-part s (suc j) zs))))
+          ≤ s .blocks + pieces (s .nodes) (length (map (masked (suc j)) (head-part s (suc j) xs) ++ map (masked (suc j)) (tail-part s (suc j) zs)))
+      room-below h =
+          rw (length-both (suc j) (head-part s (suc j) xs) (tail-part s (suc j) zs), length-map (head-part s (suc j) xs) (masked (suc j)), length-map (tail-part s (suc j) zs) (masked (suc j)))
+          (omega (
+            arith,
+            b .count,
+            counts-one j s (xs ++ zs),
+            counts-one j s (xs ++ o ∷ zs),
+            count-high s (suc j) xs o zs (key-pos s xs o zs w) h,
+            counts-more j 1 s xs o zs (key-pos s xs o zs w) (some-nodes s xs o zs w),
+            room-all s xs o zs w,
+          ))
+
+      pub put-under : (bs′ : List ℕ) → suc j < level s (o .key) → Puts-below s (suc j) (first-key (head-part s (suc j) xs)) x o bs bs′ →
+          (x .last ≡ first-key (head-part s j xs)) × Between s (xs ++ zs) (xs ++ o ∷ zs) j bs′
+      unfolding Puts-below
+      put-under bs′ h p =
+          let ps = head-part s (suc j) xs in
+          let qs = tail-part s (suc j) zs in
+          let c = p (b .map) (b .full) (header s (length (xs ++ zs))) (map (masked (suc j)) ps) (map (masked (suc j)) qs) (b .table)
+          (room s xs o zs w (suc j) (omega arith) (first-key ps) x ps qs o low (first-low s xs o zs w (suc j)) (order-fine s xs o zs w) few (seen x sc)) there
+          (λ z. omega (arith, first-low s xs o zs w (suc j)))
+          (as-pieces s (xs ++ zs) (some-nodes s xs o zs w) (less-up s xs o zs w) (suc j) (omega arith) low (b .map) (o .key) [] (less-none s xs o zs w (suc j)) (λ i. b .upto (suc j) (o .key) i (omega arith)))
+          (rw (length-map ps (masked (suc j))) (head-part-long s (suc j) xs)) (room-below h) in (
+            next-first s xs o zs w j x qs (seen x sc),
+            two-changed s (xs ++ zs) (xs ++ o ∷ zs) (some-nodes s xs o zs w) (less-up s xs o zs w) (all-up s xs o zs w) j low bs b bs′ (first-key ps) (o .key) _ ps (o ∷ qs) c
+                (part-left s (suc j) xs o zs (all-up s xs o zs w) h) (part-right s (suc j) xs o zs (all-up s xs o zs w) h)
+                (λ g n m. sym (part-other s (suc j) xs o zs (all-up s xs o zs w) g n m))
+                (rw (length-both (suc j) ps qs) (count-high s (suc j) xs o zs (key-pos s xs o zs w) h)),
+          )
+
+-- THE TURN, as `put_level` has it
+module _ (s : Sizes) (l f : ℕ) (o : Order) (bs : List ℕ) (x : Spot) where
+  pub put-turn-above : (k : ℕ) → Scans s bs k f (o .key) x → l ≤ k → (k ≡ l → ⊥) → Put-turn s k l f o bs bs (x .last)
+  unfolding Put-turn
+  put-turn-above zero sc h n xs zs w e pos low fe b = absurd (omega arith)
+  put-turn-above (suc j) sc h n xs zs w e pos low fe b = rw (pred-suc j) (put-over s xs o zs w j low bs b x (rw fe at sc) (omega (arith, e, n)))
+
+  pub put-turn-in : (k : ℕ) (bs′ : List ℕ) → Scans s bs k f (o .key) x → k ≡ l → Puts-in s k f x o bs bs′ → Put-turn s k l f o bs bs′ (x .last)
+  unfolding Put-turn
+  put-turn-in zero bs′ sc h p xs zs w e pos low fe b = absurd (omega arith)
+  put-turn-in (suc j) bs′ sc h p xs zs w e pos low fe b = rw (pred-suc j) (put-inside s xs o zs w j low bs b x (rw fe at sc) bs′ (omega (arith, e, h)) (rw fe at p))
+
+  pub put-turn-below : (k : ℕ) (bs′ : List ℕ) → Scans s bs k f (o .key) x → k < l → Puts-below s k f x o bs bs′ → Put-turn s k l f o bs bs′ (x .last)
+  unfolding Put-turn
+  put-turn-below zero bs′ sc h p xs zs w e pos low fe b = absurd (omega arith)
+  put-turn-below (suc j) bs′ sc h p xs zs w e pos low fe b = rw (pred-suc j) (put-under s xs o zs w j low bs b x (rw fe at sc) bs′ (omega (arith, e, h)) (rw fe at p))

@@ -1,0 +1,88 @@
+-- What an order among others tells: keys rise, numbers are small; and how the partitions of a level change by it. Assumes nothing.
+use mathlib.Core.Path.{_≡_, refl, sym, _∙_}
+use mathlib.Core.Bool.{Bool, true, false, _&&_, cond}
+use mathlib.Core.List.{List, [], _∷_, _++_}
+use Prim.Native.Nat.{ℕ, suc, _+_, _≤_, _<_}
+use native.Mathlib.Omega.{arith}
+use borrow.Author.Tests.{ltb-true, leb-true, ne-eqb, eq-eqb, le-ltb}
+use lib.Dec.{ltb, leb, eqb}
+use lib.ListN.{length, length-append}
+use Rattle.placement.specs.Sizes.{prime}
+use Rattle.placement.specs.Hash.{level}
+use Rattle.placement.specs.Maps.{Fine}
+use Rattle.placement.specs.declared.Sizes.{Sizes}
+use Rattle.placement.specs.declared.Order.{Order}
+use Rattle.placement.proofs.Laws.Sizes.{limits}
+use Rattle.skiplist.specs.Lists.{first-key, masked, chunks}
+use Rattle.skiplist.specs.Image.{quantities-good, orders-good, fits}
+use Rattle.skiplist.proofs.Parts.{Up, and-left, and-right, up-past, good-up, up-out, up-front, below, below-here, part, without-here}
+use Rattle.skiplist.proofs.Shapes.{held-absent, up-behind, part-none}
+use Rattle.skiplist.proofs.Kept.{good-without, fits-parts, fits-fewer}
+use Rattle.skiplist.proofs.Third.{good-at}
+use Rattle.skiplist.proofs.Edits.{head-part, part-with, with-part}
+use Rattle.edits.specs.Change.{Setting}
+use Rattle.table.proofs.Laws.MaskedKeys.{head-first-below}
+
+pub fine-good : (o : Order) → ltb (o .key) prime ≡ true → quantities-good (o .total) (o .displayed) ≡ true → Fine o
+unfolding quantities-good
+fine-good o k q =
+    let a = leb-true (o .total) 4294967295 (and-right (leb 1 (o .total)) (leb (o .total) 4294967295) (and-left (leb 1 (o .total) && leb (o .total) 4294967295) (leb (o .displayed) (o .total)) q)) in
+    let b = leb-true (o .displayed) (o .total) (and-right (leb 1 (o .total) && leb (o .total) 4294967295) (leb (o .displayed) (o .total)) q) in
+    record { key = omega (arith, ltb-true (o .key) prime k); total = omega arith; displayed = omega arith }
+
+pub fine-masked : (k : ℕ) (o : Order) → Fine o → Fine (masked k o)
+unfolding masked
+fine-masked k o f = go (eqb k 1)
+  where
+    go : (t : Bool) → Fine (record { key = o .key; total = cond t (o .total) 0; displayed = cond t (o .displayed) 0 })
+    go true = f
+    go false = record { key = f .key; total = omega arith; displayed = omega arith }
+
+module _ (s : Sizes) (xs : List Order) (o : Order) (zs : List Order) (w : Setting s xs o zs) where
+  pub all-up : Up 1 (xs ++ o ∷ zs)
+  all-up = good-up 1 (xs ++ o ∷ zs) (w .good)
+
+  pub less-up : Up 1 (xs ++ zs)
+  less-up = up-out xs o zs 1 all-up
+
+  pub front-up : Up 1 xs
+  front-up = up-front xs zs 1 less-up
+
+  pub front-below : below (o .key) xs ≡ true
+  front-below = below-here xs o zs 1 all-up
+
+  pub behind-up : Up (suc (o .key)) zs
+  behind-up = up-behind xs o zs 1 all-up
+
+  pub key-pos : 0 < o .key
+  key-pos = up-past xs o zs 1 all-up
+
+  pub order-fine : Fine o
+  order-fine = let g = good-at xs o zs 1 (w .good) in fine-good o (g .key) (g .quantity)
+
+  pub some-nodes : 0 < s .nodes
+  some-nodes = limits s (w .sizes) .nodes-some
+
+  pub few-orders : length xs + length zs < 65535
+  few-orders = omega (arith, limits s (w .sizes) .orders-most, rw length-append at (fits-parts s (xs ++ o ∷ zs) (w .fit) .few))
+
+  pub room-all : length (chunks s (xs ++ o ∷ zs)) ≤ s .blocks
+  room-all = fits-parts s (xs ++ o ∷ zs) (w .fit) .room
+
+  pub less-good : orders-good 1 (xs ++ zs) ≡ true
+  less-good = rw (without-here xs o zs 1 all-up) at (good-without 1 (o .key) (xs ++ o ∷ zs) (w .good))
+
+  pub less-fit : fits s (xs ++ zs) ≡ true
+  less-fit = fits-fewer s xs o zs some-nodes key-pos (w .fit)
+
+  pub first-low : (k : ℕ) → first-key (head-part s k xs) < o .key
+  first-low k = head-first-below s k (o .key) xs key-pos front-below
+
+  -- the key heads nothing where it is not held
+  pub less-none : (k : ℕ) → part s (xs ++ zs) k (o .key) ≡ []
+  less-none k = part-none s (xs ++ zs) k (o .key) less-up key-pos (held-absent (o .key) xs zs front-below behind-up)
+
+  -- at the key's own level only the partition that it comes into changes
+  pub part-beside : (k g : ℕ) → level s (o .key) ≡ k → (first-key (head-part s k xs) ≡ g → ⊥) → part s (xs ++ o ∷ zs) k g ≡ part s (xs ++ zs) k g
+  unfolding with-part
+  part-beside k g e n = part-with s k xs o zs all-up g ∙ rw (le-ltb k (level s (o .key)) (omega arith), eq-eqb k (level s (o .key)) (sym e), ne-eqb (first-key (head-part s k xs)) g n)

@@ -1,0 +1,132 @@
+-- A put of a held key: the quantities of its node of level 1 change, and nothing else. Assumes nothing.
+use mathlib.Core.Path.{_≡_, refl, sym, ap, _∙_, subst}
+use mathlib.Core.Bool.{Bool, true, false, cond}
+use mathlib.Core.List.{List, _∷_, _++_, map, map-append}
+use Prim.Native.Nat.{ℕ, zero, suc, _*_, _≤_, _<_}
+use native.Mathlib.Omega.{arith}
+use borrow.Author.Tests.{ltb-true, ltb-false, eqb-true, eqb-false, ne-eqb, leb-true, leb-false}
+use lib.Dec.{ltb, leb, eqb}
+use lib.ListN.{length, take, drop, length-append}
+use Rattle.placement.specs.Sizes.{beta}
+use Rattle.placement.specs.Hash.{level}
+use Rattle.placement.specs.Header.{header}
+use Rattle.placement.specs.Maps.{map-of}
+use Rattle.placement.specs.declared.Sizes.{Sizes}
+use Rattle.placement.specs.declared.Order.{Order}
+use Rattle.skiplist.specs.Lists.{masked, first-key, chunks}
+use Rattle.skiplist.specs.Image.{image}
+use Rattle.skiplist.proofs.Parts.{Up, part}
+use Rattle.skiplist.proofs.Masks.{masked-one}
+use Rattle.skiplist.proofs.Count.{count, counts, count-low, count-same, count-high, length-chunks}
+use Rattle.skiplist.proofs.Image.{image-keeps}
+use Rattle.skiplist.proofs.Edits.{beta-least, head-part, tail-part, part-with, with-part}
+use Rattle.levels.specs.Edit.{Replaces}
+use Rattle.edits.specs.Change.{Setting, Between}
+use Rattle.edits.proofs.Laws.WayLevels.{level-nodes, as-pieces}
+use Rattle.edits.proofs.Laws.Changed.{one-changed}
+use Rattle.edits.proofs.Laws.Settings.{all-up, key-pos, order-fine, some-nodes}
+use Rattle.edits.proofs.Laws.Ways.{none-over, way-even}
+
+module _ (s : Sizes) (xs : List Order) (y o : Order) (zs : List Order) (e : y .key ≡ o .key) where
+  same-level : level s (y .key) ≡ level s (o .key)
+  same-level = ap (level s) e
+
+  -- as many chunks
+  pub count-swap : (l : ℕ) → 0 < y .key → 0 < o .key → count s l (xs ++ y ∷ zs) ≡ count s l (xs ++ o ∷ zs)
+  count-swap l p q = go (ltb l (level s (o .key))) refl (eqb l (level s (o .key))) refl
+    where
+      go : (t : Bool) → ltb l (level s (o .key)) ≡ t → (r : Bool) → eqb l (level s (o .key)) ≡ r → count s l (xs ++ y ∷ zs) ≡ count s l (xs ++ o ∷ zs)
+      go true a r b =
+          let h = ltb-true l (level s (o .key)) a in
+          omega (arith, count-high s l xs y zs p (rw same-level h), count-high s l xs o zs q h)
+      go false a true b =
+          let h = sym (eqb-true l (level s (o .key)) b) in
+          omega (arith, count-same s l xs y zs p (same-level ∙ h), count-same s l xs o zs q h)
+      go false a false b =
+          let h : level s (o .key) < l = omega (arith, ltb-false l (level s (o .key)) a, eqb-false l (level s (o .key)) b) in
+          count-low s l xs y zs p (rw same-level h) ∙ sym (count-low s l xs o zs q h)
+
+  pub counts-swap : (k l : ℕ) → 0 < y .key → 0 < o .key → counts k l s (xs ++ y ∷ zs) ≡ counts k l s (xs ++ o ∷ zs)
+  unfolding counts
+  counts-swap zero l p q = refl
+  counts-swap (suc k) l p q = omega (arith, count-swap l p q, counts-swap k (suc l) p q)
+
+  pub chunks-swap : 0 < y .key → 0 < o .key → 0 < s .nodes → length (chunks s (xs ++ y ∷ zs)) ≡ length (chunks s (xs ++ o ∷ zs))
+  chunks-swap p q b = length-chunks s (xs ++ y ∷ zs) b ∙ counts-swap (beta s) 1 p q ∙ sym (length-chunks s (xs ++ o ∷ zs) b)
+
+  -- above level 1 the nodes have the key only
+  masked-swap : (l : ℕ) → 1 < l → masked l y ≡ masked l o
+  unfolding masked
+  masked-swap l h = rw (ne-eqb l 1 (omega arith)) (λ i. record { key = e i; total = 0; displayed = 0 })
+
+  pub part-swap : (l g : ℕ) → 1 < l → Up 1 (xs ++ y ∷ zs) → Up 1 (xs ++ o ∷ zs) → map (masked l) (part s (xs ++ y ∷ zs) l g) ≡ map (masked l) (part s (xs ++ o ∷ zs) l g)
+  unfolding with-part
+  part-swap l g h u v =
+      ap (map (masked l)) (part-with s l xs y zs u g)
+      ∙ go (ltb l (level s (y .key))) (ltb l (level s (o .key))) (ap (λ (z : ℕ). ltb l (level s z)) e)
+      (eqb l (level s (y .key))) (eqb l (level s (o .key))) (ap (λ (z : ℕ). eqb l (level s z)) e)
+      (eqb (y .key) g) (eqb (o .key) g) (ap (λ (z : ℕ). eqb z g) e) (eqb (first-key (head-part s l xs)) g)
+      ∙ sym (ap (map (masked l)) (part-with s l xs o zs v g))
+    where
+      go : (a a′ : Bool) → a ≡ a′ → (b b′ : Bool) → b ≡ b′ → (c c′ : Bool) → c ≡ c′ → (d : Bool) →
+          map (masked l)
+          (cond a (cond c (y ∷ tail-part s l zs) (cond d (head-part s l xs) (part s (xs ++ zs) l g)))
+          (cond b (cond d (head-part s l xs ++ y ∷ tail-part s l zs) (part s (xs ++ zs) l g)) (part s (xs ++ zs) l g)))
+          ≡ map (masked l)
+          (cond a′ (cond c′ (o ∷ tail-part s l zs) (cond d (head-part s l xs) (part s (xs ++ zs) l g)))
+          (cond b′ (cond d (head-part s l xs ++ o ∷ tail-part s l zs) (part s (xs ++ zs) l g)) (part s (xs ++ zs) l g)))
+      go a a′ p b b′ q c c′ r d = rw (p, q, r) (at a′ b′ c′ d)
+        where
+          at : (a b c d : Bool) →
+              map (masked l)
+              (cond a (cond c (y ∷ tail-part s l zs) (cond d (head-part s l xs) (part s (xs ++ zs) l g)))
+              (cond b (cond d (head-part s l xs ++ y ∷ tail-part s l zs) (part s (xs ++ zs) l g)) (part s (xs ++ zs) l g)))
+              ≡ map (masked l)
+              (cond a (cond c (o ∷ tail-part s l zs) (cond d (head-part s l xs) (part s (xs ++ zs) l g)))
+              (cond b (cond d (head-part s l xs ++ o ∷ tail-part s l zs) (part s (xs ++ zs) l g)) (part s (xs ++ zs) l g)))
+          at true b true d = ap (λ (z : Order). z ∷ map (masked l) (tail-part s l zs)) (masked-swap l h)
+          at true b false d = refl
+          at false true c true =
+              map-append (masked l) (head-part s l xs) (y ∷ tail-part s l zs)
+              ∙ ap (λ (z : Order). map (masked l) (head-part s l xs) ++ z ∷ map (masked l) (tail-part s l zs)) (masked-swap l h)
+              ∙ sym (map-append (masked l) (head-part s l xs) (o ∷ tail-part s l zs))
+          at false true c false = refl
+          at false false c d = refl
+
+  module _ (w : Setting s xs y zs) (v : Setting s xs o zs) where
+    -- nothing is to do above level 1
+    swap-start : Between s (xs ++ y ∷ zs) (xs ++ o ∷ zs) 1 (image s (xs ++ y ∷ zs))
+    swap-start = record {
+      map = map-of (chunks s (xs ++ y ∷ zs));
+      full = length (chunks s (xs ++ y ∷ zs));
+      table = image-keeps s (xs ++ y ∷ zs) (w .sizes) (w .good) (w .fit);
+      above = λ l f i q. go l f i q (leb l (beta s)) refl;
+      upto = λ l f i q. refl;
+      count =
+          omega (arith, chunks-swap (key-pos s xs y zs w) (key-pos s xs o zs v) (some-nodes s xs o zs v), counts-swap 1 1 (key-pos s xs y zs w) (key-pos s xs o zs v));
+    }
+      where
+        go : (l f i : ℕ) → 1 < l → (t : Bool) → leb l (beta s) ≡ t → map-of (chunks s (xs ++ y ∷ zs)) l f i ≡ map-of (chunks s (xs ++ o ∷ zs)) l f i
+        go l f i q true z =
+            level-nodes s (xs ++ y ∷ zs) (some-nodes s xs y zs w) (all-up s xs y zs w) l (omega arith) (leb-true l (beta s) z) f i
+            ∙ ap (λ (ns : List Order). take (s .nodes) (drop (i * s .nodes) ns)) (part-swap l f q (all-up s xs y zs w) (all-up s xs o zs v))
+            ∙ sym (level-nodes s (xs ++ o ∷ zs) (some-nodes s xs o zs v) (all-up s xs o zs v) l (omega arith) (leb-true l (beta s) z) f i)
+        go l f i q false z =
+            none-over s (xs ++ y ∷ zs) (w .good) l f i (leb-false l (beta s) z) ∙ sym (none-over s (xs ++ o ∷ zs) (v .good) l f i (leb-false l (beta s) z))
+
+    -- the node stands between ps and qs in partition f of level 1
+    pub swapped : (f m : ℕ) (ps qs : List Order) (bs bs′ : List ℕ) → Replaces s f m o bs bs′ → bs ≡ image s (xs ++ y ∷ zs) → m ≡ length ps → length (ps ++ y ∷ qs) ≤ 65536 →
+        part s (xs ++ y ∷ zs) 1 f ≡ ps ++ y ∷ qs → part s (xs ++ o ∷ zs) 1 f ≡ ps ++ o ∷ qs →
+        ((g : ℕ) → (f ≡ g → ⊥) → part s (xs ++ y ∷ zs) 1 g ≡ part s (xs ++ o ∷ zs) 1 g) → bs′ ≡ image s (xs ++ o ∷ zs)
+    unfolding Replaces
+    swapped f m ps qs bs bs′ r i n few a c h =
+        let low : 1 ≤ beta s = omega (arith, beta-least s) in
+        let t = subst (λ (x : List ℕ). Between s (xs ++ y ∷ zs) (xs ++ o ∷ zs) 1 x) (sym i) swap-start in
+        let k = r (t .map) (t .full) (header s (length (xs ++ y ∷ zs))) ps y qs (t .table) (order-fine s xs o zs v) e n few
+        (rw (masked-one (ps ++ y ∷ qs)) at
+        (as-pieces s (xs ++ y ∷ zs) (some-nodes s xs y zs w) (all-up s xs y zs w) 1 (omega arith) low (t .map) f (ps ++ y ∷ qs) a (λ j. t .upto 1 f j (omega arith)))) in
+        way-even s (xs ++ y ∷ zs) (xs ++ o ∷ zs) (w .good) (v .good) (v .fit) bs′
+        (one-changed s (xs ++ y ∷ zs) (xs ++ o ∷ zs) (some-nodes s xs y zs w) (all-up s xs y zs w) (all-up s xs o zs v) 0 low bs t bs′ f (ps ++ y ∷ qs) (ps ++ o ∷ qs)
+        (rw (masked-one (ps ++ y ∷ qs), masked-one (ps ++ o ∷ qs)) k) c h
+        (simp length-append (omega (arith, count-swap 1 (key-pos s xs y zs w) (key-pos s xs o zs v)))))
+        (simp length-append)

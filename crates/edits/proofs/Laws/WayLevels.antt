@@ -1,0 +1,78 @@
+-- The map of an image, level by level; and one level of a table on its way. Assumes nothing.
+use mathlib.Core.Path.{_≡_, refl, sym, ap, _∙_}
+use mathlib.Core.Bool.{Bool, true, false}
+use mathlib.Core.List.{List, map}
+use Prim.Native.Nat.{ℕ, zero, suc, _+_, _*_, _-_, _≤_, _<_}
+use native.Mathlib.Nat.{zero-add, add-zero, add-suc, suc-add}
+use native.Mathlib.Omega.{arith}
+use borrow.Author.Tests.{eqb-true, eqb-false}
+use lib.Dec.{eqb}
+use lib.ListN.{length, take, drop}
+use Rattle.placement.specs.Sizes.{beta}
+use Rattle.placement.specs.Header.{header}
+use Rattle.placement.specs.Maps.{Map, map-of, Table}
+use Rattle.placement.specs.declared.Sizes.{Sizes}
+use Rattle.placement.specs.declared.Order.{Order}
+use Rattle.skiplist.specs.Lists.{masked, chunks}
+use Rattle.skiplist.proofs.Parts.{Up, part}
+use Rattle.skiplist.proofs.Masks.{map-take, map-drop}
+use Rattle.skiplist.proofs.Faithful.{map-is}
+use Rattle.skiplist.proofs.Count.{count, counts}
+use Rattle.levels.specs.Edit.{Pieces}
+use Rattle.edits.specs.Change.{Between}
+
+module _ (s : Sizes) (os : List Order) (b : 0 < s .nodes) (u : Up 1 os) (k : ℕ) (pos : 0 < k) (low : k ≤ beta s) where
+  pub level-nodes : (f i : ℕ) → map-of (chunks s os) k f i ≡ take (s .nodes) (drop (i * s .nodes) (map (masked k) (part s os k f)))
+  level-nodes f i = map-is s k f i os b u pos low ∙ rw (map-take, map-drop)
+
+  -- what a partition of an image's level has, as pieces
+  pub as-pieces : (F : Map) (f : ℕ) (ns : List Order) → part s os k f ≡ ns → ((i : ℕ) → F k f i ≡ map-of (chunks s os) k f i) → Pieces F (s .nodes) k f 0 (map (masked k) ns)
+  unfolding Pieces
+  as-pieces F f ns e h n = rw (zero-add n) (h n ∙ level-nodes f n ∙ ap (λ (z : List Order). take (s .nodes) (drop (n * s .nodes) (map (masked k) z))) e)
+
+  pub from-pieces : (F : Map) (f : ℕ) (ns : List Order) → part s os k f ≡ ns → Pieces F (s .nodes) k f 0 (map (masked k) ns) → (i : ℕ) → F k f i ≡ map-of (chunks s os) k f i
+  unfolding Pieces
+  from-pieces F f ns e h i = rw (zero-add i) at (h i) ∙ ap (λ (z : List Order). take (s .nodes) (drop (i * s .nodes) (map (masked k) z))) (sym e) ∙ sym (level-nodes f i)
+
+-- two sets of orders that have the same partition there
+pub same-part : (s : Sizes) (os qs : List Order) → 0 < s .nodes → Up 1 os → Up 1 qs → (k f : ℕ) → 0 < k → k ≤ beta s → part s os k f ≡ part s qs k f →
+    (i : ℕ) → map-of (chunks s os) k f i ≡ map-of (chunks s qs) k f i
+same-part s os qs b u v k f pos low e i =
+    level-nodes s os b u k pos low f i
+    ∙ ap (λ (z : List Order). take (s .nodes) (drop (i * s .nodes) (map (masked k) z))) e
+    ∙ sym (level-nodes s qs b v k pos low f i)
+
+pub pred-suc : (j : ℕ) → suc j - 1 ≡ j
+pred-suc j = omega arith
+
+-- the highest of the counted levels comes last
+counts-end : (k l : ℕ) (s : Sizes) (os : List Order) → counts (suc k) l s os ≡ counts k l s os + count s (l + k) os
+unfolding counts
+counts-end zero l s os = rw (add-zero l) (omega arith)
+counts-end (suc k) l s os = rw (add-suc l k, ← suc-add l k) (omega (arith, counts-end k (suc l) s os))
+
+pub counts-one : (k : ℕ) (s : Sizes) (os : List Order) → counts (suc k) 1 s os ≡ counts k 1 s os + count s (suc k) os
+counts-one k s os =
+    let e : 1 + k ≡ suc k = omega arith in
+    rw e at (counts-end k 1 s os)
+
+-- ONE LEVEL DONE: the map changed there only, and is there that of the new orders
+module _ (s : Sizes) (old new : List Order) (j : ℕ) (bs : List ℕ) (b : Between s old new (suc j) bs) where
+  pub level-done : (G : Map) (n : ℕ) (bs′ : List ℕ) → Table s G n (header s (length old)) bs′ → ((l g i : ℕ) → (l ≡ suc j → ⊥) → G l g i ≡ b .map l g i) →
+      ((g i : ℕ) → G (suc j) g i ≡ map-of (chunks s new) (suc j) g i) → n + count s (suc j) old ≡ b .full + count s (suc j) new → Between s old new j bs′
+  level-done G n bs′ t e h c = record {
+    map = G;
+    full = n;
+    table = t;
+    above = λ l f i q. go l f i q (eqb l (suc j)) refl;
+    upto = λ l f i q. e l f i (λ z. omega arith) ∙ b .upto l f i (omega arith);
+    count = omega (arith, b .count, counts-one j s old, counts-one j s new);
+  }
+    where
+      go : (l f i : ℕ) → j < l → (t : Bool) → eqb l (suc j) ≡ t → G l f i ≡ map-of (chunks s new) l f i
+      go l f i q true z = rw (eqb-true l (suc j) z) (h f i)
+      go l f i q false z = e l f i (eqb-false l (suc j) z) ∙ b .above l f i (omega (arith, eqb-false l (suc j) z))
+
+  -- nothing to do
+  pub level-kept : ((g i : ℕ) → map-of (chunks s old) (suc j) g i ≡ map-of (chunks s new) (suc j) g i) → count s (suc j) old ≡ count s (suc j) new → Between s old new j bs
+  level-kept h c = level-done (b .map) (b .full) bs (b .table) (λ l g i q. refl) (λ g i. b .upto (suc j) g i (omega arith) ∙ h g i) (omega (arith, c))

@@ -1,0 +1,66 @@
+-- Where a table's way starts, and where it ends: from the image of the old orders to that of the new ones. Assumes nothing.
+use mathlib.Core.Path.{_≡_, refl, sym, _∙_, subst}
+use mathlib.Core.Bool.{true}
+use mathlib.Core.List.{List, []}
+use Prim.Native.Nat.{ℕ, zero, suc, _<_}
+use native.Mathlib.Omega.{arith}
+use lib.ListN.{length}
+use lib.Seq.{sets}
+use Rattle.placement.specs.Numbers.{big}
+use Rattle.placement.specs.Sizes.{beta, made}
+use Rattle.placement.specs.Header.{header}
+use Rattle.placement.specs.Maps.{map-of, Table}
+use Rattle.placement.specs.declared.Sizes.{Sizes}
+use Rattle.placement.specs.declared.Order.{Order}
+use Rattle.placement.proofs.Laws.Sizes.{some-nodes}
+use Rattle.placement.proofs.Laws.Tables.{count-keeps}
+use Rattle.skiplist.specs.Lists.{chunks}
+use Rattle.skiplist.specs.Image.{image, orders-good, fits}
+use Rattle.skiplist.proofs.Parts.{good-up}
+use Rattle.skiplist.proofs.Content.{content-outside, content-level-zero}
+use Rattle.skiplist.proofs.Rise.{chunks-rise}
+use Rattle.skiplist.proofs.Faithful.{map-content}
+use Rattle.skiplist.proofs.Count.{length-chunks}
+use Rattle.skiplist.proofs.Image.{image-keeps, is-the-image}
+use Rattle.edits.specs.Change.{Between}
+
+-- no chunks above the top level, and none of level 0
+pub none-over : (s : Sizes) (os : List Order) → orders-good 1 os ≡ true → (l f i : ℕ) → beta s < l → map-of (chunks s os) l f i ≡ []
+none-over s os g l f i h = map-content l f i (chunks s os) 0 0 0 (chunks-rise s os (good-up 1 os g)) ∙ content-outside s l f i os h
+
+none-under : (s : Sizes) (os : List Order) → orders-good 1 os ≡ true → (f i : ℕ) → map-of (chunks s os) 0 f i ≡ []
+none-under s os g f i = map-content 0 f i (chunks s os) 0 0 0 (chunks-rise s os (good-up 1 os g)) ∙ content-level-zero s 0 f i os refl
+
+header-sets : (s : Sizes) (n k : ℕ) → sets (header s n) 11 (big 2 k) ≡ header s k
+unfolding header big
+header-sets s n k = refl
+
+module _ (s : Sizes) (old new : List Order) (g : orders-good 1 old ≡ true) (h : orders-good 1 new ≡ true) where
+  pub way-start : made s ≡ true → fits s old ≡ true → Between s old new (beta s) (image s old)
+  way-start m f = record {
+    map = map-of (chunks s old);
+    full = length (chunks s old);
+    table = image-keeps s old m g f;
+    above = λ l f i q. none-over s old g l f i q ∙ sym (none-over s new h l f i q);
+    upto = λ l f i q. refl;
+    count = omega (arith, length-chunks s old (some-nodes s m), length-chunks s new (some-nodes s m));
+  }
+
+  module _ (f : fits s new ≡ true) (bs : List ℕ) (b : Between s old new 0 bs) where
+    -- the map is that of the new orders
+    ended : (l f i : ℕ) → b .map l f i ≡ map-of (chunks s new) l f i
+    ended zero f i = b .upto 0 f i (omega arith) ∙ none-under s old g f i ∙ sym (none-under s new h f i)
+    ended (suc l) f i = b .above (suc l) f i (omega arith)
+
+    pub way-end : sets bs 11 (big 2 (length new)) ≡ image s new
+    way-end =
+        is-the-image s new (b .map) (b .full) (sets bs 11 (big 2 (length new))) h f
+        (subst (λ (hd : List ℕ). Table s (b .map) (b .full) hd (sets bs 11 (big 2 (length new)))) (header-sets s (length old) (length new))
+        (count-keeps s (b .map) (b .full) (header s (length old)) bs (b .table) (length new)))
+        ended
+
+    pub way-even : length old ≡ length new → bs ≡ image s new
+    way-even e =
+        is-the-image s new (b .map) (b .full) bs h f
+        (subst (λ (n : ℕ). Table s (b .map) (b .full) (header s n) bs) e (b .table))
+        ended

@@ -1,0 +1,111 @@
+-- Rows of nodes in bytes: what copies and writes of whole nodes do to the nodes that a row begins with. Assumes nothing.
+use mathlib.Core.Path.{_≡_, refl, sym, ap, _∙_}
+use mathlib.Core.List.{List, [], _∷_, _++_, append-assoc, append-nil}
+use Prim.Native.Nat.{ℕ, zero, suc, _+_, _*_, _-_, _≤_, _<_}
+use native.Mathlib.Nat.{zero-add, suc-add}
+use native.Mathlib.Omega.{arith}
+use lib.ListN.{length, take, drop, length-append, length-take, length-drop}
+use lib.Seq.{sets, sets-eq, take-at, drop-at, take-nil, drop-nil, take-all, take-take, take-add, length-take-le, take-append-add, drop-append-add}
+use Rattle.placement.specs.Numbers.{big, rows}
+use Rattle.placement.specs.Chunks.{node-bytes, nodes-bytes}
+use Rattle.placement.specs.declared.Order.{Order}
+use Rattle.placement.proofs.Laws.Parts.{sets-append}
+use Rattle.placement.proofs.Laws.Numbers.{length-big}
+use Rattle.skiplist.specs.Lists.{masked}
+use borrow.Author.Tests.{eq-eqb, ne-eqb}
+use Rattle.levels.specs.Pour.{Front}
+
+node-long : (o : Order) → length (node-bytes o) ≡ 12
+unfolding node-bytes big
+node-long o = refl
+
+pub nodes-append : (a b : List Order) → nodes-bytes (a ++ b) ≡ nodes-bytes a ++ nodes-bytes b
+unfolding rows
+nodes-append [] b = refl
+nodes-append (o ∷ a) b = rw (nodes-append a b, append-assoc)
+
+pub nodes-one : (o : Order) → nodes-bytes (o ∷ []) ≡ node-bytes o
+unfolding rows
+nodes-one o = append-nil (node-bytes o)
+
+pub nodes-long : (a : List Order) → length (nodes-bytes a) ≡ 12 * length a
+unfolding rows
+nodes-long [] = refl
+nodes-long (o ∷ a) = length-append (node-bytes o) (nodes-bytes a) ∙ omega (arith, node-long o, nodes-long a)
+
+pub nodes-take : (n : ℕ) (a : List Order) → take (12 * n) (nodes-bytes a) ≡ nodes-bytes (take n a)
+unfolding rows
+nodes-take zero a = refl
+nodes-take (suc n) [] = take-nil (12 * suc n)
+nodes-take (suc n) (o ∷ a) =
+    let e : 12 * suc n ≡ length (node-bytes o) + 12 * n = omega (arith, node-long o) in
+    rw (e, take-append-add, nodes-take n a)
+
+pub nodes-drop : (n : ℕ) (a : List Order) → drop (12 * n) (nodes-bytes a) ≡ nodes-bytes (drop n a)
+unfolding rows
+nodes-drop zero a = refl
+nodes-drop (suc n) [] = drop-nil (12 * suc n)
+nodes-drop (suc n) (o ∷ a) =
+    let e : 12 * suc n ≡ length (node-bytes o) + 12 * n = omega (arith, node-long o) in
+    rw (e, drop-append-add, nodes-drop n a)
+
+drop-take : {A : Type 0} (a c : ℕ) (l : List A) → take c (drop a l) ≡ drop a (take (a + c) l)
+drop-take zero c l = ap (λ (k : ℕ). take k l) (sym (zero-add c))
+drop-take (suc a) c [] = rw (suc-add, take-nil)
+drop-take (suc a) c (x ∷ l) = rw suc-add (drop-take a c l)
+
+take-sets-end : (l : List ℕ) (a : ℕ) (vs : List ℕ) → a + length vs ≤ length l → take (a + length vs) (sets l a vs) ≡ take a l ++ vs
+take-sets-end l a vs h =
+    let e : length (take a l ++ vs) ≡ a + length vs = length-append (take a l) vs ∙ rw (length-take-le a l (omega arith)) in
+    rw (sets-eq vs l a h) (take-at (take a l ++ vs) (drop (a + length vs) l) (a + length vs) e)
+
+pub front-none : (cs : List ℕ) → Front cs []
+unfolding Front rows
+front-none cs = refl
+
+-- n whole nodes of a row, from node a on
+pub front-part : (cs : List ℕ) (c : List Order) (a n : ℕ) → Front cs c → a + n ≤ length c → take (12 * n) (drop (12 * a) cs) ≡ nodes-bytes (take n (drop a c))
+unfolding Front
+front-part cs c a n f h =
+    let e : 12 * a + 12 * n ≡ 12 * (a + n) = omega arith in
+    let m : 12 * (a + n) ≤ 12 * length c = omega arith in
+    drop-take (12 * a) (12 * n) cs
+    ∙ ap (λ (z : ℕ). drop (12 * a) (take z cs)) e
+    ∙ ap (drop (12 * a)) (sym (take-take (12 * (a + n)) (12 * length c) cs m) ∙ ap (take (12 * (a + n))) f ∙ nodes-take (a + n) c)
+    ∙ nodes-drop a (take (a + n) c)
+    ∙ ap (λ (z : List Order). nodes-bytes z) (sym (drop-take a n c))
+
+pub front-first : (cs : List ℕ) (c : List Order) (n : ℕ) → Front cs c → n ≤ length c → take (12 * n) (drop 0 cs) ≡ nodes-bytes (take n c)
+front-first cs c n f h = front-part cs c 0 n f (omega arith)
+
+pub front-all : (cs : List ℕ) (c : List Order) (n : ℕ) → Front cs c → n ≡ length c → take (12 * n) (drop 0 cs) ≡ nodes-bytes c
+front-all cs c n f e = front-first cs c n f (omega arith) ∙ ap (λ (z : List Order). nodes-bytes z) (take-all n c (omega arith))
+
+-- nodes written behind those of a row
+pub front-more : (cs cs′ : List ℕ) (c d : List Order) (a : ℕ) (vs : List ℕ) → Front cs c → a ≡ 12 * length c → vs ≡ nodes-bytes d → cs′ ≡ sets cs a vs → a + 12 * length d ≤ length cs
+    → Front cs′ (c ++ d)
+unfolding Front
+front-more cs cs′ c d a vs f ea ev e h =
+    let l : length vs ≡ 12 * length d = ap length ev ∙ nodes-long d in
+    let z : 12 * length (c ++ d) ≡ a + length vs = omega (arith, length-append c d) in
+    rw z (ap (take (a + length vs)) e ∙ take-sets-end cs a vs (omega arith) ∙ rw (nodes-append, ← f, ← ea, ← ev))
+
+-- only what a row begins with counts
+pub front-less : (cs cs′ : List ℕ) (c : List Order) → Front cs c → take (12 * length c) cs′ ≡ take (12 * length c) cs → Front cs′ c
+unfolding Front
+front-less cs cs′ c f e = e ∙ f
+
+-- AS `write_node` ASKS
+three : (row : List ℕ) (at k t d : ℕ) → sets (sets (sets row at (big 4 k)) (at + 4) (big 4 t)) (at + 8) (big 4 d) ≡ sets row at (big 4 k ++ big 4 t ++ big 4 d)
+three row at k t d =
+    let e : length (big 4 k ++ big 4 t) ≡ 8 = length-append (big 4 k) (big 4 t) ∙ rw (length-big 4 k, length-big 4 t) in
+    sym (sets-append row at (big 4 k ++ big 4 t) (big 4 d) ∙ rw (e, sets-append row at (big 4 k) (big 4 t), length-big 4 k))
+
+module _ (row r₁ r₂ r₃ : List ℕ) (at l : ℕ) (o : Order) where
+  pub node-first : l ≡ 1 → r₁ ≡ sets row at (big 4 (o .key)) → r₂ ≡ sets r₁ (at + 4) (big 4 (o .total)) → r₃ ≡ sets r₂ (at + 8) (big 4 (o .displayed)) → r₃ ≡ sets row at (node-bytes (masked l o))
+  unfolding node-bytes masked
+  node-first e e₁ e₂ e₃ = e₃ ∙ rw (e₂, e₁, eq-eqb l 1 e) (three row at (o .key) (o .total) (o .displayed))
+
+  pub node-other : (l ≡ 1 → ⊥) → r₁ ≡ sets row at (big 4 (o .key)) → r₂ ≡ sets r₁ (at + 4) (big 4 0) → r₃ ≡ sets r₂ (at + 8) (big 4 0) → r₃ ≡ sets row at (node-bytes (masked l o))
+  unfolding node-bytes masked
+  node-other e e₁ e₂ e₃ = e₃ ∙ rw (e₂, e₁, ne-eqb l 1 e) (three row at (o .key) 0 0)

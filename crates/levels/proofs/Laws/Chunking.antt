@@ -1,0 +1,153 @@
+-- How many chunks so many nodes have, and the chunks of a list one by one. Assumes nothing.
+use mathlib.Core.Path.{_≡_, refl, sym, ap, _∙_}
+use mathlib.Core.List.{List, [], _∷_}
+use Prim.Native.Nat.{ℕ, zero, suc, _+_, _*_, _-_, _/_, _≤_, _<_}
+use native.Mathlib.Decide.{decLt}
+use native.Mathlib.Nat.{suc-mul, add-mul, zero-add, suc-add, zero-mul, sub-zero, div-eq-of-lt, div-eq-sub-div, div-lt-iff-lt-mul, div-mul-le-self}
+use native.Mathlib.Omega.{arith}
+use lib.ListN.{length, take, drop, length-drop}
+use lib.Seq.{drop-drop, take-nil}
+use Rattle.placement.specs.declared.Order.{Order}
+use Rattle.skiplist.proofs.Count.{pieces, pieces-less, pieces-up}
+use Rattle.levels.specs.Pour.{one}
+
+pub pieces-none : (b : ℕ) → pieces b 0 ≡ 0
+unfolding pieces
+pieces-none b = refl
+
+pub pieces-mono : (b n d : ℕ) → 0 < b → pieces b n ≤ pieces b (d + n)
+pieces-mono b n zero h = rw zero-add (omega arith)
+pieces-mono b n (suc d) h = rw suc-add (omega (arith, pieces-mono b n d h, pieces-up b (d + n) h))
+
+pub pieces-up-to : (b n m : ℕ) → 0 < b → n ≤ m → pieces b n ≤ pieces b m
+pieces-up-to b n m h g = let e : (m - n) + n ≡ m = omega arith in rw e at (pieces-mono b n (m - n) h)
+
+-- a full chunk, or some nodes, more
+pub pieces-full : (b n : ℕ) → 0 < b → 0 < n → pieces b n ≡ suc (pieces b (n - b))
+pieces-full b zero h g = absurd (omega arith)
+pieces-full b (suc n) h g = pieces-less b n h
+
+pub pieces-skip : (b n i : ℕ) → 0 < b → i * b ≤ n → pieces b n ≡ i + pieces b (n - i * b)
+pieces-skip b n zero h g = rw (zero-mul, sub-zero) (omega arith)
+pieces-skip b n (suc i) h g =
+    let e = suc-mul i b in
+    let f : n - b - i * b ≡ n - suc i * b = omega arith in
+    pieces-full b n h (omega arith) ∙ ap suc (pieces-skip b (n - b) i h (omega arith)) ∙ rw f (omega arith)
+
+-- .. of those that there are
+pub pieces-pass : (b n i : ℕ) → 0 < b → i ≤ pieces b n → pieces b n ≡ i + pieces b (n - i * b)
+unfolding pieces
+pieces-pass b n zero h g = rw (zero-mul, sub-zero) (omega arith)
+pieces-pass b zero (suc i) h g = absurd (omega arith)
+pieces-pass b (suc n) (suc i) h g =
+    let e = suc-mul i b in
+    let f : suc n - b - i * b ≡ suc n - suc i * b = omega arith in
+    let z = pieces-full b (suc n) h (omega arith) in
+    z ∙ ap suc (pieces-pass b (suc n - b) i h (omega arith)) ∙ rw f (omega arith)
+
+pub pieces-under : (b n i : ℕ) → 0 < b → i < pieces b n → i * b < n
+pieces-under b n i h g = go (decLt (i * b) n)
+  where
+    go : Dec (i * b < n) → i * b < n
+    go (yes l) = l
+    go (no l) =
+        let z : i * b - i * b ≡ 0 = omega arith in
+        absurd (omega (arith, pieces-up-to b n (i * b) h (omega arith), pieces-skip b (i * b) i h (omega arith), ap (pieces b) z, pieces-none b))
+
+pub pieces-over : (b n i : ℕ) → 0 < b → pieces b n ≤ i → n ≤ i * b
+unfolding pieces
+pieces-over b zero i h g = omega arith
+pieces-over b (suc n) i h g = omega (arith, div-lt-iff-lt-mul {x = n} {y = i} h .0 (omega arith))
+
+-- room for one more chunk
+pub pieces-room : (b a r full blocks : ℕ) → 0 < b → b ≤ a → full + pieces b (a + r) ≤ blocks + pieces b r → full < blocks
+pieces-room b a r full blocks h g e = omega (arith, pieces-full b (a + r) h (omega arith), pieces-up-to b r (a + r - b) h (omega arith))
+
+pub pieces-last : (b a full blocks : ℕ) → 0 < b → 0 < a → full + pieces b a ≤ blocks → full < blocks
+pieces-last b a full blocks h g e = omega (arith, pieces-full b a h g)
+
+pub pieces-pos : (b n : ℕ) → 0 < b → 0 < n → 0 < pieces b n
+pieces-pos b n h g = omega (arith, pieces-full b n h g)
+
+pub pieces-one : (b a : ℕ) → 0 < b → 0 < a → a ≤ b → pieces b a ≡ 1
+pieces-one b a h g l = let z : a - b ≡ 0 = omega arith in pieces-full b a h g ∙ rw (z, pieces-none b)
+
+-- as `chunks_of` asks
+pub pieces-zero : (b n : ℕ) → n ≡ 0 → (0 ≡ pieces b n) × (0 ≤ n)
+unfolding pieces
+pieces-zero b n e = (rw e, omega arith)
+
+pub pieces-some : (b n : ℕ) → 0 < b → (n ≡ 0 → ⊥) → (1 + (n - 1) / b ≡ pieces b n) × (1 + (n - 1) / b ≤ n)
+unfolding pieces
+pieces-some b zero h g = absurd (g refl)
+pieces-some b (suc n) h g =
+    let e : suc n - 1 ≡ n = omega arith in
+    (rw e (omega arith), rw e (omega (arith, div-small n b h)))
+  where
+    div-small : (n b : ℕ) → 0 < b → n / b ≤ n
+    div-small n zero h = absurd (omega arith)
+    div-small n (suc b) h = omega (arith, div-mul-le-self n (suc b), less (n / suc b) b)
+      where
+        less : (x b : ℕ) → x ≤ x * suc b
+        less zero b = omega arith
+        less (suc x) b = omega (arith, less x b, suc-mul x (suc b))
+
+-- half as many as nodes, where a chunk has two or more
+pub pieces-half : (b n : ℕ) → 2 ≤ b → 2 * pieces b n ≤ n + 1
+unfolding pieces
+pieces-half b zero h = omega arith
+pieces-half b (suc n) h = omega (arith, half n b h, div-mul-le-self n b)
+  where
+    half : (n b : ℕ) → 2 ≤ b → 2 * (n / b) ≤ n / b * b
+    half n b h = less (n / b) b h
+      where
+        less : (x b : ℕ) → 2 ≤ b → 2 * x ≤ x * b
+        less zero b h = omega arith
+        less (suc x) b h = omega (arith, less x b h, suc-mul x b)
+
+-- a quotient of a carry below two chunks
+pub quotient-none : (b n : ℕ) → n < b → n / b ≡ 0
+quotient-none b n h = div-eq-of-lt h
+
+pub quotient-one : (b n : ℕ) → 0 < b → b ≤ n → n < 2 * b → n / b ≡ 1
+quotient-one b n p h g = let z : (n - b) / b ≡ 0 = div-eq-of-lt (omega arith) in rw (div-eq-sub-div p h, z)
+
+pub quotient-most : (b n : ℕ) → 0 < b → n < 2 * b → n / b ≤ 1
+quotient-most b n p h = omega (arith, div-lt-iff-lt-mul {x = n} {y = 2} p .1 h)
+
+-- CHUNKS OF A LIST
+module _ {A : Type 0} where
+  pub drop-next : (b i : ℕ) (l : List A) → drop b (drop (i * b) l) ≡ drop (suc i * b) l
+  drop-next b i l = drop-drop b (i * b) l ∙ ap (λ (z : ℕ). drop z l) (sym (suc-mul i b))
+
+  pub drop-add : (b i n : ℕ) (l : List A) → drop (n * b) (drop (i * b) l) ≡ drop ((i + n) * b) l
+  drop-add b i n l = drop-drop (n * b) (i * b) l ∙ ap (λ (z : ℕ). drop z l) (sym (add-mul i n b))
+
+  pub drop-past : (n : ℕ) (l : List A) → length l ≤ n → drop n l ≡ []
+  drop-past zero [] h = refl
+  drop-past zero (x ∷ l) h = absurd (omega arith)
+  drop-past (suc n) [] h = refl
+  drop-past (suc n) (x ∷ l) h = drop-past n l (omega arith)
+
+  pub take-past : (b n : ℕ) (l : List A) → length l ≤ n → take b (drop n l) ≡ []
+  take-past b n l h = rw (drop-past n l h) (take-nil b)
+
+pub one-taken : (b i : ℕ) (l : List Order) → 0 < b → i < length l → one (take b (drop i l)) ≡ 1
+unfolding one
+one-taken zero i l h g = absurd (omega arith)
+one-taken (suc b) zero [] h g = absurd (omega arith)
+one-taken (suc b) zero (x ∷ l) h g = refl
+one-taken (suc b) (suc i) [] h g = absurd (omega arith)
+one-taken (suc b) (suc i) (x ∷ l) h g = one-taken (suc b) i l h (omega arith)
+
+-- the first chunk, or none, and the others
+pub pieces-first : (b : ℕ) (l : List Order) → 0 < b → pieces b (length l) ≡ one (take b l) + pieces b (length (drop b l))
+unfolding one pieces
+pieces-first zero l h = absurd (omega arith)
+pieces-first (suc b) [] h = refl
+pieces-first (suc b) (x ∷ l) h = pieces-full (suc b) (length (x ∷ l)) h (omega arith) ∙ rw (← length-drop (suc b) (x ∷ l)) (omega arith)
+
+pub one-pieces : (b : ℕ) (l : List Order) → length l ≤ b → pieces b (length l) ≡ one l
+unfolding one pieces
+one-pieces b [] h = refl
+one-pieces b (x ∷ l) h = ap suc (div-eq-of-lt (omega arith))

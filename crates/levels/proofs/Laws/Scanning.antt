@@ -1,0 +1,315 @@
+-- Laws of a scan: a node comes by, the nodes of a chunk, the chunks of a partition. Assumes nothing.
+use mathlib.Core.Path.{_≡_, refl, sym, ap, _∙_, subst}
+use mathlib.Core.Logic.{_≢_}
+use mathlib.Core.Bool.{true, and-false}
+use mathlib.Core.List.{List, [], _∷_, _++_}
+use Prim.Native.Nat.{ℕ, zero, suc, _+_, _*_, _-_, _≤_, _<_}
+use native.Mathlib.Nat.{sub-zero, suc-mul, mul-le-mul-right}
+use native.Mathlib.Numerals.{add-one}
+use native.Mathlib.Decide.{decLt}
+use native.Mathlib.Omega.{arith}
+use borrow.Author.Tests.{ltb-true, ne-eqb, lt-ltb, le-ltb}
+use lib.Dec.{ltb}
+use lib.ListN.{length, getD, take, drop, length-append, length-take, length-drop}
+use lib.Seq.{take-all, take-add}
+use Rattle.placement.specs.Numbers.{field}
+use Rattle.placement.specs.Header.{block-long}
+use Rattle.placement.specs.Blocks.{holds}
+use Rattle.placement.specs.Chunks.{block-bytes}
+use Rattle.placement.specs.Parts.{block-in}
+use Rattle.placement.specs.Place.{search-in, taken-out}
+use Rattle.placement.specs.Maps.{Map, Table, Finds, is-at, is-none, labelled, nodes-of, cleared, without-label, is-label}
+use Rattle.placement.specs.declared.Sizes.{Sizes}
+use Rattle.placement.specs.declared.Order.{Order}
+use Rattle.placement.specs.declared.Label.{Label}
+use Rattle.placement.specs.declared.Found.{Found}
+use Rattle.placement.specs.declared.Found.the-variants.{At, Nothing}
+use Rattle.placement.proofs.Laws.Sizes.{some-nodes}
+use Rattle.placement.proofs.Laws.Tables.{find-told, count-most, count-some, remove-keeps}
+use Rattle.placement.proofs.Laws.Reading.{node-at, count-read, key-read}
+use Rattle.skiplist.proofs.Parts.{Up, below, and-left, and-right}
+use Rattle.skiplist.proofs.Descent.{last-from}
+use Rattle.levels.specs.declared.Spot.{Spot}
+use Rattle.levels.specs.Edit.{Pieces, Scans}
+use Rattle.levels.specs.Scan.{passed, passes}
+
+-- A NODE
+module _ (key y : ℕ) (x : Spot) where
+  pub passed-low : key < y → _≡_ {A = Spot} (record { below = x .below + 1; last = key; size = x .size + 1 }) (passed key y x)
+  unfolding passed
+  passed-low h = rw (lt-ltb key y h)
+
+  pub passed-high : y ≤ key → _≡_ {A = Spot} (record { below = x .below; last = x .last; size = x .size + 1 }) (passed key y x)
+  unfolding passed
+  passed-high h = rw (le-ltb key y h)
+
+-- THE NODES of a chunk
+pub record Passing (bs : List ℕ) (n at y : ℕ) (x : Spot) (i : ℕ) (z : Spot) : Type 0 where
+  pub within : i ≤ n
+  pub few : z .below ≤ z .size
+  pub long : z .size ≡ x .size + i
+  pub rest : passes bs n at y x ≡ passes bs (n - i) (at + 12 * i) y z
+
+module _ (bs : List ℕ) (n at y : ℕ) (x : Spot) where
+  pub passing-start : x .below ≤ x .size → Passing bs n at y x 0 x
+  passing-start h =
+      let e : at ≡ at + 12 * 0 = omega arith in
+      record {
+        within = omega arith;
+        few = h;
+        long = omega arith;
+        rest = ap (λ (j : ℕ). passes bs j at y x) (sym (sub-zero n)) ∙ ap (λ (a : ℕ). passes bs (n - 0) a y x) e;
+      }
+
+  module _ (i : ℕ) (z : Spot) (p : Passing bs n at y x i z) where
+    pub passing-more : i < n → (key : ℕ) (w : Spot) → key ≡ field (at + 12 * i) 4 bs → w ≡ passed key y z → w .below ≤ w .size → w .size ≡ z .size + 1 →
+        Passing bs n at y x (i + 1) w
+    unfolding passes
+    passing-more h key w ek ew few long =
+        let e : n - i ≡ suc (n - (i + 1)) = omega arith in
+        let f : at + 12 * i + 12 ≡ at + 12 * (i + 1) = omega arith in
+        record {
+          within = omega arith;
+          few = few;
+          long = omega (arith, p .long);
+          rest =
+              p .rest
+              ∙ ap (λ (j : ℕ). passes bs j (at + 12 * i) y z) e
+              ∙ ap (λ (a : ℕ). passes bs (n - (i + 1)) a y (passed (field (at + 12 * i) 4 bs) y z)) f
+              ∙ ap (passes bs (n - (i + 1)) (at + 12 * (i + 1)) y) (sym (ew ∙ ap (λ (q : ℕ). passed q y z) ek));
+        }
+
+    pub passing-end : n ≤ i → z ≡ passes bs n at y x
+    unfolding passes
+    passing-end h =
+        let e : n - i ≡ 0 = omega arith in
+        sym (p .rest ∙ ap (λ (j : ℕ). passes bs j (at + 12 * i) y z) e)
+
+-- nodes as a list
+unfoldable pub passed-all : (y : ℕ) → List Order → Spot → Spot
+passed-all y [] x = x
+passed-all y (o ∷ os) x = passed-all y os (passed (o .key) y x)
+
+-- nobody came by yet
+abbrev pub start : Spot
+start = record { below = 0; last = 0; size = 0 }
+
+passed-append : (y : ℕ) (xs zs : List Order) (x : Spot) → passed-all y (xs ++ zs) x ≡ passed-all y zs (passed-all y xs x)
+unfolding passed-all
+passed-append y [] zs x = refl
+passed-append y (o ∷ xs) zs x = passed-append y xs zs (passed (o .key) y x)
+
+passed-below : (y : ℕ) (ps : List Order) (x : Spot) → below y ps ≡ true →
+    passed-all y ps x ≡ record { below = x .below + length ps; last = last-from (x .last) ps; size = x .size + length ps }
+unfolding passed-all below last-from
+passed-below y [] x e =
+    let a : x .below ≡ x .below + 0 = omega arith in
+    let b : x .size ≡ x .size + 0 = omega arith in
+    λ i. record { below = a i; last = x .last; size = b i }
+passed-below y (p ∷ ps) x e =
+    let h = ltb-true (p .key) y (and-left (ltb (p .key) y) (below y ps) e) in
+    let a : x .below + 1 + length ps ≡ x .below + suc (length ps) = omega arith in
+    let b : x .size + 1 + length ps ≡ x .size + suc (length ps) = omega arith in
+    ap (passed-all y ps) (sym (passed-low (p .key) y x h))
+    ∙ passed-below y ps (record { below = x .below + 1; last = p .key; size = x .size + 1 }) (and-right (ltb (p .key) y) (below y ps) e)
+    ∙ (λ i. record { below = a i; last = last-from (p .key) ps; size = b i })
+
+passed-above : (y a : ℕ) (qs : List Order) (x : Spot) → y ≤ a → Up a qs →
+    passed-all y qs x ≡ record { below = x .below; last = x .last; size = x .size + length qs }
+unfolding passed-all
+passed-above y a [] x h u =
+    let b : x .size ≡ x .size + 0 = omega arith in
+    λ i. record { below = x .below; last = x .last; size = b i }
+passed-above y a (q ∷ qs) x h u =
+    let b : x .size + 1 + length qs ≡ x .size + suc (length qs) = omega arith in
+    ap (passed-all y qs) (sym (passed-high (q .key) y x (omega (arith, u .0))))
+    ∙ passed-above y (suc (q .key)) qs (record { below = x .below; last = x .last; size = x .size + 1 }) (omega (arith, u .0)) (u .1)
+    ∙ (λ i. record { below = x .below; last = x .last; size = b i })
+
+-- all nodes of a partition came by
+passed-both : (y : ℕ) (ps qs : List Order) → below y ps ≡ true → Up y qs →
+    passed-all y (ps ++ qs) start ≡ record { below = length ps; last = last-from 0 ps; size = length (ps ++ qs) }
+passed-both y ps qs l u =
+    let a : 0 + length ps ≡ length ps = omega arith in
+    let b : 0 + length ps + length qs ≡ length (ps ++ qs) = simp length-append (omega arith) in
+    passed-append y ps qs start
+    ∙ ap (passed-all y qs) (passed-below y ps start l)
+    ∙ passed-above y y qs (record { below = 0 + length ps; last = last-from 0 ps; size = 0 + length ps }) (omega arith) u
+    ∙ (λ i. record { below = a i; last = last-from 0 ps; size = b i })
+
+-- the keys that stand in bytes are those of some nodes
+keys-read : (bs : List ℕ) (y : ℕ) (ns : List Order) (a : ℕ) (x : Spot) → ((j : ℕ) → j < length ns → field (a + 12 * j) 4 bs ≡ node-at ns j .key) →
+    passes bs (length ns) a y x ≡ passed-all y ns x
+unfolding passes passed-all
+keys-read bs y [] a x h = refl
+keys-read bs y (o ∷ ns) a x h =
+    let e : a ≡ a + 12 * 0 = omega arith in
+    ap (λ (q : ℕ). passes bs (length ns) (a + 12) y (passed q y x)) (ap (λ (q : ℕ). field q 4 bs) e ∙ h 0 (omega arith))
+    ∙ keys-read bs y ns (a + 12) (passed (o .key) y x) (λ j g. moved j (h (suc j) (omega arith)))
+  where
+    moved : (j : ℕ) → field (a + 12 * suc j) 4 bs ≡ node-at ns j .key → field (a + 12 + 12 * j) 4 bs ≡ node-at ns j .key
+    moved j g = let e : a + 12 + 12 * j ≡ a + 12 * suc j = omega arith in ap (λ (q : ℕ). field q 4 bs) e ∙ g
+
+-- no partition has more chunks than there are blocks
+module _ (s : Sizes) (k f : ℕ) (pos : 0 < k) where
+  cleared-other : (a i : ℕ) (F : Map) → cleared (record { level = k; first = f; number = a }) F k f (suc a + i) ≡ F k f (suc a + i)
+  unfolding without-label is-label
+  cleared-other a i F = rw (ne-eqb a (suc a + i) (λ e. omega arith), and-false, and-false)
+
+  crowd : (j : ℕ) (F : Map) (n : ℕ) (hd bs : List ℕ) (a : ℕ) → Table s F n hd bs → ((i : ℕ) → i < j → F k f (a + i) ≢ []) → j ≤ n
+  crowd zero F n hd bs a t h = omega arith
+  crowd (suc j) F n hd bs a t h =
+      let w : Label = record { level = k; first = f; number = a } in
+      let z : a + 0 ≡ a = omega arith in
+      let full : F k f a ≢ [] = λ e. h 0 (omega arith) (ap (F k f) z ∙ e) in
+      omega (
+        arith,
+        count-some s F n hd bs t w full,
+        crowd j (cleared w F) (n - 1) hd (taken-out s (search-in s bs w) bs) (suc a) (remove-keeps s F n hd bs t w pos full .1)
+            (λ i g e. after i (h (suc i) (omega arith)) (sym (cleared-other a i F) ∙ e)),
+      )
+    where
+      after : (i : ℕ) → F k f (a + suc i) ≢ [] → F k f (suc a + i) ≢ []
+      after i g e = let z : a + suc i ≡ suc a + i = omega arith in g (ap (F k f) z ∙ e)
+
+  module _ (F : Map) (n : ℕ) (hd bs : List ℕ) (ns : List Order) (t : Table s F n hd bs) (p : Pieces F (s .nodes) k f 0 ns) where
+    piece : (i : ℕ) → F k f i ≡ take (s .nodes) (drop (i * s .nodes) ns)
+    unfolding Pieces
+    piece i = let e : i ≡ 0 + i = omega arith in ap (F k f) e ∙ p i
+
+    piece-gone : (i : ℕ) → F k f i ≡ [] → length ns ≤ i * s .nodes
+    piece-gone i e = omega (arith, some-nodes s (t .good), simp (length-take, length-drop) at (ap length (sym (piece i) ∙ e)))
+
+    chunks-most : length ns ≤ s .blocks * s .nodes
+    chunks-most = go (decLt (s .blocks * s .nodes) (length ns))
+      where
+        there : s .blocks * s .nodes < length ns → (i : ℕ) → i < suc (s .blocks) → F k f (0 + i) ≢ []
+        there h i g e =
+            let q : i ≡ 0 + i = omega arith in
+            let m : i ≤ s .blocks = omega arith in
+            omega (arith, piece-gone i (ap (F k f) q ∙ e), mul-le-mul-right (s .nodes) m)
+
+        go : Dec (s .blocks * s .nodes < length ns) → length ns ≤ s .blocks * s .nodes
+        go (no h) = omega arith
+        go (yes h) =
+            absurd (omega (arith, count-most s F n hd bs t, crowd (suc (s .blocks)) F n hd bs 0 t (there h)))
+
+-- THE CHUNKS of a partition
+pub record Scanning (s : Sizes) (bs : List ℕ) (k f y i : ℕ) (z : Spot) : Type 0 where
+  pub within : i ≤ s .blocks
+  pub few : z .below ≤ z .size
+  pub most : z .size ≤ 255 * i
+  pub so-far : (F : Map) (n : ℕ) (hd : List ℕ) (ns : List Order) → Table s F n hd bs → 0 < k → Pieces F (s .nodes) k f 0 ns → z ≡ passed-all y (take (i * s .nodes) ns) start
+
+pub scanning-start : (s : Sizes) (bs : List ℕ) (k f y : ℕ) → Scanning s bs k f y 0 start
+unfolding passed-all
+scanning-start s bs k f y =
+    record { within = omega arith; few = omega arith; most = omega arith; so-far = λ F n hd ns t pos p. ap (λ (q : ℕ). passed-all y (take q ns) start) none }
+  where
+    none : 0 ≡ 0 * s .nodes
+    none = omega arith
+
+-- what a search found
+none-found : (s : Sizes) (F : Map) (w : Label) (bs : List ℕ) (r : Found) → r ≡ Nothing → Finds s F w bs r → nodes-of F w ≡ []
+none-found s F w bs Nothing e (is-none q) = q
+none-found s F w bs (At b) e x = let z : _≡_ {A = ℕ} 0 1 = cc in absurd (omega arith)
+
+record Stood (s : Sizes) (F : Map) (w : Label) (bs : List ℕ) (b : ℕ) : Type 0 where
+  full : nodes-of F w ≢ []
+  is : block-in (block-long s) bs b ≡ block-bytes s (holds (labelled w (nodes-of F w)))
+
+some-found : (s : Sizes) (F : Map) (w : Label) (bs : List ℕ) (r : Found) (b : ℕ) → r ≡ At b → Finds s F w bs r → Stood s F w bs b
+some-found s F w bs Nothing b e x = let z : _≡_ {A = ℕ} 0 1 = cc in absurd (omega arith)
+some-found s F w bs (At a) b e (is-at h f q) =
+    let z : a ≡ b = cc in
+    record { full = f; is = ap (block-in (block-long s) bs) (sym z) ∙ q }
+
+module _ (s : Sizes) (bs : List ℕ) (k f y i : ℕ) (z : Spot) (p : Scanning s bs k f y i z) where
+  all-came : (ps qs : List Order) → length (ps ++ qs) ≤ i * s .nodes → below y ps ≡ true → Up y qs → z ≡ passed-all y (take (i * s .nodes) (ps ++ qs)) start →
+      z ≡ record { below = length ps; last = last-from 0 ps; size = length (ps ++ qs) }
+  all-came ps qs h low high e = e ∙ ap (λ (l : List Order). passed-all y l start) (take-all (i * s .nodes) (ps ++ qs) h) ∙ passed-both y ps qs low high
+
+  pub scanning-end : s .blocks ≤ i → Scans s bs k f y z
+  unfolding Scans
+  scanning-end h F n hd ps qs t pos c low high =
+      all-came ps qs (omega (arith, chunks-most s k f pos F n hd bs (ps ++ qs) t c, mul-le-mul-right (s .nodes) h)) low high (p .so-far F n hd (ps ++ qs) t pos c)
+
+  module _ (r : Found) (er : r ≡ search-in s bs (record { level = k; first = f; number = i })) where
+    finds : (F : Map) (n : ℕ) (hd : List ℕ) → Table s F n hd bs → 0 < k → Finds s F (record { level = k; first = f; number = i }) bs r
+    finds F n hd t pos = subst (Finds s F (record { level = k; first = f; number = i }) bs) (sym er) (find-told s F n hd bs t (record { level = k; first = f; number = i }) pos)
+
+    pub scanning-none : r ≡ Nothing → Scans s bs k f y z
+    unfolding Scans
+    scanning-none e F n hd ps qs t pos c low high =
+        all-came ps qs (piece-gone s k f pos F n hd bs (ps ++ qs) t c i (none-found s F (record { level = k; first = f; number = i }) bs r e (finds F n hd t pos))) low high
+        (p .so-far F n hd (ps ++ qs) t pos c)
+
+    module _ (b : ℕ) (eb : r ≡ At b) (n : ℕ) (en : n ≡ getD bs (53 + b * block-long s + 1) 0) where
+      module _ (F : Map) (m : ℕ) (hd : List ℕ) (t : Table s F m hd bs) (pos : 0 < k) where
+        stood : Stood s F (record { level = k; first = f; number = i }) bs b
+        stood = some-found s F (record { level = k; first = f; number = i }) bs r b eb (finds F m hd t pos)
+
+        counted : n ≡ length (F k f i)
+        counted =
+            let h = t .sound k f i (stood .full) in
+            en ∙ count-read s bs b (record { level = k; first = f; number = i }) (F k f i) (stood .is) (h .nodes) (h .fine)
+
+        nodes-few : n ≤ s .nodes
+        nodes-few = omega (arith, counted, t .sound k f i (stood .full) .nodes)
+
+        came : passes bs n (53 + b * block-long s + 8) y z ≡ passed-all y (F k f i) z
+        came =
+            let h = t .sound k f i (stood .full) in
+            ap (λ (j : ℕ). passes bs j (53 + b * block-long s + 8) y z) counted
+            ∙ keys-read bs y (F k f i) (53 + b * block-long s + 8) z
+            (λ j g. moved j (key-read s bs b (record { level = k; first = f; number = i }) (F k f i) (stood .is) (h .nodes) (h .fine) j g))
+          where
+            moved : (j : ℕ) → field (53 + b * block-long s + (8 + (12 * j + 0))) 4 bs ≡ node-at (F k f i) j .key → field (53 + b * block-long s + 8 + 12 * j) 4 bs ≡ node-at (F k f i) j .key
+            moved j g =
+                let e : 53 + b * block-long s + 8 + 12 * j ≡ 53 + b * block-long s + (8 + (12 * j + 0)) = omega arith in
+                ap (λ (q : ℕ). field q 4 bs) e ∙ g
+
+      -- a block with more nodes than fit is no table's
+      pub scanning-wide : s .nodes < n → Scans s bs k f y z
+      unfolding Scans
+      scanning-wide h F m hd ps qs t pos c low high = absurd (omega (arith, nodes-few F m hd t pos))
+
+      pub scanning-more : i < s .blocks → n ≤ s .nodes → s .nodes ≤ 32 → (at : ℕ) (w : Spot) → at ≡ 53 + b * block-long s → w ≡ passes bs n (at + 8) y z → w .below ≤ w .size →
+          w .size ≡ z .size + n → Scanning s bs k f y (i + 1) w
+      scanning-more lt le few at w ea ew short long =
+          record {
+            within = omega arith;
+            few = short;
+            most = omega (arith, p .most);
+            so-far = λ F m hd ns t pos c.
+                ew
+                ∙ ap (λ (a : ℕ). passes bs n (a + 8) y z) ea
+                ∙ came F m hd t pos
+                ∙ ap (λ (l : List Order). passed-all y l z) (piece s k f pos F m hd bs ns t c i)
+                ∙ ap (passed-all y (take (s .nodes) (drop (i * s .nodes) ns))) (p .so-far F m hd ns t pos c)
+                ∙ sym (passed-append y (take (i * s .nodes) ns) (take (s .nodes) (drop (i * s .nodes) ns)) start)
+                ∙ ap (λ (l : List Order). passed-all y l start) (sym (take-add (i * s .nodes) (s .nodes) ns) ∙ ap (λ (q : ℕ). take q ns) next);
+          }
+        where
+          next : i * s .nodes + s .nodes ≡ (i + 1) * s .nodes
+          next = rw add-one (sym (suc-mul i (s .nodes)))
+
+-- a chunk that is not full is the last
+module _ (s : Sizes) (bs : List ℕ) (k f y i : ℕ) (z : Spot) (p : Scanning s bs k f y i z) (r : Found) (er : r ≡ search-in s bs (record { level = k; first = f; number = i }))
+    (b : ℕ) (eb : r ≡ At b) (n : ℕ) (en : n ≡ getD bs (53 + b * block-long s + 1) 0) where
+  pub scanning-stop : (w : Spot) → Scanning s bs k f y (i + 1) w → n < s .nodes → Scans s bs k f y w
+  unfolding Scans
+  scanning-stop w q h F m hd ps qs t pos c low high =
+      all-came s bs k f y (i + 1) w q ps qs short low high (q .so-far F m hd (ps ++ qs) t pos c)
+    where
+      next : (i + 1) * s .nodes ≡ i * s .nodes + s .nodes
+      next = rw add-one (suc-mul i (s .nodes))
+
+      short : length (ps ++ qs) ≤ (i + 1) * s .nodes
+      short =
+          omega (
+            arith,
+            h,
+            next,
+            simp (length-take, length-drop) at (counted s bs k f y i z p r er b eb n en F m hd t pos ∙ ap length (piece s k f pos F m hd bs (ps ++ qs) t c i)),
+          )

@@ -1,0 +1,31 @@
+-- `levels::edit::put_in` meets its contract: each need follows from the laws listed. Assumes nothing.
+use borrow.Author.Needs.{needs}
+use mathlib.Core.Path.{refl}
+use native.Mathlib.Omega.{arith}
+use Rattle.levels.proofs.Laws.Levels.{numbers-shift, put-in-short, put-in-made}
+use Rattle.levels.proofs.edit.put_in.Statement.{statement}
+use Rattle.levels.proofs.edit.put_in.Tie as tie
+
+returns : tie.Need-returns
+returns c =
+    let p = c .before .before .before .before .before .before .before .before .before .before .before .pre in
+    put-in-short _ _ _ _ _ _ (p .1) (p .0 .few) _ _ 0 _ refl refl _ _ (c .before .before .read .ensures .2) (c .if1 .taken)
+
+add-shift : tie.Need-add-shift
+add-shift c = record { fits = omega (arith, c .before .before .before .before .before .before .before .before .before .before .before .before .before .before .before .read .ensures .1, c .before .before .before .before .before .before .before .before .before .before .before .before .before .before .before .before .before .before .before .before .before .before .before .before .pre .0 .few) }
+
+shift-requires : tie.Need-shift-requires
+shift-requires c κs =
+    let b = c .before .before .before .before .before .before .before .before .before .before .before .before .before .before .before .before .before .before .before .before .before .before in
+    let a = b .before .before in
+    (a .pre .0, a .pre .1, a .pre .2, omega (arith, c .before .before .before .before .before .before .before .before .before .before .before .before .before .before .before .read .ensures .1), search needs, numbers-shift _ (a .args .x .below) (a .args .x .size) _ _ (a .pre .1) (omega (arith, a .fits, b .struct-known .given)) (omega (arith, a .fits, b .struct-known .given)) refl (c .before .before .before .before .before .before .before .before .before .before .before .before .before .before .before .before .before .before .later .ensures))
+
+returns-2 : tie.Need-returns-2
+returns-2 c =
+    let p = c .before .before .before .before .before .before .before .before .before .before .before .before .before .before .before .before .before .before .before .before .before .before .before .before .before .before .before .before .pre in
+    put-in-made _ _ _ _ _ _ (p .1) (p .0 .few) _ _ _ _ refl refl _ _ (c .before .before .before .before .before .before .before .before .before .before .before .before .before .before .before .before .before .before .before .read .ensures .2) (c .before .before .before .before .before .before .before .before .before .before .before .before .before .before .before .before .before .before .before .before .before .before .later .ensures) (omega (arith, c .before .before .before .before .before .before .before .before .before .before .before .before .before .before .before .before .before .if1 .left)) _ _ _ _ (c .before .before .before .before .before .before .before .before .before .before .before .before .before .before .bring .ensures) (c .before .before .before .before .before .before .before .before .before .before .before .write-node .ensures) (c .before .before .before .before .before .before .before .bring2 .ensures) (search needs) _ (c .before .before .before .shift .ensures)
+
+pub put-in-spec : {M : Type 1} → statement M
+put-in-spec =
+    tie.close
+    (tie.spec (λ c. search needs) (λ c. search needs) (λ c κs. search needs) (λ c. search needs) (λ c κs. search needs) (λ c. search needs) returns (λ c. search needs) (λ c. search needs) (λ c. search needs) (λ c. search needs) (λ c κs. search needs) (λ c. search needs) (λ c κs. search needs) (λ c. search needs) (λ c. search needs) (λ c. search needs) (λ c. search needs) (λ c. search needs) (λ c. search needs) (λ c. search needs) (λ c. search needs) (λ c. search needs) (λ c κs. search needs) (λ c. search needs) add-shift shift-requires (λ c. search needs) returns-2)

@@ -1,0 +1,19 @@
+-- `levels::growth::growth` meets its contract: each need follows from the laws listed. Assumes nothing.
+use borrow.Author.Needs.{needs}
+use Rattle.levels.proofs.Laws.Growing.{Growing, growing-start, growing-more, growing-end}
+use Rattle.levels.proofs.growth.growth.Statement.{statement}
+use Rattle.levels.proofs.growth.growth.Tie as tie
+
+ruleset laws = (needs, growing-start, growing-more, growing-end)
+
+abbrev Inv-loop : tie.InvT-loop
+Inv-loop table s top l y sum₀ first₀ level₀ sum first level = Growing s table top l y level sum first
+
+abbrev μ-loop : tie.MeasureT-loop
+μ-loop table s top l y sum₀ first₀ level₀ sum first level = level
+
+pub growth-spec : {M : Type 1} → statement M
+growth-spec =
+    tie.close
+    (tie.spec Inv-loop μ-loop (λ c. search laws) (λ c κs. search laws) (λ c κs. search laws) (λ c. search laws) (λ c. search laws)
+    (λ c. search laws) (λ c. search laws) (λ c. search laws))

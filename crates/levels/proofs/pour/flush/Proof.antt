@@ -1,0 +1,28 @@
+-- `levels::pour::flush` meets its contract: each need follows from the laws listed. Assumes nothing.
+use borrow.Author.Needs.{needs}
+use mathlib.Core.Path.{refl}
+use mathlib.Core.Logic.{inr}
+use native.Mathlib.Omega.{arith}
+use Rattle.levels.proofs.Laws.Flushes.{flush-waits, flush-writes}
+use Rattle.levels.proofs.pour.flush.Statement.{statement}
+use Rattle.levels.proofs.pour.flush.Tie as tie
+
+returns : tie.Need-returns
+returns c = (record { shaped = c .before .before .before .before .pre .0; long = refl }, (λ h. omega (arith, c .if1 .taken)), flush-waits _ _ _ _ _ (c .if1 .taken))
+
+copy-requires : tie.Need-copy-requires
+copy-requires c κs =
+    let h = c .before .before .before .before .before .before .before .before .if1 .left in
+    let p = c .before .before .before .before .before .before .before .before .before .before .before .before .pre .2 in
+    (omega (arith, h, p), omega (arith, h, p), inr (omega arith))
+
+returns-2 : tie.Need-returns-2
+returns-2 c =
+    let h = c .before .before .before .before .before .before .before .before .before .before .before .if1 .left in
+    let w = c .before .before .before .before .before .before .before .before .write-some .ensures in
+    (record { shaped = w .0; long = search needs }, (λ z. omega (arith, h)), flush-writes _ _ _ _ _ _ _ _ h (c .before .before .before .before .before .before .before .before .before .before .before .before .before .before .before .pre .2) (w .1) refl (c .before .before .copy .ensures))
+
+pub flush-spec : {M : Type 1} → statement M
+flush-spec =
+    tie.close
+    (tie.spec returns (λ c κs. search needs) (λ c. search needs) (λ c. search needs) (λ c. search needs) (λ c. search needs) copy-requires (λ c. search needs) (λ c. search needs) returns-2)

@@ -1,0 +1,109 @@
+-- What the parts of a put and of a cancel do, told by the map that a table keeps. Assumes nothing: these are definitions.
+use mathlib.Core.Path.{_≡_}
+use mathlib.Core.Bool.{true}
+use mathlib.Core.List.{List, [], _∷_, _++_}
+use Prim.Native.Nat.{ℕ, suc, _+_, _*_, _≤_, _<_}
+use lib.ListN.{length, take, drop}
+use Rattle.placement.specs.Sizes.{beta, made}
+use Rattle.placement.specs.Hash.{level}
+use Rattle.placement.specs.Maps.{Map, Table, Fine}
+use Rattle.placement.specs.declared.Sizes.{Sizes}
+use Rattle.placement.specs.declared.Order.{Order}
+use Rattle.skiplist.specs.Lists.{masked, first-key, chunks}
+use Rattle.skiplist.specs.Image.{image, orders-good, fits}
+use Rattle.skiplist.proofs.Parts.{Up, below}
+use Rattle.skiplist.proofs.Descent.{last-from}
+use Rattle.skiplist.proofs.Count.{pieces}
+use Rattle.skiplist.proofs.Edits.{head-part}
+use Rattle.levels.specs.declared.Spot.{Spot}
+
+-- from chunk number i on, the chunks of partition f of level k hold some nodes, B in each but the last
+unfoldable pub Pieces : Map → (b k f i : ℕ) → List Order → Type 0
+Pieces F b k f i ns = (n : ℕ) → F k f (i + n) ≡ take b (drop (n * b) ns)
+
+-- two maps differ at most in partition f of level k
+unfoldable pub Elsewhere : (old new : Map) → (k f : ℕ) → Type 0
+Elsewhere F G k f = (l g i : ℕ) → (l ≡ k → g ≡ f → ⊥) → G l g i ≡ F l g i
+
+-- .. or in partitions f and h of level k
+unfoldable pub Elsewhere-both : (old new : Map) → (k f h : ℕ) → Type 0
+Elsewhere-both F G k f h = (l g i : ℕ) → (l ≡ k → g ≡ f → ⊥) → (l ≡ k → g ≡ h → ⊥) → G l g i ≡ F l g i
+
+-- WHERE A KEY COMES in a partition of nodes ps below it and qs not below it
+unfoldable pub Scans : Sizes → List ℕ → (k f y : ℕ) → Spot → Type 0
+Scans s bs k f y r =
+    (F : Map) (n : ℕ) (hd : List ℕ) (ps qs : List Order) → Table s F n hd bs → 0 < k → Pieces F (s .nodes) k f 0 (ps ++ qs) → below y ps ≡ true → Up y qs →
+    r ≡ record { below = length ps; last = last-from 0 ps; size = length (ps ++ qs) }
+
+-- what an edit needs of a partition and a key at level k: numbers that bytes can hold, and a place in it
+pub record Room (s : Sizes) (k f : ℕ) (ps qs : List Order) (x : Spot) (o : Order) : Type 0 where
+  pub level : 0 < k
+  pub first : f < 4294967296
+  pub fine : Fine o
+  pub few : length (ps ++ qs) ≤ 65536
+  pub below : x .below ≡ length ps
+  pub size : x .size ≡ length (ps ++ qs)
+
+-- PUT, at the key's own level: its node comes between ps and qs
+pub record Comes-in (s : Sizes) (F : Map) (n : ℕ) (hd bs : List ℕ) (k f : ℕ) (old new : List Order) : Type 0 where
+  pub map : Map
+  pub full : ℕ
+  pub table : Table s map full hd bs
+  pub there : Pieces map (s .nodes) k f 0 new
+  pub elsewhere : Elsewhere F map k f
+  pub count : full + pieces (s .nodes) (length old) ≡ n + pieces (s .nodes) (length new)
+
+unfoldable pub Puts-in : Sizes → (k f : ℕ) → Spot → Order → (bs bs′ : List ℕ) → Type 0
+Puts-in s k f x o bs bs′ =
+    (F : Map) (n : ℕ) (hd : List ℕ) (ps qs : List Order) → Table s F n hd bs → Room s k f ps qs x o → Pieces F (s .nodes) k f 0 (ps ++ qs) →
+    n + pieces (s .nodes) (suc (length (ps ++ qs))) ≤ s .blocks + pieces (s .nodes) (length (ps ++ qs)) →
+    Comes-in s F n hd bs′ k f (ps ++ qs) (ps ++ masked k o ∷ qs)
+
+-- CANCEL, at the key's own level: its node, y, goes from between ps and qs
+unfoldable pub Cancels-in : Sizes → (k f : ℕ) → Spot → (bs bs′ : List ℕ) → Type 0
+Cancels-in s k f x bs bs′ =
+    (F : Map) (n : ℕ) (hd : List ℕ) (ps : List Order) (y : Order) (qs : List Order) → Table s F n hd bs → Room s k f ps (y ∷ qs) x y →
+    Pieces F (s .nodes) k f 0 (ps ++ y ∷ qs) → 0 < length ps → Comes-in s F n hd bs′ k f (ps ++ y ∷ qs) (ps ++ qs)
+
+-- PUT, below the key's level: ps stay, and the key starts a partition with qs
+pub record Splits (s : Sizes) (F : Map) (n : ℕ) (hd bs : List ℕ) (k f g : ℕ) (left right : List Order) (old : ℕ) : Type 0 where
+  pub map : Map
+  pub full : ℕ
+  pub table : Table s map full hd bs
+  pub left-there : Pieces map (s .nodes) k f 0 left
+  pub right-there : Pieces map (s .nodes) k g 0 right
+  pub elsewhere : Elsewhere-both F map k f g
+  pub count : full + old ≡ n + pieces (s .nodes) (length left) + pieces (s .nodes) (length right)
+
+unfoldable pub Puts-below : Sizes → (k f : ℕ) → Spot → Order → (bs bs′ : List ℕ) → Type 0
+Puts-below s k f x o bs bs′ =
+    (F : Map) (n : ℕ) (hd : List ℕ) (ps qs : List Order) → Table s F n hd bs → Room s k f ps qs x o → Pieces F (s .nodes) k f 0 (ps ++ qs) → (f ≡ o .key → ⊥) →
+    Pieces F (s .nodes) k (o .key) 0 [] → 0 < length ps →
+    n + pieces (s .nodes) (length ps) + pieces (s .nodes) (suc (length qs)) ≤ s .blocks + pieces (s .nodes) (length (ps ++ qs)) →
+    Splits s F n hd bs′ k f (o .key) ps (masked k o ∷ qs) (pieces (s .nodes) (length (ps ++ qs)))
+
+-- CANCEL, below the key's level: the partition y ∷ qs that the key starts joins ps
+unfoldable pub Cancels-below : Sizes → (k f g : ℕ) → (below size : ℕ) → (bs bs′ : List ℕ) → Type 0
+Cancels-below s k f g m w bs bs′ =
+    (F : Map) (n : ℕ) (hd : List ℕ) (ps : List Order) (y : Order) (qs : List Order) → Table s F n hd bs → 0 < k → f < 4294967296 → (f ≡ g → ⊥) →
+    length (ps ++ y ∷ qs) ≤ 65536 → m ≡ length ps → w ≡ suc (length qs) → 0 < length ps →
+    Pieces F (s .nodes) k f 0 ps → Pieces F (s .nodes) k g 0 (y ∷ qs) →
+    Splits s F n hd bs′ k f g (ps ++ qs) [] (pieces (s .nodes) (length ps) + pieces (s .nodes) (suc (length qs)))
+
+-- PUT of a held key: node y of partition f of level 1 has other quantities
+unfoldable pub Replaces : Sizes → (f m : ℕ) → Order → (bs bs′ : List ℕ) → Type 0
+Replaces s f m o bs bs′ =
+    (F : Map) (n : ℕ) (hd : List ℕ) (ps : List Order) (y : Order) (qs : List Order) → Table s F n hd bs → Fine o → y .key ≡ o .key → m ≡ length ps →
+    length (ps ++ y ∷ qs) ≤ 65536 → Pieces F (s .nodes) 1 f 0 (ps ++ y ∷ qs) → Comes-in s F n hd bs′ 1 f (ps ++ y ∷ qs) (ps ++ o ∷ qs)
+
+-- HOW MANY CHUNKS MORE the table of some orders has once a key that is not held is there
+unfoldable pub Grows : Sizes → List ℕ → (top l y : ℕ) → ℕ → Type 0
+Grows s bs top l y r =
+    (xs : List Order) (o : Order) (zs : List Order) → made s ≡ true → orders-good 1 (xs ++ zs) ≡ true → fits s (xs ++ zs) ≡ true → bs ≡ image s (xs ++ zs) →
+    below y xs ≡ true → Up (suc y) zs → 0 < y → o .key ≡ y → top ≡ beta s → l ≡ level s y → r + length (chunks s (xs ++ zs)) ≡ length (chunks s (xs ++ o ∷ zs))
+
+-- THE PARTITION OF LEVEL 1 that has the orders just below a key
+unfoldable pub Bottoms : Sizes → List ℕ → (top y : ℕ) → ℕ → Type 0
+Bottoms s bs top y r =
+    (xs zs : List Order) → made s ≡ true → orders-good 1 (xs ++ zs) ≡ true → fits s (xs ++ zs) ≡ true → bs ≡ image s (xs ++ zs) → below y xs ≡ true → Up y zs → 0 < y →
+    top ≡ beta s → r ≡ first-key (head-part s 1 xs)

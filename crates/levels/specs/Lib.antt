@@ -1,0 +1,4 @@
+pub mod Edit
+pub mod Pour
+pub mod Shift
+pub mod Scan

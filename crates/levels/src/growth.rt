@@ -1,0 +1,58 @@
+// How much a put adds, and the way down to a key.
+ghost use mathlib.Core.Path.{_≡_};
+ghost use Prim.Native.Nat.{ℕ, _+_, _*_, _-_, _≤_, _<_};
+ghost use Rattle.placement.specs.Sizes.{beta};
+ghost use Rattle.placement.specs.Place.{Shaped};
+ghost use Rattle.levels.specs.Edit.{Grows, Bottoms};
+ghost use Rattle.levels.specs.Scan.{Grown};
+use crate::Spot;
+use crate::spots::chunks_of;
+use crate::spots::scan;
+use placement::Sizes;
+
+// How many chunks a level has more once a key of level l is there.
+fn grown(s: Sizes, level: u32, l: u32, x: Spot) -> u32
+    requires { ⌜ (0 < s .nodes) × (x .below ≤ x .size) × (x .size ≤ 16711425) ⌝ }
+    ensures { λ r. ⌜ Grown (s .nodes) level l x r ⌝ }
+{
+    if l < level {
+        return 0;
+    }
+    if level == l {
+        return chunks_of(s.nodes, x.size + 1) - chunks_of(s.nodes, x.size);
+    }
+    chunks_of(s.nodes, x.below) + chunks_of(s.nodes, x.size - x.below + 1)
+        - chunks_of(s.nodes, x.size)
+}
+
+// How many chunks the table has more once a key of level l is there.
+pub fn growth(table: &[u8], s: Sizes, top: u32, l: u32, y: u32) -> u32
+    requires { ⌜ Shaped s (now table) × (2 ≤ s .nodes) × (top ≤ 19) ⌝ }
+    ensures { λ r. ⌜ Grows s (now (table .entry)) top l y r × (r ≤ 65536) ⌝ }
+{
+    let mut sum: u32 = 0;
+    let mut first: u32 = 0;
+    let mut level = top;
+    while 0 < level {
+        let x = scan(table, s, level, first, y);
+        sum = sum + grown(s, level, l, x);
+        first = x.last;
+        level -= 1;
+    }
+    sum
+}
+
+// The first key of the partition of level 1 that has the nodes just below a key.
+pub fn bottom(table: &[u8], s: Sizes, top: u32, y: u32) -> u32
+    requires { ⌜ Shaped s (now table) ⌝ }
+    ensures { λ r. ⌜ Bottoms s (now (table .entry)) top y r ⌝ }
+{
+    let mut first: u32 = 0;
+    let mut level = top;
+    while 1 < level {
+        let x = scan(table, s, level, first, y);
+        first = x.last;
+        level -= 1;
+    }
+    first
+}

@@ -1,0 +1,112 @@
+// Where a key comes in a partition.
+ghost use mathlib.Core.Path.{_≡_};
+ghost use Prim.Native.Nat.{ℕ, _+_, _*_, _-_, _≤_, _<_};
+ghost use lib.ListN.{length};
+ghost use Rattle.placement.specs.Place.{Shaped};
+ghost use Rattle.skiplist.proofs.Count.{pieces};
+ghost use Rattle.levels.specs.Edit.{Scans};
+ghost use Rattle.levels.specs.Scan.{passed, passes};
+use crate::Spot;
+use placement::Found;
+use placement::Label;
+use placement::Sizes;
+use placement::labels::offset;
+use placement::numbers::be4;
+use placement::search::count_at;
+use placement::search::find;
+
+// A node comes by: it is counted, and kept if it is below the key.
+fn pass_node(key: u32, y: u32, x: Spot) -> Spot
+    requires { ⌜ (x .below ≤ x .size) × (x .size < 16711425) ⌝ }
+    ensures { λ r. ⌜ (r ≡ passed key y x) × (r .below ≤ r .size) × (r .size ≡ x .size + 1) ⌝ }
+{
+    if key < y {
+        return Spot {
+            below: x.below + 1,
+            last: key,
+            size: x.size + 1,
+        };
+    }
+    Spot {
+        below: x.below,
+        last: x.last,
+        size: x.size + 1,
+    }
+}
+
+// The nodes of a chunk come by.
+fn pass_nodes(table: &[u8], at: usize, n: u32, y: u32, x: Spot) -> Spot
+    requires { ⌜ (at + 12 * n ≤ length (now table)) × (x .below ≤ x .size) × (x .size + n ≤ 16711425) ⌝ }
+    ensures { λ r. ⌜ (r ≡ passes (now (table .entry)) n at y x) × (r .below ≤ r .size) × (r .size ≡ x .size + n) ⌝ }
+{
+    let mut spot = x;
+    let mut i: u32 = 0;
+    while i < n {
+        let key = be4(table, at + 12 * (i as usize));
+        spot = pass_node(key, y, spot);
+        i += 1;
+    }
+    spot
+}
+
+// How many nodes of a partition are below a key, the key of the last of them, and how many nodes there are.
+pub fn scan(table: &[u8], s: Sizes, level: u32, first: u32, y: u32) -> Spot
+    requires { ⌜ Shaped s (now table) ⌝ }
+    ensures { λ r. ⌜ Scans s (now (table .entry)) level first y r × (r .below ≤ r .size) × (r .size ≤ 16711425) ⌝ }
+{
+    let mut spot = Spot {
+        below: 0,
+        last: 0,
+        size: 0,
+    };
+    let mut number: u32 = 0;
+    while number < s.blocks {
+        let Found::At(i) = find(
+            table,
+            s,
+            Label {
+                level: level,
+                first: first,
+                number: number,
+            },
+        ) else {
+            return spot;
+        };
+        let n = count_at(table, s, i);
+        // No block of a table has more nodes than fit.
+        if s.nodes < n {
+            return spot;
+        }
+        let at = offset(s, i) + 8;
+        spot = pass_nodes(table, at, n, y, spot);
+        // A chunk comes only behind a full one.
+        if n < s.nodes {
+            return spot;
+        }
+        number += 1;
+    }
+    spot
+}
+
+// The chunks of so many nodes.
+pub fn chunks_of(nodes: u32, n: u32) -> u32
+    requires { ⌜ 0 < nodes ⌝ }
+    ensures { λ r. ⌜ (r ≡ pieces nodes n) × (r ≤ n) ⌝ }
+{
+    if n == 0 {
+        return 0;
+    }
+    1 + (n - 1) / nodes
+}
+
+// The chunks of so many nodes that come after one of them.
+pub fn later(nodes: u32, n: u32, number: u32) -> u32
+    requires { ⌜ 0 < nodes ⌝ }
+    ensures { λ r. ⌜ r ≡ pieces nodes n - (number + 1) ⌝ }
+{
+    let all = chunks_of(nodes, n);
+    if all <= number {
+        return 0;
+    }
+    all - number - 1
+}

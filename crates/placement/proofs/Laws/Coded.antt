@@ -1,0 +1,116 @@
+-- BLOCKS OF ANY KIND IN BYTES: any coding of a block in w bytes with its label at the front. What is read, written, moved and searched in the bytes of a table is so in its list of blocks. Assumes nothing.
+use mathlib.Core.Path.{_≡_, refl, ap, sym, _∙_}
+use mathlib.Core.List.{List, [], _∷_, _++_, map}
+use Prim.Native.Nat.{ℕ, zero, suc, _%_, _≤_, _<_}
+use native.Mathlib.Nat.{mod-lt}
+use native.Mathlib.Omega.{arith}
+use lib.ListN.{length, getD, set, replicate, length-set, length-map}
+use Rattle.placement.specs.Blocks.{Block, empty}
+use Rattle.placement.specs.Numbers.{rows}
+use Rattle.placement.specs.Parts.{block-in, put-block}
+use Rattle.placement.specs.Place.{label-in, bytes, Store, pull, settle, probe}
+use Rattle.placement.specs.declared.Label.{Label}
+use Rattle.placement.proofs.Laws.Cells.{join, Even, none, more, table-block, table-put, head-label, cells, Same, cells-same, pull-same, settle-same}
+
+-- A CODING: `Good` says of a block that bytes can hold it
+pub record Coding {A : Type 0} (w : ℕ) (code : Block A → List ℕ) (label : Block A → Label) (Good : Block A → Type 0) : Type 0 where
+  pub wide : 8 ≤ w
+  pub clear : code empty ≡ replicate w 0
+  pub free : Good empty
+  pub long : {b : Block A} → Good b → length (code b) ≡ w
+  pub head : {b : Block A} → Good b → head-label (code b) ≡ label b
+
+pub data All {A : Type 0} (Good : Block A → Type 0) : List (Block A) → Type 0 where
+  good-none : All Good []
+  good-more : {b : Block A} {bl : List (Block A)} → Good b → All Good bl → All Good (b ∷ bl)
+
+-- BLOCKS as a store: an edit on a list of blocks, and on their bytes, is one edit
+abbrev pub listed : {A : Type 0} → (Block A → Label) → Store (List (Block A))
+listed label =
+    record {
+      look = λ bl i. label (getD bl i empty);
+      copy = λ bl i j. set bl j (getD bl i empty);
+      swap = λ bl i j. set (set bl i (getD bl j empty)) j (getD bl i empty);
+      clear = λ bl i. set bl i empty;
+    }
+
+module _ {A : Type 0} (code : Block A → List ℕ) where
+  map-set : (x : List (Block A)) (i : ℕ) (b : Block A) → map code (set x i b) ≡ set (map code x) i (code b)
+  map-set [] i b = refl
+  map-set (y ∷ x) zero b = refl
+  map-set (y ∷ x) (suc i) b = ap (λ (r : List (List ℕ)). code y ∷ r) (map-set x i b)
+
+  bytes-at : (x : List (Block A)) (i m : ℕ) → i < m → length x ≡ m → getD (map code x) i [] ≡ code (getD x i empty)
+  bytes-at [] i m l e = absurd (omega arith)
+  bytes-at (y ∷ x) zero m l e = refl
+  bytes-at (y ∷ x) (suc i) zero l e = absurd (omega arith)
+  bytes-at (y ∷ x) (suc i) (suc m) l e = bytes-at x i m (omega arith) (omega arith)
+
+  pub rows-join : (bl : List (Block A)) → rows code bl ≡ join (map code bl)
+  unfolding rows join
+  rows-join [] = refl
+  rows-join (b ∷ bl) = ap (λ (r : List ℕ). code b ++ r) (rows-join bl)
+
+module _ {A : Type 0} {w : ℕ} {code : Block A → List ℕ} {label : Block A → Label} {Good : Block A → Type 0} (q : Coding w code label Good) where
+  pub good-at : {bl : List (Block A)} → All Good bl → (i : ℕ) → Good (getD bl i empty)
+  good-at good-none i = q .free
+  good-at (good-more k r) zero = k
+  good-at (good-more k r) (suc i) = good-at r i
+
+  pub good-set : {bl : List (Block A)} {b : Block A} → All Good bl → (i : ℕ) → Good b → All Good (set bl i b)
+  good-set good-none i kb = good-none
+  good-set (good-more k r) zero kb = good-more kb r
+  good-set (good-more k r) (suc i) kb = good-more k (good-set r i kb)
+
+  pub even-all : {bl : List (Block A)} → All Good bl → Even w (map code bl)
+  even-all good-none = none
+  even-all (good-more k r) = more (q .long k) (even-all r)
+
+  listed-same : (m : ℕ) → Same (cells w) (listed label) m (λ bl. map code bl) (λ bl. All Good bl × (length bl ≡ m))
+  listed-same m =
+      record {
+        look = λ x v i l. ap head-label (bytes-at code x i m l (v .1)) ∙ q .head (good-at (v .0) i);
+        copy = λ x v i j li lj. rw (bytes-at code x i m li (v .1)) (sym (map-set code x j _));
+        swap = λ x v i j li lj. rw (bytes-at code x i m li (v .1), bytes-at code x j m lj (v .1), ← map-set code x i, ← map-set code);
+        clear = λ x v i l. sym (map-set code x i empty ∙ ap (λ (z : List ℕ). set (map code x) i z) (q .clear));
+        copy-valid = λ x v i j li lj. (good-set (v .0) j (good-at (v .0) i), length-set x j _ ∙ v .1);
+        swap-valid = λ x v i j li lj.
+            (good-set (good-set (v .0) i (good-at (v .0) j)) j (good-at (v .0) i), simp length-set (v .1));
+      }
+
+  -- THE WHOLE WAY: what is done to the bytes of a head and blocks is done to the blocks
+  module _ (m : ℕ) (pos : 0 < m) (hd : List ℕ) (eh : length hd ≡ 53) (bl : List (Block A)) (v : All Good bl) (l : length bl ≡ m) where
+    many : length (map code bl) ≡ m
+    many = length-map bl code ∙ l
+
+    in-cells : Same (bytes w) (cells w) m (λ x. hd ++ join x) (λ x. Even w x × (length x ≡ m))
+    in-cells = cells-same w m hd eh (q .wide)
+
+    pub block-read : (i : ℕ) → i < m → block-in w (hd ++ rows code bl) i ≡ code (getD bl i empty)
+    block-read i h = rw rows-join (table-block w hd eh (even-all v) i (omega (arith, many)) ∙ bytes-at code bl i m h l)
+
+    pub block-write : (i : ℕ) (b : Block A) → i < m → Good b → put-block w (hd ++ rows code bl) i (code b) ≡ hd ++ rows code (set bl i b)
+    block-write i b h k =
+        rw (rows-join code bl)
+        (table-put w hd eh (even-all v) i (omega (arith, many)) (code b) (q .long k)
+        ∙ ap (λ (x : List ℕ). hd ++ x) (ap join (sym (map-set code bl i b)) ∙ sym (rows-join code (set bl i b))))
+
+    pub label-blocks : (i : ℕ) → i < m → label-in w (hd ++ rows code bl) i ≡ label (getD bl i empty)
+    label-blocks i h = rw rows-join (in-cells .look (map code bl) (even-all v, many) i h ∙ listed-same m .look bl (v, l) i h)
+
+    pub probe-blocks : (want : Label) (k i : ℕ) → probe (label-in w (hd ++ rows code bl)) m want k i ≡ probe (λ j. label (getD bl j empty)) m want k i
+    unfolding probe
+    probe-blocks want zero i = refl
+    probe-blocks want (suc k) i = rw (label-blocks (i % m) (mod-lt i pos), probe-blocks want k (suc i))
+
+    pub pull-blocks : (home : Label → ℕ) (k e i : ℕ) → e < m → pull (bytes w) home m k e i (hd ++ rows code bl) ≡ hd ++ rows code (pull (listed label) home m k e i bl)
+    pull-blocks home k e i h =
+        rw (rows-join, rows-join)
+        (pull-same (bytes w) (cells w) m _ _ in-cells pos home k e i (map code bl) (even-all v, many) h
+        ∙ ap (λ (r : List (List ℕ)). hd ++ join r) (pull-same (cells w) (listed label) m _ _ (listed-same m) pos home k e i bl (v, l) h))
+
+    pub settle-blocks : (k e i : ℕ) → e < m → settle (bytes w) m k e i (hd ++ rows code bl) ≡ hd ++ rows code (settle (listed label) m k e i bl)
+    settle-blocks k e i h =
+        rw (rows-join, rows-join)
+        (settle-same (bytes w) (cells w) m _ _ in-cells pos k e i (map code bl) (even-all v, many) h
+        ∙ ap (λ (r : List (List ℕ)). hd ++ join r) (settle-same (cells w) (listed label) m _ _ (listed-same m) pos k e i bl (v, l) h))

@@ -1,0 +1,140 @@
+-- A visit of a whole table, and what it answers: the number of orders in a range, their rows, the first that has a reserve. Assumes nothing.
+use mathlib.Core.Path.{_≡_, refl, sym, ap, _∙_, subst}
+use mathlib.Core.Bool.{Bool, true, false, _&&_, cond}
+use mathlib.Core.List.{List, [], _∷_, _++_}
+use Prim.Native.Nat.{ℕ, _+_, _*_, _≤_}
+use native.Mathlib.Omega.{arith}
+use lib.Dec.{ltb, leb}
+use lib.ListN.{length, drop, length-append}
+use lib.Seq.{sets-eq}
+use borrow.Author.Tests.{eq-eqb, ne-eqb, le-leb}
+use Rattle.placement.specs.Numbers.{rows, big}
+use Rattle.placement.specs.Sizes.{beta}
+use Rattle.placement.specs.Header.{header, sizes-in}
+use Rattle.placement.specs.Chunks.{node-bytes, nodes-bytes}
+use Rattle.placement.specs.Maps.{map-of, Table}
+use Rattle.placement.specs.declared.Sizes.{Sizes}
+use Rattle.placement.specs.declared.Order.{Order}
+use Rattle.placement.proofs.Laws.Sizes.{limits}
+use Rattle.placement.proofs.Laws.Tables.{shaped}
+use Rattle.skiplist.specs.Lists.{front, chunks}
+use Rattle.skiplist.specs.Image.{is-image, orders-in}
+use Rattle.skiplist.specs.Questions.{is-key, between}
+use Rattle.skiplist.proofs.Walk.{walk-all}
+use Rattle.skiplist.proofs.Kept.{fits-parts}
+use Rattle.skiplist.proofs.Image.{image-keeps}
+use Rattle.skiplist.proofs.Third.{image-parts}
+use Rattle.readings.specs.declared.Visit.{Visit}
+use Rattle.readings.specs.declared.calls.Sought.the-variants.{Is, Nothing}
+use Rattle.table.specs.Calls.{says}
+use Rattle.readings.specs.Visit.{Scan, scan, starting, steps, Known, under, first-enough}
+use Rattle.readings.proofs.Laws.Visits.{step-below}
+use Rattle.readings.proofs.Laws.Chunked.{orders-up}
+use Rattle.readings.proofs.Laws.Tallies.{answer-of, tally, sought}
+
+-- SMALL FUNCTIONS
+pub key-zero : (k : ℕ) → k ≡ 0 → false ≡ is-key k
+unfolding is-key
+key-zero k e = rw e
+
+pub key-some : (k : ℕ) → (k ≡ 0 → ⊥) → ltb k 2147483647 ≡ is-key k
+unfolding is-key
+key-some k n = rw (le-leb 1 k (omega arith))
+
+pub refusal-made : (n : ℕ) → says n 0 0 0 (record { number = n; key = 0; total = 0; displayed = 0 })
+unfolding says
+refusal-made n = (refl, refl, refl, refl)
+
+-- AN IMAGE
+pub known-image : (bs : List ℕ) → is-image bs ≡ true → Known (sizes-in bs) bs
+known-image bs e =
+    let w = image-parts bs e in
+    let s = sizes-in bs in
+    let os = orders-in bs in
+    let t : Table s (map-of (chunks s os)) (length (chunks s os)) (header s (length os)) bs =
+    subst (λ (z : List ℕ). Table s (map-of (chunks s os)) (length (chunks s os)) (header s (length os)) z) (w .bytes)
+    (image-keeps s os (w .sizes-made) (w .orders-kept .good) (w .orders-kept .fit)) in
+    record {
+      shaped = shaped s (map-of (chunks s os)) (length (chunks s os)) (header s (length os)) bs t;
+      sizes-made = w .sizes-made;
+      good = w .orders-kept .good;
+      fit = w .orders-kept .fit;
+      bytes = w .bytes;
+    }
+
+pub known-at : (bs : List ℕ) (s : Sizes) → is-image bs ≡ true → s ≡ sizes-in bs → Known s bs
+known-at bs s e h = subst (λ (z : Sizes). Known z bs) (sym h) (known-image bs e)
+
+pub known-long : (bs : List ℕ) → is-image bs ≡ true → 53 ≤ length bs
+known-long bs e = omega (arith, known-image bs e .shaped .long)
+
+pub known-sizes : (bs : List ℕ) (s : Sizes) → Known s bs → (s .gamma ≤ 64) × (s .orders ≤ 65535)
+known-sizes bs s k = let l = limits s (k .sizes-made) in (l .gamma-most, l .orders-most)
+
+-- from the front at the top all orders come by, and the front does nothing
+pub visit-whole : (bs : List ℕ) (s : Sizes) (l : ℕ) (v : Visit) (x : List ℕ) → Known s bs → l ≡ beta s → 1 ≤ v .lo → v .lo ≤ v .hi → (w : Visit) (z : List ℕ) →
+    scan w z ≡ steps (under s bs l (record { key = 0; total = 0; displayed = 0 })) (scan v x) → scan w z ≡ steps (orders-in bs) (scan v x)
+unfolding under steps front
+visit-whole bs s l v x k e p h w z q =
+    q
+    ∙ ap (λ (i : ℕ). steps (under s bs i front) (scan v x)) e
+    ∙ ap (λ (os : List Order). steps os (scan v x)) (walk-all s (orders-in bs) (orders-up s bs k))
+    ∙ ap (steps (orders-in bs)) (step-below front (scan v x) h (omega arith))
+
+-- COUNTING AND WRITING
+pub between-few : (lo hi : ℕ) (os : List Order) → length (between lo hi os) ≤ length os
+unfolding between
+between-few lo hi [] = omega arith
+between-few lo hi (o ∷ os) = go (between-few lo hi os) (leb lo (o .key) && leb (o .key) hi)
+  where
+    go : length (between lo hi os) ≤ length os → (t : Bool) → length (cond t (o ∷ between lo hi os) (between lo hi os)) ≤ length (o ∷ os)
+    go ih true = omega arith
+    go ih false = omega arith
+
+rows-long : (os : List Order) → length (nodes-bytes os) ≡ 12 * length os
+unfolding rows node-bytes big
+rows-long [] = refl
+rows-long (o ∷ os) = let e = rows-long os in simp length-append (omega arith)
+
+module _ (bs : List ℕ) (image : is-image bs ≡ true) (lo hi : ℕ) where
+  few : length (between lo hi (orders-in bs)) ≤ 65535
+  few =
+      let k = known-image bs image in
+      omega (arith, between-few lo hi (orders-in bs), fits-parts (sizes-in bs) (orders-in bs) (k .fit) .few, limits (sizes-in bs) (k .sizes-made) .orders-most)
+
+  -- counting
+  pub counted-all : (w : Visit) (x z : List ℕ) → scan w z ≡ steps (orders-in bs) (scan (starting lo hi 0 false false) x) →
+      (w .found ≡ length (between lo hi (orders-in bs))) × (z ≡ x)
+  counted-all w x z e =
+      let t = tally (orders-in bs) 1 (orders-up (sizes-in bs) bs (known-image bs image)) (starting lo hi 0 false false) x refl refl (omega (arith, few)) (λ q. absurd (omega (arith, no q))) in
+      (ap (λ (y : Scan). y .visit .found) e ∙ t .found ∙ omega arith, ap (λ (y : Scan). y .output) e ∙ t .output)
+    where
+      no : false ≡ true → _≡_ {A = ℕ} 0 1
+      no q = cc
+
+  -- writing, where there is room
+  pub written-all : (w : Visit) (x z : List ℕ) → 12 * length (between lo hi (orders-in bs)) ≤ length x → scan w z ≡ steps (orders-in bs) (scan (starting lo hi 0 true false) x) →
+      (w .found ≡ length (between lo hi (orders-in bs))) × (z ≡ nodes-bytes (between lo hi (orders-in bs)) ++ drop (12 * length (between lo hi (orders-in bs))) x)
+  written-all w x z room e =
+      let os = between lo hi (orders-in bs) in
+      let t = tally (orders-in bs) 1 (orders-up (sizes-in bs) bs (known-image bs image)) (starting lo hi 0 true false) x refl refl (omega (arith, few)) (λ q. omega arith) in
+      let l = rows-long (between lo hi (orders-in bs)) in
+      let n : 0 + length (nodes-bytes (between lo hi (orders-in bs))) ≡ 12 * length (between lo hi (orders-in bs)) = omega arith in (
+        ap (λ (y : Scan). y .visit .found) e ∙ t .found ∙ omega arith,
+        ap (λ (y : Scan). y .output) e ∙ t .output
+            ∙ sets-eq (nodes-bytes os) x 0 (omega arith)
+            ∙ ap (λ (i : ℕ). nodes-bytes os ++ drop i x) n,
+      )
+
+  -- seeking
+  module _ (least : ℕ) (w : Visit) (x z : List ℕ) (e : scan w z ≡ steps (orders-in bs) (scan (starting lo hi least false true) x)) where
+    answer : answer-of w ≡ first-enough least (between lo hi (orders-in bs))
+    answer =
+        ap (λ (y : Scan). answer-of (y .visit)) e
+        ∙ sought (orders-in bs) 1 (orders-up (sizes-in bs) bs (known-image bs image)) (starting lo hi least false true) x refl refl refl
+
+    pub sought-none : w .found ≡ 0 → Nothing ≡ first-enough least (between lo hi (orders-in bs))
+    sought-none f = sym (ap (λ (t : Bool). cond t Nothing (Is (record { key = w .key; total = w .total; displayed = w .displayed }))) (eq-eqb (w .found) 0 f)) ∙ answer
+
+    pub sought-some : (w .found ≡ 0 → ⊥) → Is (record { key = w .key; total = w .total; displayed = w .displayed }) ≡ first-enough least (between lo hi (orders-in bs))
+    sought-some f = sym (ap (λ (t : Bool). cond t Nothing (Is (record { key = w .key; total = w .total; displayed = w .displayed }))) (ne-eqb (w .found) 0 f)) ∙ answer

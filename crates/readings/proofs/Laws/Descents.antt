@@ -1,0 +1,203 @@
+-- The way down to one key: what stands at a place of a partition of level 1, and which order a key has. Assumes nothing.
+use mathlib.Core.Path.{_≡_, refl, sym, ap, _∙_, subst}
+use mathlib.Core.Bool.{true, false, cond, and-false}
+use mathlib.Core.List.{List, [], _∷_, _++_, map}
+use Prim.Native.Nat.{ℕ, zero, suc, _+_, _*_, _/_, _%_, _≤_, _<_}
+use native.Mathlib.Nat.{div-add-mod', mod-lt}
+use native.Mathlib.Omega.{arith}
+use borrow.Author.Tests.{ltb-true, eq-eqb, ne-eqb, le-leb, lt-leb}
+use lib.Dec.{ltb, leb, eqb}
+use lib.ListN.{length, getD, take, drop, length-take, take-append-drop}
+use lib.Seq.{drop-nil, drop-drop, drop-at, drop-append-le}
+use Rattle.placement.specs.Sizes.{beta, seed-good}
+use Rattle.placement.specs.Hash.{level}
+use Rattle.placement.specs.Header.{block-long}
+use Rattle.placement.specs.Decode.{nodes-from}
+use Rattle.placement.specs.Place.{Shaped, search-in}
+use Rattle.placement.specs.declared.Sizes.{Sizes}
+use Rattle.placement.specs.declared.Order.{Order}
+use Rattle.placement.specs.declared.Found.{Found}
+use Rattle.placement.specs.declared.Found.the-variants.{At, Nothing}
+use Rattle.placement.proofs.Laws.Sizes.{limits}
+use Rattle.skiplist.specs.Lists.{masked}
+use Rattle.skiplist.specs.Image.{image, orders-in, orders-good, fits}
+use Rattle.skiplist.specs.Questions.{between, reserve}
+use Rattle.skiplist.proofs.Parts.{Up, and-left, and-right, up-from, below, below-here, part}
+use Rattle.skiplist.proofs.Shapes.{Place, there, absent, place, held-absent, up-behind, part-none}
+use Rattle.skiplist.proofs.Descent.{tail-above}
+use Rattle.skiplist.proofs.Edits.{beta-least, level-least, head-part, tail-part, part-at, part-right, tail-same}
+use Rattle.table.specs.Walk.{node-of}
+use Rattle.levels.specs.declared.Spot.{Spot}
+use Rattle.levels.specs.Edit.{Scans, Bottoms}
+use Rattle.levels.proofs.Laws.Chunking.{drop-past}
+use Rattle.levels.proofs.Laws.Growing.{Way, seen}
+use Rattle.readings.specs.Visit.{Known, first-enough, with-key}
+use Rattle.readings.specs.declared.calls.Sought.{Sought}
+use Rattle.readings.specs.declared.calls.Sought.the-variants as sought
+use Rattle.readings.specs.declared.calls.Sought.the-variants.{Is}
+use Rattle.readings.proofs.Laws.Chunked.{nodes-split, orders-up, Read, piece, chunk-none, chunk-read}
+
+-- at level 1 a node is the order itself
+plain : (os : List Order) → map (masked 1) os ≡ os
+unfolding masked
+plain [] = refl
+plain (o ∷ os) = ap (λ (r : List Order). o ∷ r) (plain os)
+
+-- node j of those that stand in bytes
+node-here : (bs : List ℕ) (ns : List Order) (a j : ℕ) → j < length ns → nodes-from (length ns) (drop a bs) ≡ ns → drop j ns ≡ node-of bs (a + 12 * j) ∷ drop (suc j) ns
+node-here bs [] a j h e = absurd (omega arith)
+node-here bs (o ∷ ns) a zero h e =
+    let z : a + 12 * 0 ≡ a = omega arith in
+    rw z (cc (nodes-split bs a (length ns), e))
+node-here bs (o ∷ ns) a (suc j) h e =
+    let z : a + 12 * suc j ≡ a + 12 + 12 * j = omega arith in
+    rw z (node-here bs ns (a + 12) j (omega arith) (cc (nodes-split bs a (length ns), e)))
+
+module _ (s : Sizes) (bs : List ℕ) (w : Known s bs) (some : 0 < s .nodes) (f m k : ℕ) where
+  -- the partition of level 1 that f heads, from place m on
+  abbrev left : List Order
+  left = drop m (part s (orders-in bs) 1 f)
+
+  abbrev number : ℕ
+  number = m / s .nodes
+
+  abbrev chunk-on : List Order
+  chunk-on = drop (number * s .nodes) (part s (orders-in bs) 1 f)
+
+  cut : drop (m % s .nodes) chunk-on ≡ left
+  cut = drop-drop (m % s .nodes) (number * s .nodes) (part s (orders-in bs) 1 f) ∙ ap (λ (z : ℕ). drop z (part s (orders-in bs) 1 f)) (div-add-mod' m (s .nodes))
+
+  high : 1 ≤ beta s
+  high = omega (arith, beta-least s)
+
+  empty-left : left ≡ [] → sought.Nothing ≡ with-key k left
+  unfolding with-key
+  empty-left e = ap (with-key k) (sym e)
+
+  module _ (r : Found) (e : r ≡ search-in s bs (record { level = 1; first = f; number = number })) where
+    pub there-none : r ≡ Nothing → sought.Nothing ≡ with-key k left
+    there-none n = empty-left (sym cut ∙ ap (drop (m % s .nodes)) (chunk-none s bs w 1 f number (omega arith) high r e n) ∙ drop-nil (m % s .nodes))
+
+    module _ (b : ℕ) (q : r ≡ At b) (c : ℕ) (ec : c ≡ getD bs (53 + b * block-long s + 1) 0) where
+      got : Read s bs 1 b (piece s bs 1 f number)
+      got = chunk-read s bs w 1 f number (omega arith) high r e b q
+
+      count-is : c ≡ length (take (s .nodes) chunk-on)
+      count-is = ec ∙ got .count
+
+      pub there-short : c ≤ m % s .nodes → sought.Nothing ≡ with-key k left
+      there-short h =
+          empty-left (sym cut ∙ drop-past (m % s .nodes) chunk-on (omega (arith, h, mod-lt m some, simp length-take at count-is)))
+
+      there-is : m % s .nodes < c → (a : ℕ) → a ≡ 53 + b * block-long s → (o : Order) → o ≡ node-of bs (a + (8 + 12 * (m % s .nodes))) → with-key k left ≡ cond (eqb (o .key) k) (Is o) sought.Nothing
+      unfolding with-key
+      there-is h a ea o eo =
+          ap (with-key k)
+          (sym cut ∙ ap (drop (m % s .nodes)) (sym (take-append-drop (s .nodes) chunk-on))
+          ∙ drop-append-le (m % s .nodes) (take (s .nodes) chunk-on) (drop (s .nodes) chunk-on) (omega (arith, h, count-is))
+          ∙ ap (λ (z : List Order). z ++ drop (s .nodes) chunk-on) (here ∙ ap (λ (z : Order). z ∷ drop (suc (m % s .nodes)) (take (s .nodes) chunk-on)) (sym eo)))
+        where
+          at-is : 53 + b * block-long s + 8 + 12 * (m % s .nodes) ≡ a + (8 + 12 * (m % s .nodes))
+          at-is = omega (arith, ea)
+
+          here : drop (m % s .nodes) (take (s .nodes) chunk-on) ≡ node-of bs (a + (8 + 12 * (m % s .nodes))) ∷ drop (suc (m % s .nodes)) (take (s .nodes) chunk-on)
+          here =
+              rw at-is at
+              (node-here bs (take (s .nodes) chunk-on) (53 + b * block-long s + 8) (m % s .nodes) (omega (arith, h, count-is)) (got .nodes ∙ plain (take (s .nodes) chunk-on)))
+
+      pub there-other : m % s .nodes < c → (a : ℕ) → a ≡ 53 + b * block-long s → (o : Order) → o ≡ node-of bs (a + (8 + 12 * (m % s .nodes))) → (o .key ≡ k → ⊥) → sought.Nothing ≡ with-key k left
+      there-other h a ea o eo n = sym (there-is h a ea o eo ∙ rw (ne-eqb (o .key) k n))
+
+      pub there-found : m % s .nodes < c → (a : ℕ) → a ≡ 53 + b * block-long s → (o : Order) → o ≡ node-of bs (a + (8 + 12 * (m % s .nodes))) → o .key ≡ k → Is o ≡ with-key k left
+      there-found h a ea o eo z = sym (there-is h a ea o eo ∙ rw (eq-eqb (o .key) k z))
+
+-- what the functions ask of the sizes of an image
+pub known-level : (bs : List ℕ) (s : Sizes) → Known s bs → (seed-good (s .seed) ≡ true) × (0 < s .gamma)
+known-level bs s w = let l = limits s (w .sizes-made) in (l .seeds, omega (arith, l .gamma-least))
+
+pub known-nodes : (bs : List ℕ) (s : Sizes) → Known s bs → 0 < s .nodes
+known-nodes bs s w = limits s (w .sizes-made) .nodes-some
+
+pub node-room : (bs : List ℕ) (s : Sizes) → Shaped s bs → (m : ℕ) → 0 < s .nodes → (a : ℕ) → a + block-long s ≤ 53 + s .blocks * block-long s → a + (8 + 12 * (m % s .nodes)) + 12 ≤ length bs
+unfolding block-long
+node-room bs s h m some a q = omega (arith, q, h .long, h .width, mod-lt m some)
+
+-- THE ORDER OF A KEY
+between-absent : (k : ℕ) (xs zs : List Order) → below k xs ≡ true → Up (suc k) zs → between k k (xs ++ zs) ≡ []
+unfolding between below
+between-absent k [] [] e u = refl
+between-absent k [] (z ∷ zs) e u = rw (lt-leb (z .key) k (u .0), and-false) (between-absent k [] zs refl (up-from zs (omega (arith, u .0)) (u .1)))
+between-absent k (x ∷ xs) zs e u =
+    rw (lt-leb k (x .key) (ltb-true (x .key) k (and-left (ltb (x .key) k) (below k xs) e))) (between-absent k xs zs (and-right (ltb (x .key) k) (below k xs) e) u)
+
+between-there : (xs : List Order) (y : Order) (zs : List Order) → below (y .key) xs ≡ true → Up (suc (y .key)) zs → between (y .key) (y .key) (xs ++ y ∷ zs) ≡ y ∷ []
+unfolding between below
+between-there [] y zs e u = rw (le-leb (y .key) (y .key) (omega arith), between-absent (y .key) [] zs refl u)
+between-there (x ∷ xs) y zs e u =
+    rw (lt-leb (y .key) (x .key) (ltb-true (x .key) (y .key) (and-left (ltb (x .key) (y .key)) (below (y .key) xs) e))) (between-there xs y zs (and-right (ltb (x .key) (y .key)) (below (y .key) xs) e) u)
+
+first-one : (y : Order) → first-enough 0 (y ∷ []) ≡ Is y
+unfolding first-enough
+first-one y = rw (le-leb 0 (reserve y) (omega arith))
+
+first-nothing : first-enough 0 [] ≡ sought.Nothing
+unfolding first-enough
+first-nothing = refl
+
+-- what stands first behind the way to a key
+with-there : (y : Order) (qs : List Order) → with-key (y .key) (y ∷ qs) ≡ Is y
+unfolding with-key
+with-there y qs = rw (eq-eqb (y .key) (y .key) refl)
+
+with-absent : (k : ℕ) (qs : List Order) → Up (suc k) qs → with-key k qs ≡ sought.Nothing
+unfolding with-key
+with-absent k [] u = refl
+with-absent k (q ∷ qs) u = rw (ne-eqb (q .key) k (omega (arith, u .0)))
+
+module _ (s : Sizes) (bs : List ℕ) (w : Known s bs) (k : ℕ) (pos : 1 ≤ k) where
+  -- a key of a higher level heads its partition
+  pub order-high : (l : ℕ) → l ≡ level s k → 1 < l → (r : Sought) → r ≡ with-key k (drop 0 (part s (orders-in bs) 1 k)) → r ≡ first-enough 0 (between k k (orders-in bs))
+  order-high l el h r e = e ∙ go (orders-in bs) (orders-up s bs w) (place k 1 (orders-in bs) (orders-up s bs w))
+    where
+      go : (os : List Order) → Up 1 os → Place k os → with-key k (part s os 1 k) ≡ first-enough 0 (between k k os)
+      go os u (there xs y zs q z) =
+          let up : 1 < level s (y .key) = omega (arith, h, el, ap (level s) z) in
+          rw (q, ← z)
+          (ap (with-key (y .key)) (part-right s 1 xs y zs (rw q at u) up) ∙ with-there y (tail-part s 1 zs)
+          ∙ sym (ap (first-enough 0) (between-there xs y zs (below-here xs y zs 1 (rw q at u)) (up-behind xs y zs 1 (rw q at u))) ∙ first-one y))
+      go os u (absent xs zs q b v) =
+          rw q
+          (ap (with-key k) (part-none s (xs ++ zs) 1 k (rw q at u) (omega arith) (held-absent k xs zs b v)) ∙ with-absent k [] tt
+          ∙ sym (ap (first-enough 0) (between-absent k xs zs b v) ∙ first-nothing))
+
+  -- .. and one of level 1 stands behind the nodes below it
+  pub order-low : (l : ℕ) → l ≡ level s k → l ≤ 1 → (top f : ℕ) → top ≡ beta s → Bottoms s bs top k f → (x : Spot) → Scans s bs 1 f k x →
+      (r : Sought) → r ≡ with-key k (drop (x .below) (part s (orders-in bs) 1 f)) → r ≡ first-enough 0 (between k k (orders-in bs))
+  unfolding Bottoms
+  order-low l el h top f te bo x sc r e = e ∙ go (place k 1 (orders-in bs) (orders-up s bs w))
+    where
+      -- the nodes behind the way
+      behind : (xs zs : List Order) → orders-in bs ≡ xs ++ zs → below k xs ≡ true → Up k zs → drop (x .below) (part s (orders-in bs) 1 f) ≡ tail-part s 1 zs
+      behind xs zs q b u =
+          let u1 : Up 1 (xs ++ zs) = rw q at (orders-up s bs w) in
+          let good : orders-good 1 (xs ++ zs) ≡ true = rw q at (w .good) in
+          let fit : fits s (xs ++ zs) ≡ true = rw q at (w .fit) in
+          let is : bs ≡ image s (xs ++ zs) = sym (rw q at (w .bytes)) in
+          let fe = bo xs zs (w .sizes-made) good fit is b u (omega arith) te in
+          let way : Way s bs k xs zs = record { good = w .sizes-made; orders = good; fit = fit; is = is; low = b; high = u; pos = omega arith } in
+          let z = seen s bs k xs zs way 1 (omega arith) (omega (arith, beta-least s)) f fe x sc in
+          ap (λ (j : ℕ). drop j (part s (orders-in bs) 1 f)) (ap (λ (y : Spot). y .below) z)
+          ∙ ap (drop (length (head-part s 1 xs))) (rw (q, fe) (part-at s 1 xs zs u1))
+          ∙ drop-at (head-part s 1 xs) (tail-part s 1 zs) (length (head-part s 1 xs)) refl
+
+      go : Place k (orders-in bs) → with-key k (drop (x .below) (part s (orders-in bs) 1 f)) ≡ first-enough 0 (between k k (orders-in bs))
+      go (there xs y zs q z) =
+          let u = rw q at (orders-up s bs w) in
+          let b = below-here xs y zs 1 u in
+          let v = up-behind xs y zs 1 u in
+          let low : level s (y .key) ≡ 1 = omega (arith, h, el, level-least s (y .key), ap (level s) z) in
+          ap (with-key k) (behind xs (y ∷ zs) q (rw z at b) (omega (arith, z), v) ∙ tail-same s 1 y zs (omega (arith, z)) low)
+          ∙ rw (← z) (with-there y (tail-part s 1 zs) ∙ sym (ap (first-enough 0) (ap (between (y .key) (y .key)) q ∙ between-there xs y zs b v) ∙ first-one y))
+      go (absent xs zs q b v) =
+          ap (with-key k) (behind xs zs q b (up-from zs (omega arith) v)) ∙ with-absent k (tail-part s 1 zs) (tail-above s 1 (suc k) zs v)
+          ∙ sym (ap (first-enough 0) (ap (between k k) q ∙ between-absent k xs zs b v) ∙ first-nothing)

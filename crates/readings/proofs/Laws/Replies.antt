@@ -1,0 +1,323 @@
+-- The answers of lookup, span and seek: each question in its order, and what is said where none turns the call down. Assumes nothing.
+use mathlib.Core.Path.{_≡_, refl, sym, ap, _∙_, subst}
+use mathlib.Core.Bool.{Bool, true, false, _&&_, _||_, cond, true≢false}
+use mathlib.Core.List.{List, [], _∷_, _++_}
+use Prim.Native.Nat.{ℕ, zero, suc, _*_, _≤_, _<_}
+use native.Mathlib.Omega.{arith}
+use lib.Dec.{ltb, leb, eqb}
+use lib.ListN.{length}
+use borrow.Author.Tests.{leb-true, eqb-true, eq-eqb, ne-eqb, le-leb, lt-leb}
+use Rattle.placement.specs.Sizes.{prime}
+use Rattle.placement.specs.Header.{sizes-in}
+use Rattle.placement.specs.declared.Order.{Order}
+use Rattle.skiplist.specs.Image.{is-image, orders-in}
+use Rattle.skiplist.specs.Questions.{Question, ask, first-no, is-key, held, between, reserve, any-reserve, asks-image, asks-key, asks-range, asks-span, asks-seek}
+use Rattle.skiplist.proofs.Parts.{Up, and-left, up-past}
+use Rattle.skiplist.proofs.Shapes.{held-there}
+use Rattle.skiplist.proofs.Opens.{Spot}
+use Rattle.readings.specs.declared.Visit.{Visit}
+use Rattle.table.specs.declared.Reply.{Reply}
+use Rattle.readings.specs.declared.calls.Sought.{Sought}
+use Rattle.readings.specs.declared.calls.Sought.the-variants.{Is, Nothing}
+use Rattle.table.specs.Calls.{says, check-number, total-of, displayed-of, Look-as, Look-says, Span-as, Span-says, Seek-as, Seek-says}
+use Rattle.readings.specs.Visit.{scan, starting, steps, first-enough}
+use Rattle.readings.proofs.Laws.Rows.{nothing}
+use Rattle.readings.proofs.Laws.Chunked.{orders-up}
+use Rattle.readings.proofs.Laws.Answers.{known-image, counted-all, written-all}
+
+-- QUESTION 4
+check-is : (bs : List ℕ) (t : Bool) → is-image bs ≡ t → check-number bs ≡ cond t 0 4
+unfolding check-number first-no asks-image
+check-is bs t e = rw e
+
+pub checked-yes : (bs : List ℕ) (n : ℕ) → n ≡ check-number bs → n ≡ 0 → is-image bs ≡ true
+checked-yes bs n e z = go (is-image bs) refl
+  where
+    go : (t : Bool) → is-image bs ≡ t → t ≡ true
+    go true q = refl
+    go false q = absurd (omega (arith, check-is bs false q))
+
+pub checked-no : (bs : List ℕ) (n : ℕ) → n ≡ check-number bs → (n ≡ 0 → ⊥) → is-image bs ≡ false
+checked-no bs n e z = go (is-image bs) refl
+  where
+    go : (t : Bool) → is-image bs ≡ t → t ≡ false
+    go true q = absurd (z (e ∙ check-is bs true q))
+    go false q = refl
+
+pub key-least : (k : ℕ) (b : Bool) → b ≡ is-key k → b ≡ true → 1 ≤ k
+unfolding is-key
+key-least k b e t = leb-true 1 k (and-left (leb 1 k) (ltb k prime) (sym e ∙ t))
+
+-- THE FIRST ORDER WITH A RESERVE
+pub record First (l : ℕ) (ys : List Order) (o : Order) : Type 0 where
+  pub spot : Spot o ys
+  pub enough : l ≤ reserve o
+  pub any : any-reserve l ys ≡ true
+
+pub first-is : (l : ℕ) (ys : List Order) (o : Order) → Is o ≡ first-enough l ys → First l ys o
+unfolding first-enough any-reserve
+first-is l [] o e = absurd (true≢false (cc))
+first-is l (y ∷ ys) o e = go (first-is l ys o) (leb l (reserve y)) refl e
+  where
+    go : (Is o ≡ first-enough l ys → First l ys o) → (t : Bool) → leb l (reserve y) ≡ t → Is o ≡ cond t (Is y) (first-enough l ys) → First l (y ∷ ys) o
+    go ih true q e =
+        let w : y ≡ o = cc in
+        record { spot = record { before = []; behind = ys; is = ap (λ (z : Order). z ∷ ys) w }; enough = subst (λ (z : Order). l ≤ reserve z) w (leb-true l (reserve y) q); any = rw q }
+    go ih false q e =
+        let f = ih e in
+        record { spot = record { before = y ∷ f .spot .before; behind = f .spot .behind; is = ap (λ (z : List Order). y ∷ z) (f .spot .is) }; enough = f .enough; any = rw q (f .any) }
+
+pub first-none : (l : ℕ) (ys : List Order) → Nothing ≡ first-enough l ys → any-reserve l ys ≡ false
+unfolding first-enough any-reserve
+first-none l [] e = refl
+first-none l (y ∷ ys) e = go (first-none l ys) (leb l (reserve y)) e
+  where
+    go : (Nothing ≡ first-enough l ys → any-reserve l ys ≡ false) → (t : Bool) → Nothing ≡ cond t (Is y) (first-enough l ys) → (t || any-reserve l ys) ≡ false
+    go ih true e = cc
+    go ih false e = ih e
+
+pub first-empty : (ys : List Order) → Nothing ≡ first-enough 0 ys → ys ≡ []
+unfolding first-enough
+first-empty [] e = refl
+first-empty (y ∷ ys) e = absurd (true≢false (go (leb 0 (reserve y)) (le-leb 0 (reserve y) (omega arith)) e))
+  where
+    go : (t : Bool) → t ≡ true → Nothing ≡ cond t (Is y) (first-enough 0 ys) → true ≡ false
+    go true q e = cc
+    go false q e = sym q
+
+-- AN ORDER IN A RANGE
+pub record Inside (lo hi : ℕ) (o : Order) (os : List Order) : Type 0 where
+  pub spot : Spot o os
+  pub low : lo ≤ o .key
+  pub high : o .key ≤ hi
+
+inside-more : (lo hi : ℕ) (o q : Order) (os : List Order) → Inside lo hi o os → Inside lo hi o (q ∷ os)
+inside-more lo hi o q os w =
+    record { spot = record { before = q ∷ w .spot .before; behind = w .spot .behind; is = ap (λ (z : List Order). q ∷ z) (w .spot .is) }; low = w .low; high = w .high }
+
+between-inside : (lo hi : ℕ) (o : Order) (B os A : List Order) → between lo hi os ≡ A ++ o ∷ B → Inside lo hi o os
+unfolding between
+between-inside lo hi o B [] A e = absurd (nothing A o B e)
+between-inside lo hi o B (q ∷ os) A e = go (between-inside lo hi o B os) (leb lo (q .key)) refl (leb (q .key) hi) refl A e
+  where
+    go : ((A : List Order) → between lo hi os ≡ A ++ o ∷ B → Inside lo hi o os) → (a : Bool) → leb lo (q .key) ≡ a → (b : Bool) → leb (q .key) hi ≡ b →
+        (A : List Order) → cond (a && b) (q ∷ between lo hi os) (between lo hi os) ≡ A ++ o ∷ B → Inside lo hi o (q ∷ os)
+    go ih true x true y [] e =
+        let w : q ≡ o = cc in
+        subst (λ (z : Order). Inside lo hi z (q ∷ os)) w (record { spot = record { before = []; behind = os; is = refl }; low = leb-true lo (q .key) x; high = leb-true (q .key) hi y })
+    go ih true x true y (z ∷ A) e = inside-more lo hi o q os (ih A (cc))
+    go ih true x false y A e = inside-more lo hi o q os (ih A e)
+    go ih false x b y A e = inside-more lo hi o q os (ih A e)
+
+pub spot-inside : (lo hi : ℕ) (o : Order) (os : List Order) → Spot o (between lo hi os) → Inside lo hi o os
+spot-inside lo hi o os w = between-inside lo hi o (w .behind) os (w .before) (w .is)
+
+own-total : (xs : List Order) (y : Order) (zs : List Order) (a : ℕ) → Up a (xs ++ y ∷ zs) → total-of (y .key) (xs ++ y ∷ zs) ≡ y .total
+unfolding total-of
+own-total [] y zs a u = rw (eq-eqb (y .key) (y .key) refl)
+own-total (x ∷ xs) y zs a u = rw (ne-eqb (x .key) (y .key) (omega (arith, up-past xs y zs _ (u .1)))) (own-total xs y zs _ (u .1))
+
+own-displayed : (xs : List Order) (y : Order) (zs : List Order) (a : ℕ) → Up a (xs ++ y ∷ zs) → displayed-of (y .key) (xs ++ y ∷ zs) ≡ y .displayed
+unfolding displayed-of
+own-displayed [] y zs a u = rw (eq-eqb (y .key) (y .key) refl)
+own-displayed (x ∷ xs) y zs a u = rw (ne-eqb (x .key) (y .key) (omega (arith, up-past xs y zs _ (u .1)))) (own-displayed xs y zs _ (u .1))
+
+module _ (os : List Order) (a : ℕ) (u : Up a os) (o : Order) (w : Spot o os) where
+  pub spot-total : o .total ≡ total-of (o .key) os
+  spot-total = sym (ap (total-of (o .key)) (w .is) ∙ own-total (w .before) o (w .behind) a (subst (Up a) (w .is) u))
+
+  pub spot-displayed : o .displayed ≡ displayed-of (o .key) os
+  spot-displayed = sym (ap (displayed-of (o .key)) (w .is) ∙ own-displayed (w .before) o (w .behind) a (subst (Up a) (w .is) u))
+
+pub spot-held : (o : Order) (os : List Order) → Spot o os → held (o .key) os ≡ true
+spot-held o os w = ap (held (o .key)) (w .is) ∙ held-there (w .before) o (w .behind)
+
+pub none-held : (k : ℕ) (os : List Order) → between k k os ≡ [] → held k os ≡ false
+unfolding between held
+none-held k [] e = refl
+none-held k (o ∷ os) e = go (none-held k os) (eqb (o .key) k) refl
+  where
+    go : (between k k os ≡ [] → held k os ≡ false) → (t : Bool) → eqb (o .key) k ≡ t → (t || held k os) ≡ false
+    go ih true q =
+        let z = eqb-true (o .key) k q in
+        let f : (leb k (o .key) && leb (o .key) k) ≡ true = rw (le-leb k (o .key) (omega arith), le-leb (o .key) k (omega arith)) in
+        absurd (omega (arith, ap length (rw f at e)))
+    go ih false q = ih (skip (leb k (o .key) && leb (o .key) k) e)
+      where
+        skip : (t : Bool) → cond t (o ∷ between k k os) (between k k os) ≡ [] → between k k os ≡ []
+        skip true f = absurd (omega (arith, ap length f))
+        skip false f = f
+
+-- LOOKUP
+module _ (bs : List ℕ) (k : ℕ) (r : Reply) where
+  look-number : (a b c : Bool) → is-image bs ≡ a → is-key k ≡ b → held k (orders-in bs) ≡ c →
+      first-no (asks-image bs ++ asks-key k (orders-in bs)) ≡ cond a (cond b (cond c 0 9) 5) 4
+  unfolding first-no asks-image asks-key
+  look-number a b c ea eb ec = rw (ea, eb, ec)
+
+  look-by : (n : ℕ) → first-no (asks-image bs ++ asks-key k (orders-in bs)) ≡ n → Look-as n k (orders-in bs) r → Look-says bs k r
+  unfolding Look-says
+  look-by n e h = subst (λ (i : ℕ). Look-as i k (orders-in bs) r) (sym e) h
+
+  pub look-4 : is-image bs ≡ false → says 4 0 0 0 r → Look-says bs k r
+  unfolding Look-as
+  look-4 e h = look-by 4 (look-number false _ _ e refl refl) h
+
+  module _ (image : is-image bs ≡ true) (b : Bool) (eb : b ≡ is-key k) where
+    pub look-5 : b ≡ false → says 5 0 0 0 r → Look-says bs k r
+    unfolding Look-as
+    look-5 e h = look-by 5 (look-number true false _ image (sym eb ∙ e) refl) h
+
+    module _ (e : b ≡ true) (q : Sought) (eq : q ≡ first-enough 0 (between k k (orders-in bs))) where
+      pub look-9 : q ≡ Nothing → says 9 0 0 0 r → Look-says bs k r
+      unfolding Look-as
+      look-9 z h = look-by 9 (look-number true true false image (sym eb ∙ e) (none-held k (orders-in bs) (first-empty (between k k (orders-in bs)) (sym z ∙ eq)))) h
+
+      pub look-found : (o : Order) → q ≡ Is o → r ≡ record { number = 0; key = o .key; total = o .total; displayed = o .displayed } → Look-says bs k r
+      unfolding Look-as says
+      look-found o z h =
+          let f = first-is 0 (between k k (orders-in bs)) o (sym z ∙ eq) in
+          let w = spot-inside k k o (orders-in bs) (f .spot) in
+          let s : o .key ≡ k = omega (arith, w .low, w .high) in
+          let u = orders-up (sizes-in bs) bs (known-image bs image) in
+          look-by 0 (look-number true true true image (sym eb ∙ e) (ap (λ (i : ℕ). held i (orders-in bs)) (sym s) ∙ spot-held o (orders-in bs) (w .spot))) (
+            ap (λ (x : Reply). x .number) h,
+            ap (λ (x : Reply). x .key) h ∙ s,
+            ap (λ (x : Reply). x .total) h ∙ spot-total (orders-in bs) 1 u o (w .spot) ∙ ap (λ (i : ℕ). total-of i (orders-in bs)) s,
+            ap (λ (x : Reply). x .displayed) h ∙ spot-displayed (orders-in bs) 1 u o (w .spot) ∙ ap (λ (i : ℕ). displayed-of i (orders-in bs)) s,
+          )
+
+-- THE QUESTIONS OF A RANGE, which span and seek share
+module _ (bs : List ℕ) (lo hi : ℕ) where
+  range-number : (a b c d : Bool) → is-image bs ≡ a → is-key lo ≡ b → is-key hi ≡ c → leb lo hi ≡ d →
+      first-no (asks-image bs ++ asks-range lo hi) ≡ cond a (cond (b && c) (cond d 0 10) 5) 4
+  unfolding first-no asks-image asks-range
+  range-number a b c d ea eb ec ed = rw (ea, eb, ec, ed)
+
+  pub range-4 : is-image bs ≡ false → 4 ≡ first-no (asks-image bs ++ asks-range lo hi)
+  range-4 e = sym (range-number false _ _ _ e refl refl refl)
+
+  module _ (image : is-image bs ≡ true) (b : Bool) (eb : b ≡ is-key lo) where
+    pub range-low : b ≡ false → 5 ≡ first-no (asks-image bs ++ asks-range lo hi)
+    range-low e = sym (range-number true false _ _ image (sym eb ∙ e) refl refl)
+
+    module _ (e : b ≡ true) (c : Bool) (ec : c ≡ is-key hi) where
+      pub range-high : c ≡ false → 5 ≡ first-no (asks-image bs ++ asks-range lo hi)
+      range-high f = sym (range-number true true false _ image (sym eb ∙ e) (sym ec ∙ f) refl)
+
+      pub range-10 : c ≡ true → hi < lo → 10 ≡ first-no (asks-image bs ++ asks-range lo hi)
+      range-10 f l = sym (range-number true true true false image (sym eb ∙ e) (sym ec ∙ f) (lt-leb lo hi l))
+
+      pub range-good : c ≡ true → lo ≤ hi → 0 ≡ first-no (asks-image bs ++ asks-range lo hi)
+      range-good f l = sym (range-number true true true true image (sym eb ∙ e) (sym ec ∙ f) (le-leb lo hi l))
+
+  -- a range that no question turns down
+  pub record In-range : Type 0 where
+    pub image : is-image bs ≡ true
+    pub low : is-key lo ≡ true
+    pub high : is-key hi ≡ true
+    pub rising : lo ≤ hi
+
+  module _ (n : ℕ) (en : n ≡ first-no (asks-image bs ++ asks-range lo hi)) where
+    pub in-range : n ≡ 0 → In-range
+    in-range z = go (is-image bs) refl (is-key lo) refl (is-key hi) refl (leb lo hi) refl
+      where
+        go : (a : Bool) → is-image bs ≡ a → (b : Bool) → is-key lo ≡ b → (c : Bool) → is-key hi ≡ c → (d : Bool) → leb lo hi ≡ d → In-range
+        go true ea true eb true ec true ed = record { image = ea; low = eb; high = ec; rising = leb-true lo hi ed }
+        go true ea true eb true ec false ed = absurd (omega (arith, range-number true true true false ea eb ec ed))
+        go true ea true eb false ec d ed = absurd (omega (arith, range-number true true false d ea eb ec ed))
+        go true ea false eb c ec d ed = absurd (omega (arith, range-number true false c d ea eb ec ed))
+        go false ea b eb c ec d ed = absurd (omega (arith, range-number false b c d ea eb ec ed))
+
+    pub range-asked : n ≡ 0 → (is-image bs ≡ true) × (1 ≤ lo) × (lo ≤ hi)
+    range-asked z = let w = in-range z in (w .image, key-least lo true (sym (w .low)) refl, w .rising)
+
+-- the first question that turns a call down is the first of more questions too
+turned-down : (qs rs : List Question) → (first-no qs ≡ 0 → ⊥) → first-no (qs ++ rs) ≡ first-no qs
+unfolding first-no
+turned-down [] rs h = absurd (h refl)
+turned-down (ask n t ∷ qs) rs h = go (turned-down qs rs) t h
+  where
+    go : ((first-no qs ≡ 0 → ⊥) → first-no (qs ++ rs) ≡ first-no qs) → (t : Bool) → (cond t (first-no qs) n ≡ 0 → ⊥) → cond t (first-no (qs ++ rs)) n ≡ cond t (first-no qs) n
+    go ih true h = ih h
+    go ih false h = refl
+
+-- SEEK
+module _ (bs : List ℕ) (lo hi least : ℕ) (r : Reply) (n : ℕ) (en : n ≡ first-no (asks-image bs ++ asks-range lo hi)) where
+  seek-by : (i : ℕ) → first-no (asks-image bs ++ asks-seek lo hi least (orders-in bs)) ≡ i → Seek-as i (orders-in bs) lo hi least r → Seek-says bs lo hi least r
+  unfolding Seek-says
+  seek-by i e h = subst (λ (j : ℕ). Seek-as j (orders-in bs) lo hi least r) (sym e) h
+
+  refused-seek : (i : ℕ) → (i ≡ 0 → ⊥) → says i 0 0 0 r → Seek-as i (orders-in bs) lo hi least r
+  unfolding Seek-as
+  refused-seek zero z h = absurd (z refl)
+  refused-seek (suc i) z h = h
+
+  pub seek-turned : (n ≡ 0 → ⊥) → says n 0 0 0 r → Seek-says bs lo hi least r
+  unfolding asks-image asks-seek
+  seek-turned z h =
+      seek-by n (turned-down (asks-image bs ++ asks-range lo hi) (ask 12 (any-reserve least (between lo hi (orders-in bs))) ∷ []) (λ q. z (en ∙ q)) ∙ sym en) (refused-seek n z h)
+
+  module _ (z : n ≡ 0) (q : Sought) (eq : q ≡ first-enough least (between lo hi (orders-in bs))) where
+    seek-number : (f : Bool) → any-reserve least (between lo hi (orders-in bs)) ≡ f → first-no (asks-image bs ++ asks-seek lo hi least (orders-in bs)) ≡ cond f 0 12
+    unfolding first-no asks-image asks-seek asks-range
+    seek-number f ef = let w = in-range bs lo hi n en z in rw (w .image, w .low, w .high, le-leb lo hi (w .rising), ef)
+
+    pub seek-12 : q ≡ Nothing → says 12 0 0 0 r → Seek-says bs lo hi least r
+    seek-12 e h = seek-by 12 (seek-number false (first-none least (between lo hi (orders-in bs)) (sym e ∙ eq))) (refused-seek 12 (omega arith) h)
+
+    pub seek-found : (o : Order) → q ≡ Is o → r ≡ record { number = 0; key = o .key; total = o .total; displayed = o .displayed } → Seek-says bs lo hi least r
+    unfolding Seek-as
+    seek-found o e h =
+        let g = first-is least (between lo hi (orders-in bs)) o (sym e ∙ eq) in
+        let w = spot-inside lo hi o (orders-in bs) (g .spot) in
+        let u = orders-up (sizes-in bs) bs (known-image bs (in-range bs lo hi n en z .image)) in
+        seek-by 0 (seek-number true (g .any))
+        (subst (λ (x : Reply). Seek-as 0 (orders-in bs) lo hi least x) (sym h) (record {
+          number = refl;
+          held-there = spot-held o (between lo hi (orders-in bs)) (g .spot);
+          own-total = spot-total (orders-in bs) 1 u o (w .spot);
+          own-displayed = spot-displayed (orders-in bs) 1 u o (w .spot);
+          enough = g .enough;
+        }))
+
+-- SPAN
+module _ (bs : List ℕ) (lo hi : ℕ) (r : Reply) (x : List ℕ) (n : ℕ) (en : n ≡ first-no (asks-image bs ++ asks-range lo hi)) where
+  span-by : (z : List ℕ) (i : ℕ) → first-no (asks-image bs ++ asks-span lo hi (length x) (orders-in bs)) ≡ i → Span-as i (between lo hi (orders-in bs)) r x z → Span-says bs lo hi r x z
+  unfolding Span-says
+  span-by z i e h = subst (λ (j : ℕ). Span-as j (between lo hi (orders-in bs)) r x z) (sym e) h
+
+  refused-span : (i : ℕ) → (i ≡ 0 → ⊥) → says i 0 0 0 r → (z : List ℕ) → z ≡ x → Span-as i (between lo hi (orders-in bs)) r x z
+  unfolding Span-as
+  refused-span zero p h z e = absurd (p refl)
+  refused-span (suc i) p h z e = (h, e)
+
+  pub span-turned : (n ≡ 0 → ⊥) → says n 0 0 0 r → Span-says bs lo hi r x x
+  unfolding asks-image asks-span
+  span-turned p h =
+      span-by x n (turned-down (asks-image bs ++ asks-range lo hi) (ask 11 (leb (12 * length (between lo hi (orders-in bs))) (length x)) ∷ []) (λ q. p (en ∙ q)) ∙ sym en) (refused-span n p h x refl)
+
+  -- it counts, and then writes into the output that it has left as it was
+  module _ (p : n ≡ 0) (v : Visit) (y : List ℕ) (ev : scan v y ≡ steps (orders-in bs) (scan (starting lo hi 0 false false) x)) where
+    span-number : (f : Bool) → leb (12 * length (between lo hi (orders-in bs))) (length x) ≡ f → first-no (asks-image bs ++ asks-span lo hi (length x) (orders-in bs)) ≡ cond f 0 11
+    unfolding first-no asks-image asks-span asks-range
+    span-number f ef = let w = in-range bs lo hi n en p in rw (w .image, w .low, w .high, le-leb lo hi (w .rising), ef)
+
+    many : (v .found ≡ length (between lo hi (orders-in bs))) × (y ≡ x)
+    many = counted-all bs (in-range bs lo hi n en p .image) lo hi v x y ev
+
+    pub span-11 : length y < 12 * v .found → says 11 0 0 0 r → Span-says bs lo hi r x y
+    span-11 h g =
+        let short : length x < 12 * length (between lo hi (orders-in bs)) = omega (arith, many .0, ap length (many .1)) in
+        span-by y 11 (span-number false (lt-leb _ _ short)) (refused-span 11 (omega arith) g y (many .1))
+
+    pub span-written : 12 * v .found ≤ length y → (w : Visit) (z : List ℕ) → scan w z ≡ steps (orders-in bs) (scan (starting lo hi 0 true false) y) →
+        r ≡ record { number = 0; key = 0; total = w .found; displayed = 0 } → Span-says bs lo hi r x z
+    unfolding Span-as says
+    span-written h w z ew er =
+        let room : 12 * length (between lo hi (orders-in bs)) ≤ length x = omega (arith, many .0, ap length (many .1)) in
+        let g = written-all bs (in-range bs lo hi n en p .image) lo hi w x z room (ew ∙ ap (λ (q : List ℕ). steps (orders-in bs) (scan (starting lo hi 0 true false) q)) (many .1)) in
+        span-by z 0 (span-number true (le-leb _ _ room)) (
+          (ap (λ (q : Reply). q .number) er, ap (λ (q : Reply). q .key) er, ap (λ (q : Reply). q .total) er ∙ g .0, ap (λ (q : Reply). q .displayed) er),
+          g .1,
+        )

@@ -1,0 +1,172 @@
+-- Where the nodes of a level stand, and what they open: a partition is a stretch of its list, and all orders under a node come before
+-- the next node. Assumes nothing.
+use mathlib.Core.Path.{_≡_, refl, sym, ap, _∙_, subst}
+use mathlib.Core.Bool.{Bool, true, false, cond}
+use mathlib.Core.List.{List, [], _∷_, _++_, map, append-assoc, append-nil}
+use mathlib.Core.Logic.{_⊎_, inl, inr}
+use Prim.Native.Nat.{ℕ, zero, suc, _<_}
+use native.Mathlib.Omega.{arith}
+use borrow.Author.Tests.{eqb-true, leb-true}
+use lib.Dec.{leb, eqb}
+use lib.ListN.{length, take, drop, length-append, take-append-drop}
+use Rattle.placement.specs.Hash.{level}
+use Rattle.placement.specs.declared.Sizes.{Sizes}
+use Rattle.placement.specs.declared.Order.{Order}
+use Rattle.skiplist.specs.Lists.{front, at-least, list-at, starts-one, rest, partitions, first-key, masked}
+use Rattle.skiplist.proofs.Runs.{partitions-front}
+use Rattle.skiplist.proofs.Parts.{Up, Heads, pick, part, pick-past, below, below-here}
+use Rattle.skiplist.proofs.Edits.{parts-heads}
+use Rattle.skiplist.proofs.Walk.{each, spread, each-append, flat, run-flat, spread-all}
+use Rattle.skiplist.proofs.Opens.{Spot, shape, walks-part}
+use Rattle.readings.specs.Visit.{Row}
+
+-- STRETCHES of a list
+pub record Stretch (whole xs : List Order) : Type 0 where
+  pub before : List Order
+  pub behind : List Order
+  pub is : whole ≡ before ++ (xs ++ behind)
+
+pick-stretch : (f a : ℕ) (ps : List (List Order)) → Heads a ps → Stretch (flat ps) (pick f ps)
+unfolding pick flat
+pick-stretch f a [] u = record { before = []; behind = []; is = refl }
+pick-stretch f a (p ∷ ps) u = go (pick-stretch f _ ps (u .1)) (eqb (first-key p) f) refl
+  where
+    go : Stretch (flat ps) (pick f ps) → (t : Bool) → eqb (first-key p) f ≡ t → Stretch (p ++ flat ps) (cond t p [] ++ pick f ps)
+    go ih true e =
+        record { before = []; behind = flat ps; is = rw (pick-past f ps (suc (first-key p)) (omega (arith, eqb-true (first-key p) f e)) (u .1), append-nil) }
+    go ih false e =
+        record { before = p ++ ih .before; behind = ih .behind; is = ap (λ (z : List Order). p ++ z) (ih .is) ∙ sym (append-assoc p (ih .before) (pick f ps ++ ih .behind)) }
+
+parts-flat : (s : Sizes) (l : ℕ) (os : List Order) → flat (partitions s l (list-at s l os)) ≡ list-at s l os
+unfolding list-at flat
+parts-flat s l os = rw (partitions-front s l (at-least s l os)) (ap (λ (z : List Order). front ∷ z) (run-flat (starts-one s l) (at-least s l os)))
+
+pub part-stretch : (s : Sizes) (os : List Order) (l f : ℕ) → Up 1 os → Stretch (list-at s l os) (part s os l f)
+unfolding part
+part-stretch s os l f u =
+    subst (λ (z : List Order). Stretch z (pick f (partitions s l (list-at s l os)))) (parts-flat s l os)
+    (pick-stretch f 0 (partitions s l (list-at s l os)) (parts-heads s l os u))
+
+pub stretch-piece : (w xs : List Order) (n m : ℕ) → Stretch w xs → Stretch w (take n (drop m xs))
+stretch-piece w xs n m t =
+    let d = drop m xs in
+    record {
+      before = t .before ++ take m xs;
+      behind = drop n d ++ t .behind;
+      is =
+          t .is
+          ∙ ap (λ (z : List Order). t .before ++ (z ++ t .behind)) (sym (take-append-drop m xs) ∙ ap (λ (z : List Order). take m xs ++ z) (sym (take-append-drop n d)))
+          ∙ simp append-assoc;
+    }
+
+-- ROWS
+pub row-piece : (s : Sizes) (os : List Order) (l f n m : ℕ) → Up 1 os → Row s os l (map (masked l) (take n (drop m (part s os l f))))
+row-piece s os l f n m u =
+    let t = stretch-piece (list-at s l os) (part s os l f) n m (part-stretch s os l f u) in
+    record { before = t .before; own = take n (drop m (part s os l f)); behind = t .behind; there = t .is; is = refl }
+
+-- no place in an empty list
+pub nothing : (A : List Order) (y : Order) (B : List Order) → [] ≡ A ++ y ∷ B → ⊥
+nothing A y B e = omega (arith, simp length-append at (ap length e))
+
+-- a row of at least one node
+pub record Begins (s : Sizes) (os : List Order) (l : ℕ) (n : Order) (ns : List Order) : Type 0 where
+  pub before : List Order
+  pub first : Order
+  pub others : List Order
+  pub behind : List Order
+  pub there : list-at s l os ≡ before ++ first ∷ (others ++ behind)
+  pub is : n ≡ masked l first
+  pub rest : ns ≡ map (masked l) others
+
+pub begins : (s : Sizes) (os : List Order) (l : ℕ) (n : Order) (ns : List Order) → Row s os l (n ∷ ns) → Begins s os l n ns
+begins s os l n ns r = go (r .own) (r .there) (r .is)
+  where
+    go : (own : List Order) → list-at s l os ≡ r .before ++ (own ++ r .behind) → n ∷ ns ≡ map (masked l) own → Begins s os l n ns
+    go [] t e = absurd (omega (arith, ap length e))
+    go (x ∷ xs) t e = record { before = r .before; first = x; others = xs; behind = r .behind; there = t; is = cc; rest = cc }
+
+pub row-tail : (s : Sizes) (os : List Order) (l : ℕ) (n : Order) (ns : List Order) → Row s os l (n ∷ ns) → Row s os l ns
+row-tail s os l n ns r =
+    let b = begins s os l n ns r in
+    record {
+      before = b .before ++ b .first ∷ [];
+      own = b .others;
+      behind = b .behind;
+      there = b .there ∙ sym (append-assoc (b .before) (b .first ∷ []) (b .others ++ b .behind));
+      is = b .rest;
+    }
+
+-- A NODE of a list: the front, or an order of that level
+abbrev pub Node : Sizes → (orders : List Order) → (k : ℕ) → Order → Type 0
+Node s os k y = (y ≡ front) ⊎ (Spot y os × (k < level s (y .key)))
+
+at-spot : (s : Sizes) (k : ℕ) (y : Order) (B os zs pre A : List Order) → os ≡ pre ++ zs → at-least s (suc k) zs ≡ A ++ y ∷ B → Spot y os × (k < level s (y .key))
+unfolding at-least
+at-spot s k y B os [] pre A e h = absurd (nothing A y B h)
+at-spot s k y B os (z ∷ zs) pre A e h =
+    go (λ A′ h′. at-spot s k y B os zs (pre ++ z ∷ []) A′ (e ∙ sym (append-assoc pre (z ∷ []) zs)) h′) (leb (suc k) (level s (z .key))) refl A h
+  where
+    go : ((A′ : List Order) → at-least s (suc k) zs ≡ A′ ++ y ∷ B → Spot y os × (k < level s (y .key))) → (t : Bool) → leb (suc k) (level s (z .key)) ≡ t →
+        (A : List Order) → cond t (z ∷ at-least s (suc k) zs) (at-least s (suc k) zs) ≡ A ++ y ∷ B → Spot y os × (k < level s (y .key))
+    go ih true q [] h =
+        let w : z ≡ y = cc in (
+          record { before = pre; behind = zs; is = e ∙ ap (λ (o : Order). pre ++ o ∷ zs) w },
+          subst (λ (o : Order). k < level s (o .key)) w (omega (arith, leb-true (suc k) (level s (z .key)) q)),
+        )
+    go ih true q (a ∷ A) h = ih A (cc)
+    go ih false q A h = ih A h
+
+pub node-there : (s : Sizes) (os : List Order) (k : ℕ) (y : Order) (B A : List Order) → list-at s (suc k) os ≡ A ++ y ∷ B → Node s os k y
+unfolding list-at
+node-there s os k y B [] e = inl (cc)
+node-there s os k y B (a ∷ A) e = inr (at-spot s k y B os os [] A refl (cc))
+
+-- THE ORDERS UNDER A NODE come before the next node
+below-mid : (P xs : List Order) (z : Order) (zs : List Order) (a : ℕ) → Up a (P ++ (xs ++ z ∷ zs)) → below (z .key) xs ≡ true
+below-mid [] xs z zs a u = below-here xs z zs a u
+below-mid (p ∷ P) xs z zs a u = below-mid P xs z zs (suc (p .key)) (u .1)
+
+module _ (s : Sizes) (os : List Order) (u : Up 1 os) where
+  all-up : Up 0 (front ∷ os)
+  unfolding front
+  all-up = (omega arith, u)
+
+  pub next-below : (l : ℕ) (x y : Order) (A B : List Order) → list-at s (suc l) os ≡ A ++ x ∷ y ∷ B → below (y .key) (spread s os l x) ≡ true
+  unfolding each
+  next-below l x y A B e =
+      let f = spread s os l in
+      let n : Node s os l y = node-there s os l y B (A ++ x ∷ []) (e ∙ sym (append-assoc A (x ∷ []) (y ∷ B))) in
+      let p = shape s (part s os) l y (f y) (walks-part s os u l y n) in
+      let w : front ∷ os ≡ each f A ++ (f x ++ p .head ∷ (p .rest ++ each f B)) =
+      sym (spread-all s os u l) ∙ ap (each f) e ∙ each-append f A (x ∷ y ∷ B) ∙ ap (λ (z : List Order). each f A ++ (f x ++ (z ++ each f B))) (p .whole) in
+      subst (λ (k : ℕ). below k (f x) ≡ true) (p .same) (below-mid (each f A) (f x) (p .head) (p .rest ++ each f B) 0 (subst (Up 0) w all-up))
+
+  -- masked nodes open the same
+  pub spread-masked : (l : ℕ) (x : Order) → spread s os l (masked (suc l) x) ≡ spread s os l x
+  unfolding spread masked
+  spread-masked zero x = refl
+  spread-masked (suc l) x = refl
+
+  pub each-masked : (l : ℕ) (xs : List Order) → each (spread s os l) (map (masked (suc l)) xs) ≡ each (spread s os l) xs
+  unfolding each
+  each-masked l [] = refl
+  each-masked l (x ∷ xs) = rw (spread-masked l x, each-masked l xs)
+
+  pub row-below : (l : ℕ) (n m : Order) (ns : List Order) → Row s os (suc l) (n ∷ m ∷ ns) → below (m .key) (spread s os l n) ≡ true
+  unfolding masked
+  row-below l n m ns r = go (b .others) (b .there) (b .rest)
+    where
+      b : Begins s os (suc l) n (m ∷ ns)
+      b = begins s os (suc l) n (m ∷ ns) r
+
+      same : spread s os l n ≡ spread s os l (b .first)
+      same = ap (spread s os l) (b .is) ∙ spread-masked l (b .first)
+
+      go : (others : List Order) → list-at s (suc l) os ≡ b .before ++ b .first ∷ (others ++ b .behind) → m ∷ ns ≡ map (masked (suc l)) others → below (m .key) (spread s os l n) ≡ true
+      go [] t e = absurd (omega (arith, ap length e))
+      go (y ∷ ys) t e =
+          let w : m ≡ masked (suc l) y = cc in
+          let k : y .key ≡ m .key = sym (ap (λ (o : Order). o .key) w) in
+          subst (λ (z : List Order). below (m .key) z ≡ true) (sym same)
+          (subst (λ (i : ℕ). below i (spread s os l (b .first)) ≡ true) k (next-below l (b .first) y (b .before) (ys ++ b .behind) t))

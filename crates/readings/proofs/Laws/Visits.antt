@@ -1,0 +1,189 @@
+-- Laws of what the visit's small functions give, and of orders that come by one after the other. Assumes nothing.
+use mathlib.Core.Path.{_≡_, refl, sym, ap, _∙_}
+use mathlib.Core.Bool.{Bool, true, false, cond}
+use mathlib.Core.List.{List, [], _∷_, _++_, append-assoc}
+use Prim.Native.Nat.{ℕ, zero, suc, _+_, _*_, _-_, _≤_, _<_}
+use lib.Dec.{ltb, leb, eqb}
+use lib.ListN.{length}
+use lib.Seq.{sets, length-sets}
+use borrow.Author.Tests.{ltb-true, ne-eqb, le-leb, lt-leb, le-ltb, lt-ltb}
+use native.Mathlib.Omega.{arith}
+use Rattle.placement.specs.Numbers.{big, field}
+use Rattle.placement.specs.Chunks.{node-bytes}
+use Rattle.placement.specs.declared.Order.{Order}
+use Rattle.placement.proofs.Laws.Numbers.{length-big}
+use Rattle.placement.proofs.Laws.Parts.{sets-append}
+use Rattle.skiplist.specs.Questions.{reserve}
+use Rattle.skiplist.proofs.Parts.{and-left, and-right, below}
+use Rattle.readings.specs.declared.Visit.{Visit}
+use Rattle.readings.specs.Visit.{Scan, scan, next-found, more-found, ended-visit, wanted-by, row-in, step-by, steps, passed-in}
+
+-- SMALL FUNCTIONS
+pub next-more : (n : ℕ) → n < 65535 → n + 1 ≡ next-found n
+unfolding next-found
+next-more n h = rw (lt-ltb n 65535 h)
+
+pub next-same : (n : ℕ) → 65535 ≤ n → n ≡ next-found n
+unfolding next-found
+next-same n h = rw (le-ltb n 65535 h)
+
+pub found-made : (o : Order) (v : Visit) (n : ℕ) → n ≡ next-found (v .found) →
+    _≡_ {A = Visit}
+    (record { lo = v .lo; hi = v .hi; least = v .least; writes = v .writes; seeks = v .seeks; found = n; ended = v .seeks; key = o .key; total = o .total; displayed = o .displayed })
+    (more-found o v)
+unfolding more-found
+found-made o v n e = rw e
+
+least-none : (a : ℕ) → eqb a 0 ≡ leb a 0
+least-none zero = refl
+least-none (suc a) = ne-eqb (suc a) 0 (omega arith) ∙ sym (lt-leb (suc a) 0 (omega arith))
+
+module _ (v : Visit) (o : Order) where
+  pub wanted-low : o .key < v .lo → false ≡ wanted-by v o
+  unfolding wanted-by
+  wanted-low h = rw (lt-leb _ _ h)
+
+  pub wanted-all : v .lo ≤ o .key → v .seeks ≡ false → true ≡ wanted-by v o
+  unfolding wanted-by
+  wanted-all h e = rw (le-leb _ _ h, e)
+
+  pub wanted-none : v .lo ≤ o .key → v .seeks ≡ true → o .total < o .displayed → eqb (v .least) 0 ≡ wanted-by v o
+  unfolding wanted-by reserve
+  wanted-none h e l =
+      let z : o .total - o .displayed ≡ 0 = omega arith in
+      rw (le-leb _ _ h, e, z) (least-none (v .least))
+
+  pub wanted-some : v .lo ≤ o .key → v .seeks ≡ true → leb (v .least) (o .total - o .displayed) ≡ wanted-by v o
+  unfolding wanted-by reserve
+  wanted-some h e = rw (le-leb _ _ h, e)
+
+module _ (x : List ℕ) (a : ℕ) (o : Order) where
+  pub row-none : length x < a + 12 → x ≡ row-in x a o
+  unfolding row-in
+  row-none h = rw (lt-leb _ _ h)
+
+  pub row-made : a + 12 ≤ length x → (x₁ x₂ x₃ : List ℕ) → x₁ ≡ sets x a (big 4 (o .key)) → x₂ ≡ sets x₁ (a + 4) (big 4 (o .total)) →
+      x₃ ≡ sets x₂ (a + 8) (big 4 (o .displayed)) → x₃ ≡ row-in x a o
+  unfolding row-in node-bytes
+  row-made h x₁ x₂ x₃ e₁ e₂ e₃ =
+      rw (le-leb _ _ h, e₃, e₂, e₁, append-assoc, sets-append x a, length-big, sets-append, length-big) go
+    where
+      go : sets (sets (sets x a (big 4 (o .key))) (a + 4) (big 4 (o .total))) (a + 8) (big 4 (o .displayed))
+          ≡ sets (sets (sets x a (big 4 (o .key))) (a + 4) (big 4 (o .total))) (a + 4 + 4) (big 4 (o .displayed))
+      go = let e : a + 8 ≡ a + 4 + 4 = omega arith in rw e
+
+module _ (bs : List ℕ) (a j lo : ℕ) where
+  pub passed-few : j < 2 → false ≡ passed-in bs a j lo
+  unfolding passed-in
+  passed-few h = rw (lt-leb _ _ h)
+
+  pub passed-next : 2 ≤ j → (k : ℕ) → k ≡ field (a + 12) 4 bs → leb k lo ≡ passed-in bs a j lo
+  unfolding passed-in
+  passed-next h k e = rw (le-leb _ _ h, e)
+
+-- AN ORDER COMES BY
+abbrev pub as-told : Order → Visit → List ℕ → (ended past wanted writes : Bool) → Scan
+as-told o v x a b c d =
+    cond a (scan v x) (cond b (scan (ended-visit v) x) (cond c (scan (more-found o v) (cond d (row-in x (12 * v .found) o) x)) (scan v x)))
+
+module _ (o : Order) (v : Visit) (x : List ℕ) where
+  pub told : (a b c d : Bool) → v .ended ≡ a → ltb (v .hi) (o .key) ≡ b → wanted-by v o ≡ c → v .writes ≡ d → step-by o (scan v x) ≡ as-told o v x a b c d
+  unfolding step-by
+  told a b c d ea eb ec ed =
+      ap (λ (t : Bool). as-told o v x t (ltb (v .hi) (o .key)) (wanted-by v o) (v .writes)) ea
+      ∙ ap (λ (t : Bool). as-told o v x a t (wanted-by v o) (v .writes)) eb
+      ∙ ap (λ (t : Bool). as-told o v x a b t (v .writes)) ec
+      ∙ ap (as-told o v x a b c) ed
+
+  pub step-ended : v .ended ≡ true → scan v x ≡ step-by o (scan v x)
+  step-ended e = sym (told true _ _ _ e refl refl refl)
+
+  module _ (e : v .ended ≡ false) where
+    pub step-past : v .hi < o .key → (w : Visit) → w ≡ ended-visit v → scan w x ≡ step-by o (scan v x)
+    step-past h w ew = ap (λ (z : Visit). scan z x) ew ∙ sym (told false true _ _ e (lt-ltb _ _ h) refl refl)
+
+    module _ (h : o .key ≤ v .hi) (b : Bool) (eb : b ≡ wanted-by v o) where
+      pub step-other : b ≡ false → scan v x ≡ step-by o (scan v x)
+      step-other f = sym (told false false false _ e (le-ltb _ _ h) (sym eb ∙ f) refl)
+
+      module _ (f : b ≡ true) (w : Visit) (ew : w ≡ more-found o v) where
+        pub step-writes : v .writes ≡ true → (z : List ℕ) → z ≡ row-in x (12 * v .found) o → scan w z ≡ step-by o (scan v x)
+        step-writes p z ez = ap (λ (u : Visit). scan u z) ew ∙ ap (scan (more-found o v)) ez ∙ sym (told false false true true e (le-ltb _ _ h) (sym eb ∙ f) p)
+
+        pub step-counts : v .writes ≡ false → scan w x ≡ step-by o (scan v x)
+        step-counts p = ap (λ (u : Visit). scan u x) ew ∙ sym (told false false true false e (le-ltb _ _ h) (sym eb ∙ f) p)
+
+-- ORDERS, one after the other
+pub steps-append : (xs ys : List Order) (x : Scan) → steps (xs ++ ys) x ≡ steps ys (steps xs x)
+unfolding steps
+steps-append [] ys x = refl
+steps-append (o ∷ xs) ys x = steps-append xs ys (step-by o x)
+
+pub steps-ended : (os : List Order) (x : Scan) → x .visit .ended ≡ true → steps os x ≡ x
+unfolding steps
+steps-ended [] x e = refl
+steps-ended (o ∷ os) x e = ap (steps os) (sym (step-ended o (x .visit) (x .output) e)) ∙ steps-ended os x e
+
+-- the range stays
+pub record Ranged (x y : Scan) : Type 0 where
+  pub lo : y .visit .lo ≡ x .visit .lo
+  pub hi : y .visit .hi ≡ x .visit .hi
+
+pub step-range : (o : Order) (x : Scan) → Ranged x (step-by o x)
+unfolding step-by more-found ended-visit
+step-range o x = go (x .visit .ended) (ltb (x .visit .hi) (o .key)) (wanted-by (x .visit) o)
+  where
+    go : (a b c : Bool) → Ranged x (cond a x (cond b (scan (ended-visit (x .visit)) (x .output)) (cond c (scan (more-found o (x .visit)) (cond (x .visit .writes) (row-in (x .output) (12 * x .visit .found) o) (x .output))) x)))
+    go true b c = record { lo = refl; hi = refl }
+    go false true c = record { lo = refl; hi = refl }
+    go false false true = record { lo = refl; hi = refl }
+    go false false false = record { lo = refl; hi = refl }
+
+pub steps-range : (os : List Order) (x : Scan) → Ranged x (steps os x)
+unfolding steps
+steps-range [] x = record { lo = refl; hi = refl }
+steps-range (o ∷ os) x =
+    let p = step-range o x in
+    let q = steps-range os (step-by o x) in
+    record { lo = q .lo ∙ p .lo; hi = q .hi ∙ p .hi }
+
+-- and so does the length of the output
+pub row-length : (x : List ℕ) (a : ℕ) (o : Order) → length (row-in x a o) ≡ length x
+unfolding row-in
+row-length x a o = go (leb (a + 12) (length x))
+  where
+    go : (t : Bool) → length (cond t (sets x a (node-bytes o)) x) ≡ length x
+    go true = length-sets x a (node-bytes o)
+    go false = refl
+
+pub step-length : (o : Order) (x : Scan) → length (step-by o x .output) ≡ length (x .output)
+unfolding step-by
+step-length o x = go (x .visit .ended) (ltb (x .visit .hi) (o .key)) (wanted-by (x .visit) o) (x .visit .writes)
+  where
+    go : (a b c d : Bool) → length (as-told o (x .visit) (x .output) a b c d .output) ≡ length (x .output)
+    go true b c d = refl
+    go false true c d = refl
+    go false false true true = row-length (x .output) (12 * x .visit .found) o
+    go false false true false = refl
+    go false false false d = refl
+
+pub steps-length : (os : List Order) (x : Scan) → length (steps os x .output) ≡ length (x .output)
+unfolding steps
+steps-length [] x = refl
+steps-length (o ∷ os) x = steps-length os (step-by o x) ∙ step-length o x
+
+-- orders below the range do nothing
+pub step-below : (o : Order) (x : Scan) → x .visit .lo ≤ x .visit .hi → o .key < x .visit .lo → step-by o x ≡ x
+unfolding step-by wanted-by
+step-below o x h l = rw (le-ltb (x .visit .hi) (o .key) (omega arith), lt-leb (x .visit .lo) (o .key) l) (go (x .visit .ended))
+  where
+    go : (t : Bool) → cond t x x ≡ x
+    go true = refl
+    go false = refl
+
+pub steps-below : (os : List Order) (k : ℕ) (x : Scan) → x .visit .lo ≤ x .visit .hi → k ≤ x .visit .lo → below k os ≡ true → steps os x ≡ x
+unfolding steps below
+steps-below [] k x h l e = refl
+steps-below (o ∷ os) k x h l e =
+    ap (steps os) (step-below o x h (omega (arith, ltb-true (o .key) k (and-left (ltb (o .key) k) (below k os) e))))
+    ∙ steps-below os k x h l (and-right (ltb (o .key) k) (below k os) e)

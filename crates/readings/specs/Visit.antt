@@ -1,0 +1,106 @@
+-- What a visit does with the orders that come by, one after the other by rising keys: it counts those in lo..hi, writes their rows,
+-- or stops at the first that has a reserve. Assumes nothing: these are definitions.
+use mathlib.Core.Path.{_≡_}
+use mathlib.Core.Bool.{Bool, true, false, _&&_, cond}
+use mathlib.Core.List.{List, [], _∷_, _++_, map}
+use Prim.Native.Nat.{ℕ, _+_, _*_}
+use lib.Dec.{ltb, leb, eqb}
+use lib.ListN.{length}
+use lib.Seq.{sets}
+use Rattle.placement.specs.Numbers.{field}
+use Rattle.placement.specs.Sizes.{made}
+use Rattle.placement.specs.Chunks.{node-bytes}
+use Rattle.placement.specs.Place.{Shaped}
+use Rattle.placement.specs.declared.Sizes.{Sizes}
+use Rattle.placement.specs.declared.Order.{Order}
+use Rattle.skiplist.specs.Lists.{list-at, masked}
+use Rattle.skiplist.specs.Image.{image, orders-in, orders-good, fits}
+use Rattle.skiplist.specs.Questions.{reserve}
+use Rattle.skiplist.proofs.Walk.{each, spread}
+use Rattle.readings.specs.declared.Visit.{Visit}
+use Rattle.readings.specs.declared.calls.Sought.{Sought}
+use Rattle.readings.specs.declared.calls.Sought.the-variants.{Is, Nothing}
+
+-- a visit under way, and the output
+pub record Scan : Type 0 where
+  pub visit : Visit
+  pub output : List ℕ
+
+abbrev pub scan : Visit → (output : List ℕ) → Scan
+scan v o = record { visit = v; output = o }
+
+-- a visit that begins
+abbrev pub starting : (lo hi least : ℕ) → (writes seeks : Bool) → Visit
+starting lo hi l w k =
+    record { lo = lo; hi = hi; least = l; writes = w; seeks = k; found = 0; ended = false; key = 0; total = 0; displayed = 0 }
+
+-- one more, up to the most orders that a table can hold
+unfoldable pub next-found : ℕ → ℕ
+next-found n = cond (ltb n 65535) (n + 1) n
+
+-- one more order is counted; a seek ends with it
+unfoldable pub more-found : Order → Visit → Visit
+more-found o v =
+    record { lo = v .lo; hi = v .hi; least = v .least; writes = v .writes; seeks = v .seeks; found = next-found (v .found); ended = v .seeks; key = o .key; total = o .total; displayed = o .displayed }
+
+-- nothing more need come
+unfoldable pub ended-visit : Visit → Visit
+ended-visit v =
+    record { lo = v .lo; hi = v .hi; least = v .least; writes = v .writes; seeks = v .seeks; found = v .found; ended = true; key = v .key; total = v .total; displayed = v .displayed }
+
+-- is the order one that is looked for? A seek asks for the reserve
+unfoldable pub wanted-by : Visit → Order → Bool
+wanted-by v o = leb (v .lo) (o .key) && cond (v .seeks) (leb (v .least) (reserve o)) true
+
+-- a row of the output, where it has room
+unfoldable pub row-in : (output : List ℕ) → (at : ℕ) → Order → List ℕ
+row-in x a o = cond (leb (a + 12) (length x)) (sets x a (node-bytes o)) x
+
+-- AN ORDER COMES BY
+unfoldable pub step-by : Order → Scan → Scan
+step-by o x =
+    cond (x .visit .ended) x
+    (cond (ltb (x .visit .hi) (o .key)) (scan (ended-visit (x .visit)) (x .output))
+    (cond (wanted-by (x .visit) o) (scan (more-found o (x .visit)) (cond (x .visit .writes) (row-in (x .output) (12 * x .visit .found) o) (x .output))) x))
+
+-- ORDERS, one after the other
+unfoldable pub steps : List Order → Scan → Scan
+steps [] x = x
+steps (o ∷ os) x = steps os (step-by o x)
+
+-- the bytes are the image, under sizes s, of the orders that they hold
+pub record Known (s : Sizes) (bs : List ℕ) : Type 0 where
+  pub shaped : Shaped s bs
+  pub sizes-made : made s ≡ true
+  pub good : orders-good 1 (orders-in bs) ≡ true
+  pub fit : fits s (orders-in bs) ≡ true
+  pub bytes : image s (orders-in bs) ≡ bs
+
+-- nodes that stand one after the other in the list of a level, as its chunks have them
+pub record Row (s : Sizes) (os : List Order) (l : ℕ) (ns : List Order) : Type 0 where
+  pub before : List Order
+  pub own : List Order
+  pub behind : List Order
+  pub there : list-at s l os ≡ before ++ (own ++ behind)
+  pub is : ns ≡ map (masked l) own
+
+-- the next node of a chunk does not come after the lowest key
+unfoldable pub passed-in : List ℕ → (at left lo : ℕ) → Bool
+passed-in bs a j lo = leb 2 j && leb (field (a + 12) 4 bs) lo
+
+-- WHAT A NODE OPENS, at a level and below: the orders under it; and what some nodes open
+unfoldable pub under : Sizes → List ℕ → (level : ℕ) → Order → List Order
+under s bs l o = spread s (orders-in bs) l o
+
+unfoldable pub all-under : Sizes → List ℕ → (level : ℕ) → List Order → List Order
+all-under s bs l ns = each (spread s (orders-in bs) l) ns
+
+-- THE FIRST ORDER that has a reserve
+unfoldable pub first-enough : (least : ℕ) → List Order → Sought
+first-enough l [] = Nothing
+first-enough l (o ∷ os) = cond (leb l (reserve o)) (Is o) (first-enough l os)
+
+-- THE FIRST of some orders, if it has the key
+unfoldable pub with-key : (key : ℕ) → List Order → Sought
+with-key k [] = Nothing
+with-key k (o ∷ os) = cond (eqb (o .key) k) (Is o) Nothing

@@ -1,0 +1,186 @@
+// Visits: the orders of a table in a range of keys, by rising keys. A partition opens its nodes, and each node opens its partition one level down.
+ghost use mathlib.Core.Path.{_≡_};
+ghost use Prim.Native.Nat.{_+_, _*_, _-_, _≤_};
+ghost use lib.ListN.{length, drop};
+ghost use Rattle.placement.specs.Sizes.{beta};
+ghost use Rattle.placement.specs.Decode.{nodes-from};
+ghost use Rattle.skiplist.specs.Image.{orders-in};
+ghost use Rattle.readings.specs.Visit.{scan, next-found, more-found, ended-visit, wanted-by, row-in, step-by, steps, Known, Row, passed-in, under, all-under};
+use crate::Visit;
+use placement::Found;
+use placement::Label;
+use placement::Order;
+use placement::Sizes;
+
+// Nothing more need come.
+fn ended(v: Visit) -> Visit
+    ensures { λ r. ⌜ r ≡ ended-visit v ⌝ }
+{
+    let mut w = v;
+    w.ended = true;
+    w
+}
+
+// One more, up to the most orders that a table can hold.
+fn next(n: u32) -> u32
+    ensures { λ r. ⌜ r ≡ next-found n ⌝ }
+{
+    if n < 65535 {
+        return n + 1;
+    }
+    n
+}
+
+// One more order is counted; a seek ends with it.
+fn more_found(o: Order, v: Visit) -> Visit
+    ensures { λ r. ⌜ r ≡ more-found o v ⌝ }
+{
+    Visit {
+        lo: v.lo,
+        hi: v.hi,
+        least: v.least,
+        writes: v.writes,
+        seeks: v.seeks,
+        found: next(v.found),
+        ended: v.seeks,
+        key: o.key,
+        total: o.total,
+        displayed: o.displayed,
+    }
+}
+
+// Is the order one that is looked for?
+fn wanted(v: Visit, o: Order) -> bool
+    ensures { λ r. ⌜ r ≡ wanted-by v o ⌝ }
+{
+    if o.key < v.lo {
+        return false;
+    }
+    if !v.seeks {
+        return true;
+    }
+    if o.total < o.displayed {
+        return v.least == 0;
+    }
+    v.least <= o.total - o.displayed
+}
+
+// A row of the output, where it has room.
+fn write_row(output: &mut [u8], at: usize, o: Order)
+    requires { ⌜ at ≤ 51539607540 ⌝ }
+    ensures { λ r. ⌜ now (output .exit) ≡ row-in (now (output .entry)) at o ⌝ }
+{
+    if at + 12 <= output.len() {
+        placement::numbers::put4(output, at, o.key);
+        placement::numbers::put4(output, at + 4, o.total);
+        placement::numbers::put4(output, at + 8, o.displayed);
+    }
+}
+
+// An order comes by.
+fn step(o: Order, v: Visit, output: &mut [u8]) -> Visit
+    ensures { λ r. ⌜ scan r (now (output .exit)) ≡ step-by o (scan v (now (output .entry))) ⌝ }
+{
+    if v.ended {
+        return v;
+    }
+    if v.hi < o.key {
+        return ended(v);
+    }
+    if !wanted(v, o) {
+        return v;
+    }
+    if v.writes {
+        write_row(output, 12 * (v.found as usize), o);
+        return more_found(o, v);
+    }
+    more_found(o, v)
+}
+
+// A partition: its chunks, one after the other, a next one only behind a full one. At level 0 a node stands for itself.
+// A chunk's number has two bytes.
+pub fn visit_partition(
+    table: &[u8],
+    s: Sizes,
+    level: u32,
+    o: Order,
+    v: Visit,
+    output: &mut [u8],
+) -> Visit
+    requires { ⌜ Known s (now table) × (level ≤ beta s) × (v .lo ≤ v .hi) ⌝ }
+    ensures { λ r. ⌜ scan r (now (output .exit)) ≡ steps (under s (now (table .entry)) level o) (scan v (now (output .entry))) ⌝ }
+{
+    if level == 0 {
+        return step(o, v, output);
+    }
+    let mut w = v;
+    let mut number: u32 = 0;
+    while number < 65536 {
+        if w.ended {
+            return w;
+        }
+        let Found::At(i) = placement::search::find(
+            table,
+            s,
+            Label {
+                level: level,
+                first: o.key,
+                number: number,
+            },
+        ) else {
+            return w;
+        };
+        let at = placement::labels::offset(s, i);
+        let n = placement::search::count_at(table, s, i);
+        w = visit_nodes(table, s, level, at + 8, n, w, output);
+        if n < s.nodes {
+            return w;
+        }
+        number += 1;
+    }
+    w
+}
+
+// The nodes of a chunk: each opens its partition one level down, but for those that end before the range starts.
+pub fn visit_nodes(
+    table: &[u8],
+    s: Sizes,
+    level: u32,
+    at: usize,
+    left: u32,
+    v: Visit,
+    output: &mut [u8],
+) -> Visit
+    requires { ⌜ Known s (now table) × (1 ≤ level) × (level ≤ beta s) × (v .lo ≤ v .hi) × (at + 12 * left ≤ length (now table)) × Row s (orders-in (now table)) level (nodes-from left (drop at (now table))) ⌝ }
+    ensures { λ r. ⌜ scan r (now (output .exit)) ≡ steps (all-under s (now (table .entry)) (level - 1) (nodes-from left (drop at (now (table .entry))))) (scan v (now (output .entry))) ⌝ }
+{
+    if left == 0 {
+        return v;
+    }
+    if v.ended {
+        return v;
+    }
+    if passed(table, at, left, v.lo) {
+        return visit_nodes(table, s, level, at + 12, left - 1, v, output);
+    }
+    let w = visit_partition(
+        table,
+        s,
+        level - 1,
+        table::walk::node_of(table, at),
+        v,
+        output,
+    );
+    visit_nodes(table, s, level, at + 12, left - 1, w, output)
+}
+
+// The next node of the chunk does not come after the lowest key: all orders under this one are below it.
+fn passed(table: &[u8], at: usize, left: u32, lo: u32) -> bool
+    requires { ⌜ at + 12 * left ≤ length (now table) ⌝ }
+    ensures { λ r. ⌜ r ≡ passed-in (now (table .entry)) at left lo ⌝ }
+{
+    if left < 2 {
+        return false;
+    }
+    placement::numbers::be4(table, at + 12) <= lo
+}

@@ -1,0 +1,109 @@
+/* A small order gateway: a day's orders go into a table, the table into a file, and the open orders are read back from it.
+ *
+ *     cc gateway.c $(pkg-config --cflags --libs balluchaw) -o gateway
+ *     ./gateway orders.table
+ */
+#include <balluchaw.h>
+
+#include <stdio.h>
+#include <stdlib.h>
+
+/* The most chunks that 100 orders can make with these sizes are 310. With so many blocks a put is never turned down by question 8. */
+enum { GAMMA = 16, NODES = 16, ORDERS = 100, BLOCKS = 310 };
+
+static uint8_t table[BALLUCHAW_LENGTH(NODES, BLOCKS)];
+
+static const char *const answers[] = {
+    "done", "the seed is none", "the sizes are not allowed", "the buffer has another length", "the bytes are no table",
+    "no such order number can be", "the quantities do not fit together", "the table has its most orders", "the table has no block left",
+    "no such order is open", "the span ends before it starts", "the output is too short", "no order has such a reserve",
+};
+
+enum kind { ENTER, PULL };
+
+static const struct { enum kind kind; uint32_t order, total, displayed; } day[] = {
+    {ENTER, 4711, 500, 100},
+    {ENTER, 4715, 90, 90},
+    {ENTER, 4712, 300, 300},
+    {ENTER, 4720, 80, 100},   /* more displayed than there is */
+    {PULL, 4712, 0, 0},
+    {ENTER, 4713, 2000, 0},   /* wholly hidden */
+    {ENTER, 4711, 400, 100},  /* 100 of them were filled */
+    {PULL, 4712, 0, 0},       /* too late */
+    {PULL, 4715, 0, 0},
+    {ENTER, 4716, 1200, 200},
+};
+
+/* What cannot be mended here ends the program. */
+static void must(int right, const char *what) {
+    if (right) return;
+    fprintf(stderr, "gateway: %s\n", what);
+    exit(1);
+}
+
+/* Ten random numbers below 2^31 - 1. Whoever knows the seed can choose order numbers that crowd the table, so it is made afresh. */
+static void choose_seed(uint8_t seed[40]) {
+    FILE *source = fopen("/dev/urandom", "rb");
+    must(source != NULL, "no random numbers");
+    for (int i = 0; i < 40; i += 4) {
+        do {
+            must(fread(seed + i, 1, 4, source) == 4, "no random numbers");
+            seed[i] &= 0x7f;
+        } while (seed[i] == 0x7f && seed[i + 1] == 0xff && seed[i + 2] == 0xff && seed[i + 3] == 0xff);
+    }
+    fclose(source);
+}
+
+static void run_day(void) {
+    for (size_t i = 0; i < sizeof day / sizeof day[0]; i++) {
+        uint32_t number = day[i].kind == ENTER ? balluchaw_put(table, sizeof table, day[i].order, day[i].total, day[i].displayed)
+                                               : balluchaw_cancel(table, sizeof table, day[i].order);
+        must(number != 4, answers[4]); /* somebody else wrote the table: no order is safe in it */
+        printf("%s %u: %s\n", day[i].kind == ENTER ? "enter" : "pull", (unsigned)day[i].order, answers[number]);
+    }
+}
+
+/* The bytes are the file: they tell which orders are open, and nothing of those that were pulled. */
+static void save(const char *name) {
+    FILE *file = fopen(name, "wb");
+    must(file != NULL && fwrite(table, 1, sizeof table, file) == sizeof table, "the table cannot be written");
+    must(fclose(file) == 0, "the table cannot be written");
+}
+
+/* A file comes from outside, so its bytes are checked before anybody relies on them. */
+static void load(const char *name) {
+    FILE *file = fopen(name, "rb");
+    must(file != NULL && fread(table, 1, sizeof table, file) == sizeof table && fgetc(file) == EOF, "the file is no table of ours");
+    fclose(file);
+    must(balluchaw_check(table, sizeof table) == 0, answers[4]);
+}
+
+static unsigned number_at(const uint8_t *bytes) {
+    return (unsigned)bytes[0] << 24 | (unsigned)bytes[1] << 16 | (unsigned)bytes[2] << 8 | bytes[3];
+}
+
+static void print_span(uint32_t lo, uint32_t hi) {
+    static uint8_t rows[12 * ORDERS]; /* room for every order, so question 11 is always answered yes */
+    balluchaw_reply span = balluchaw_span(table, sizeof table, lo, hi, rows, sizeof rows);
+    must(span.number == 0, answers[span.number]);
+    printf("%u open orders from %u to %u\n", (unsigned)span.total, (unsigned)lo, (unsigned)hi);
+    for (const uint8_t *row = rows; row < rows + 12 * span.total; row += 12)
+        printf("%8u: %u of %u displayed\n", number_at(row), number_at(row + 8), number_at(row + 4));
+}
+
+int main(int count, char **words) {
+    const char *name = count > 1 ? words[1] : "orders.table";
+    uint8_t seed[40];
+    choose_seed(seed);
+    uint32_t number = balluchaw_make(table, sizeof table, GAMMA, NODES, ORDERS, BLOCKS, seed, sizeof seed);
+    must(number == 0, answers[number]);
+    run_day();
+    save(name);
+    load(name);
+    print_span(4711, 4719);
+    balluchaw_reply hidden = balluchaw_seek(table, sizeof table, 1, 2147483646, 1500);
+    printf("1500 or more in reserve: %s", answers[hidden.number]);
+    if (hidden.number == 0) printf(", order %u", (unsigned)hidden.key);
+    printf("\n");
+    return 0;
+}

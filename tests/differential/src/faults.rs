@@ -1,0 +1,384 @@
+//! Faults planted in the archive's answers: whoever compares must find each.
+
+use crate::archive::{Archive, Calls};
+use reference::calls::Reply;
+use reference::image::{held, place, table};
+use reference::lists::{chunks, home, lists, Label, Orders};
+use reference::sizes::{number_at, short_at, Made, Seed, Sizes, BLOCK_HEAD, HEADER, NODE, P, SEED};
+
+#[derive(Clone, Copy, PartialEq, Eq)]
+pub enum Fault {
+    PutOnce,
+    PutLeaves,
+    CancelLeaves,
+    AlwaysEmpty,
+    FirstCome,
+    StaleTail,
+    CountInvented,
+    TwelveUnlooked,
+    EightUnlooked,
+    FourToAll,
+    TailUnseen,
+    PlacesUnseen,
+    CountUnseen,
+    LengthUnseen,
+    TableTouched,
+    TouchedBehind,
+    TouchedBefore,
+    OutputBehind,
+    OutputOnRefusal,
+    PartsOnRefusal,
+    KeyNotRepeated,
+    QuantitiesExchanged,
+    SeekBelow,
+    SixBeforeFive,
+    LastKeyRefused,
+    GreatestTotalRefused,
+    ExactOutputRefused,
+    LastByteKept,
+    SeedTouched,
+    ModBlocksFirst,
+}
+
+pub const FAULTS: [(&str, Fault); 30] = [
+    (
+        "a put that edits once and later only answers",
+        Fault::PutOnce,
+    ),
+    ("a put that answers and leaves the table", Fault::PutLeaves),
+    (
+        "a cancel that answers and leaves the table",
+        Fault::CancelLeaves,
+    ),
+    (
+        "a table that is always written as that of no orders",
+        Fault::AlwaysEmpty,
+    ),
+    (
+        "a put that lets the chunk that came first stay",
+        Fault::FirstCome,
+    ),
+    (
+        "a cancel that leaves bytes behind a count",
+        Fault::StaleTail,
+    ),
+    ("a span whose count is invented", Fault::CountInvented),
+    ("a 12 given without looking", Fault::TwelveUnlooked),
+    ("an 8 given without looking", Fault::EightUnlooked),
+    ("a 4 given to all", Fault::FourToAll),
+    ("a check that does not see tails", Fault::TailUnseen),
+    (
+        "a check that does not see in which block a chunk is",
+        Fault::PlacesUnseen,
+    ),
+    ("a check that does not count the orders", Fault::CountUnseen),
+    ("a check that accepts a longer buffer", Fault::LengthUnseen),
+    (
+        "a lookup that changes a byte of the table when it finds nothing",
+        Fault::TableTouched,
+    ),
+    (
+        "a put that writes the byte behind the table",
+        Fault::TouchedBehind,
+    ),
+    (
+        "a cancel that writes the byte before the table",
+        Fault::TouchedBefore,
+    ),
+    (
+        "a span that writes the byte behind its orders",
+        Fault::OutputBehind,
+    ),
+    (
+        "a refused span that writes its output",
+        Fault::OutputOnRefusal,
+    ),
+    (
+        "a refused lookup that repeats the key",
+        Fault::PartsOnRefusal,
+    ),
+    (
+        "a lookup that does not repeat the key",
+        Fault::KeyNotRepeated,
+    ),
+    (
+        "a lookup with the two quantities exchanged",
+        Fault::QuantitiesExchanged,
+    ),
+    ("a seek that gives an order below lo", Fault::SeekBelow),
+    ("a put that asks 6 before 5", Fault::SixBeforeFive),
+    (
+        "a cancel that turns down the highest key",
+        Fault::LastKeyRefused,
+    ),
+    (
+        "a put that turns down the greatest total",
+        Fault::GreatestTotalRefused,
+    ),
+    (
+        "a span that turns down an output of the exact length",
+        Fault::ExactOutputRefused,
+    ),
+    ("a make that leaves the last byte", Fault::LastByteKept),
+    ("a make that changes its seed", Fault::SeedTouched),
+    ("a put that takes mod M before mod p", Fault::ModBlocksFirst),
+];
+
+/// The archive with one fault.
+pub struct Faulty {
+    archive: Archive,
+    fault: Fault,
+    puts: u32,
+}
+
+impl Faulty {
+    pub fn new(fault: Fault) -> Faulty {
+        Faulty {
+            archive: Archive::default(),
+            fault,
+            puts: 0,
+        }
+    }
+
+    fn is(&self, fault: Fault) -> bool {
+        self.fault == fault
+    }
+}
+
+impl Calls for Faulty {
+    fn restart(&mut self) {
+        self.puts = 0;
+    }
+
+    fn make(&mut self, table: &mut [u8], sizes: &Sizes, seed: &mut [u8]) -> Reply {
+        let last = table.last().copied();
+        let reply = self.archive.make(table, sizes, seed);
+        if reply.number == 0 && self.is(Fault::LastByteKept) {
+            table[table.len() - 1] = last.expect("a table has bytes");
+        }
+        if reply.number == 0 && self.is(Fault::SeedTouched) {
+            seed[39] = 0;
+        }
+        reply
+    }
+
+    fn check(&mut self, table: &mut [u8]) -> Reply {
+        let mut copy = table.to_vec();
+        match self.fault {
+            Fault::FourToAll => return Reply::refused(4),
+            Fault::TailUnseen => each_block(&mut copy, |block| {
+                let counted = BLOCK_HEAD + NODE * usize::from(block[1]);
+                if let Some(tail) = block.get_mut(counted..) {
+                    tail.fill(0);
+                }
+            }),
+            Fault::PlacesUnseen => arrange(&mut copy),
+            Fault::CountUnseen => {
+                let mut nodes = 0;
+                each_block(&mut copy, |block| {
+                    nodes += u16::from(block[1]) * u16::from(block[0] == 1)
+                });
+                if copy.len() >= HEADER {
+                    copy[11..13].copy_from_slice(&nodes.saturating_sub(1).to_be_bytes());
+                }
+            }
+            Fault::LengthUnseen if copy.len() >= HEADER => {
+                copy.truncate(number_at(table, 1).max(HEADER as u32) as usize)
+            }
+            _ => return self.archive.check(table),
+        }
+        self.archive.check(&mut copy)
+    }
+
+    fn put(&mut self, table: &mut [u8], key: u32, total: u32, displayed: u32) -> Reply {
+        let before = table.to_vec();
+        let reply = self.archive.put(table, key, total, displayed);
+        if reply.number == 4 {
+            return reply;
+        }
+        let n = short_at(table, 11);
+        match self.fault {
+            Fault::SixBeforeFive if reply.number == 5 && (total == 0 || displayed > total) => {
+                return Reply::refused(6)
+            }
+            Fault::TouchedBehind => unsafe { *table.as_mut_ptr().add(table.len()) ^= 1 },
+            _ => {}
+        }
+        if reply.number != 0 {
+            return reply;
+        }
+        self.puts += 1;
+        match self.fault {
+            Fault::PutOnce if self.puts > 1 => table.copy_from_slice(&before),
+            Fault::PutLeaves => table.copy_from_slice(&before),
+            Fault::AlwaysEmpty => write_empty(table),
+            Fault::FirstCome => keep_first_come(&before, table),
+            Fault::ModBlocksFirst => arrange_by(table, |made, label| {
+                let blocks = u64::from(made.sizes.blocks);
+                let sum = u64::from(made.seed.g(label.first_key))
+                    + 65_536 * u64::from(label.level)
+                    + u64::from(label.chunk_number);
+                (sum % blocks) as usize
+            }),
+            Fault::EightUnlooked if n > 3 && n == short_at(table, 7) => {
+                table.copy_from_slice(&before);
+                return Reply::refused(8);
+            }
+            Fault::GreatestTotalRefused if total == u32::MAX => {
+                table.copy_from_slice(&before);
+                return Reply::refused(6);
+            }
+            _ => {}
+        }
+        reply
+    }
+
+    fn cancel(&mut self, table: &mut [u8], key: u32) -> Reply {
+        let before = table.to_vec();
+        let reply = self.archive.cancel(table, key);
+        if reply.number != 0 {
+            return reply;
+        }
+        match self.fault {
+            Fault::CancelLeaves => table.copy_from_slice(&before),
+            Fault::TouchedBefore => unsafe { *table.as_mut_ptr().sub(1) ^= 1 },
+            Fault::StaleTail => each_block(table, |block| {
+                let counted = BLOCK_HEAD + NODE * usize::from(block[1]);
+                if block[0] == 1 && counted < block.len() {
+                    block[counted..counted + 4].copy_from_slice(&key.to_be_bytes());
+                }
+            }),
+            Fault::LastKeyRefused if key == P - 1 => {
+                table.copy_from_slice(&before);
+                return Reply::refused(5);
+            }
+            _ => {}
+        }
+        reply
+    }
+
+    fn lookup(&mut self, table: &mut [u8], key: u32) -> Reply {
+        let mut reply = self.archive.lookup(table, key);
+        match (self.fault, reply.number) {
+            (Fault::TableTouched, 9) => table[HEADER] ^= 1,
+            (Fault::PartsOnRefusal, 9) => reply.key = key,
+            (Fault::KeyNotRepeated, 0) => reply.key = 0,
+            (Fault::QuantitiesExchanged, 0) => {
+                std::mem::swap(&mut reply.total, &mut reply.displayed)
+            }
+            _ => {}
+        }
+        reply
+    }
+
+    fn span(&mut self, table: &mut [u8], lo: u32, hi: u32, output: &mut [u8]) -> Reply {
+        let before = output.to_vec();
+        let mut reply = self.archive.span(table, lo, hi, output);
+        let written = NODE * reply.total as usize;
+        match (self.fault, reply.number) {
+            (Fault::CountInvented, 0) if reply.total == 7 => reply.total = 8,
+            (Fault::OutputBehind, 0) if written < output.len() => output[written] = 0xee,
+            (Fault::OutputOnRefusal, 11) if output.len() >= NODE => output[3] ^= 1,
+            (Fault::ExactOutputRefused, 0) if written > 0 && written == output.len() => {
+                output.copy_from_slice(&before);
+                return Reply::refused(11);
+            }
+            _ => {}
+        }
+        reply
+    }
+
+    fn seek(&mut self, table: &mut [u8], lo: u32, hi: u32, r: u32) -> Reply {
+        let reply = self.archive.seek(table, lo, hi, r);
+        match (self.fault, reply.number) {
+            (Fault::TwelveUnlooked, 0) if r > 4_000_000_000 => Reply::refused(12),
+            (Fault::SeekBelow, 0) => match self.archive.seek(table, 1, hi, r) {
+                found if found.number == 0 => found,
+                _ => reply,
+            },
+            _ => reply,
+        }
+    }
+}
+
+// ---- hands in the bytes --------------------------------------------------------
+
+/// The header of bytes that are long enough for one, without asking whether it is allowed.
+fn made_of(table: &[u8]) -> Option<Made> {
+    if table.len() < HEADER {
+        return None;
+    }
+    let sizes = Sizes {
+        gamma: table[5].into(),
+        nodes: table[6].into(),
+        orders: short_at(table, 7),
+        blocks: short_at(table, 9),
+    };
+    let seed = Seed::from_bytes(&table[13..13 + SEED])?;
+    (sizes.allowed() && sizes.length() == table.len()).then_some(Made { sizes, seed })
+}
+
+fn each_block(table: &mut [u8], change: impl FnMut(&mut [u8])) {
+    if let Some(made) = made_of(table) {
+        table[HEADER..]
+            .chunks_exact_mut(made.sizes.block_length())
+            .for_each(change);
+    }
+}
+
+fn arrange(table: &mut [u8]) {
+    arrange_by(table, home);
+}
+
+/// Places the blocks anew by rising label, from these homes.
+fn arrange_by(table: &mut [u8], home: impl Fn(&Made, &Label) -> usize) {
+    let Some(made) = made_of(table) else {
+        return;
+    };
+    let width = made.sizes.block_length();
+    let label = |block: &Vec<u8>| Label {
+        level: block[0].into(),
+        first_key: number_at(block, 4),
+        chunk_number: short_at(block, 2),
+    };
+    let mut blocks: Vec<Vec<u8>> = table[HEADER..]
+        .chunks_exact(width)
+        .map(<[u8]>::to_vec)
+        .collect();
+    blocks.retain(|block| block.iter().any(|&byte| byte != 0));
+    blocks.sort_by_key(label);
+    table[HEADER..].fill(0);
+    for block in blocks {
+        let mut place = home(&made, &label(&block));
+        let at = loop {
+            let at = HEADER + place * width;
+            if table[at..at + width].iter().all(|&byte| byte == 0) {
+                break at;
+            }
+            place = (place + 1) % made.sizes.blocks as usize;
+        };
+        table[at..at + width].copy_from_slice(&block);
+    }
+}
+
+fn write_empty(bytes: &mut [u8]) {
+    let made = made_of(bytes).expect("a put succeeded");
+    let empty = reference::image::image(&made, &Orders::new()).expect("no orders fit");
+    bytes.copy_from_slice(&empty);
+}
+
+/// Places those chunks first whose labels were there before.
+fn keep_first_come(before: &[u8], after: &mut [u8]) {
+    let (made, old) = held(before).expect("a put succeeded");
+    let (_, new) = held(after).expect("a put succeeded");
+    let (old_lists, new_lists) = (lists(&made, &old), lists(&made, &new));
+    let known: Vec<Label> = chunks(&made, &old_lists)
+        .iter()
+        .map(|chunk| chunk.label)
+        .collect();
+    let (mut first, last): (Vec<_>, Vec<_>) = chunks(&made, &new_lists)
+        .into_iter()
+        .partition(|chunk| known.contains(&chunk.label));
+    first.extend(last);
+    after.copy_from_slice(&table(&made, new.len(), &place(&made, &first)));
+}

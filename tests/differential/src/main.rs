@@ -1,0 +1,133 @@
+//! Runs the archive and the reference side by side on made-up calls, and stops at the first difference.
+//!
+//!     differential            the comparison
+//!     differential faults     plants faults in the archive's answers, one after the other; each must be found
+//!
+//! SEED in the environment chooses other calls; TESTS=long does a hundred times as much; TELL=1 says of each fault how it was found.
+
+mod archive;
+mod faults;
+mod rounds;
+mod steps;
+
+use archive::{Archive, Calls};
+use faults::{Faulty, FAULTS};
+use rounds::{Amount, Rounds};
+use std::process::exit;
+use std::time::{Duration, Instant};
+use steps::{differs, script, shorten, Mismatch, Pair, Tally, NUMBERS};
+
+fn main() {
+    let seed = match std::env::var("SEED") {
+        Ok(text) => text.parse().expect("SEED is a number"),
+        Err(_) => 1,
+    };
+    let long = std::env::var("TESTS").is_ok_and(|tests| tests == "long");
+    match std::env::args().nth(1).as_deref() {
+        None => compare(seed, Amount(if long { 15_000 } else { 150 })),
+        Some("faults") => plant(seed),
+        Some(word) => {
+            eprintln!("differential: what is {word}?");
+            exit(2);
+        }
+    }
+}
+
+/// What a run met.
+struct Met {
+    tally: Tally,
+    still_images: u64,
+    no_images: u64,
+}
+
+fn run(tested: &mut dyn Calls, seed: u64, amount: Amount) -> (Met, Result<(), Box<Mismatch>>) {
+    let mut pair = Pair::new(tested);
+    let mut rounds = Rounds::new(&mut pair, seed);
+    let outcome = rounds.all(amount);
+    let (still_images, no_images) = (rounds.still_images, rounds.no_images);
+    let met = Met {
+        tally: pair.tally,
+        still_images,
+        no_images,
+    };
+    (met, outcome)
+}
+
+fn compare(seed: u64, amount: Amount) {
+    let start = Instant::now();
+    let mut archive = Archive::default();
+    let (met, outcome) = run(&mut archive, seed, amount);
+    if let Err(mismatch) = outcome {
+        let steps = shorten(&mut archive, mismatch.steps, Duration::from_secs(5));
+        let (calls, what) = (met.tally.calls(), mismatch.what);
+        eprintln!("differential: seed {seed}: after {calls} calls {what}");
+        tell(&script(&steps));
+        exit(1);
+    }
+    let missing = met.tally.missing();
+    if !missing.is_empty() {
+        eprintln!(
+            "differential: seed {seed}: never met: {}",
+            missing.join(", ")
+        );
+        exit(1);
+    }
+    if met.still_images == 0 || met.no_images == 0 {
+        eprintln!("differential: seed {seed}: changed tables were all images, or all none");
+        exit(1);
+    }
+    println!(
+        "differential: seed {seed}: {} calls of the archive answered and left what the reference did; every call met all its numbers; \
+         of changed tables {} were none and {} still some; {:.0} s",
+        met.tally.calls(),
+        met.no_images,
+        met.still_images,
+        start.elapsed().as_secs_f64()
+    );
+}
+
+/// The lines that replay a mismatch, in a file, and printed where they are not too many.
+fn tell(script: &str) {
+    let name = "build/mismatch.txt";
+    match std::fs::write(name, script) {
+        Ok(()) => eprintln!("differential: `build/vectors < {name}` replays it; the answers there are the reference's"),
+        Err(error) => eprintln!("differential: {name} cannot be written: {error}"),
+    }
+    if script.len() < 20_000 {
+        print!("{script}");
+    }
+}
+
+/// Each fault must be found, and the script of a mismatch must still show it.
+fn plant(seed: u64) {
+    let start = Instant::now();
+    let numbers: usize = NUMBERS.iter().map(|numbers| numbers.len()).sum();
+    assert_eq!(Tally::default().missing().len(), numbers);
+    let mut slowest = (0, "");
+    for (name, fault) in FAULTS {
+        let mut faulty = Faulty::new(fault);
+        let (met, outcome) = run(&mut faulty, seed, Amount(4));
+        let Err(mismatch) = outcome else {
+            eprintln!("differential: not found: {name}");
+            exit(1);
+        };
+        let calls = met.tally.calls() + 1;
+        let steps = shorten(&mut faulty, mismatch.steps, Duration::from_millis(100));
+        if differs(&mut faulty, &steps) != Some(steps.len() - 1) {
+            eprintln!("differential: found, but lost again when replayed: {name}");
+            exit(1);
+        }
+        if std::env::var_os("TELL").is_some() {
+            let (what, left) = (mismatch.what, steps.len());
+            println!("{name}: found after {calls} calls, {left} steps of them enough: {what}");
+        }
+        slowest = slowest.max((calls, name));
+    }
+    println!(
+        "differential: seed {seed}: {} planted faults, each found; the last after {} calls: {}; {:.0} s",
+        FAULTS.len(),
+        slowest.0,
+        slowest.1,
+        start.elapsed().as_secs_f64()
+    );
+}

@@ -1,0 +1,954 @@
+//! What is tried: edges of make, histories, damaged bytes, blocks in other places, chunks of other lists, long tables.
+
+use crate::steps::{Mismatch, Outcome, Pair, Step};
+use reference::calls::Reply;
+use reference::image::{held, image, place, table};
+use reference::lists::{chunks, lists, partitions, Chunk, Label, List, Orders, Quantities};
+use reference::samples::{
+    constant_seed, identity_seed, random_seed, some_quantities, zero_seed, Xorshift, EDGE_KEYS,
+};
+use reference::sizes::{Made, Seed, Sizes, BLOCK_HEAD, HEADER, NODE, P};
+
+/// How much is done: `make test` does 150.
+#[derive(Clone, Copy)]
+pub struct Amount(pub u32);
+
+pub struct Rounds<'p, 'a> {
+    pub pair: &'p mut Pair<'a>,
+    pub generator: Xorshift,
+    /// Changed tables that were still images, and that were none.
+    pub still_images: u64,
+    pub no_images: u64,
+    /// Which pair of γ and B comes next.
+    turn: u32,
+}
+
+impl<'p, 'a> Rounds<'p, 'a> {
+    pub fn new(pair: &'p mut Pair<'a>, start: u64) -> Rounds<'p, 'a> {
+        Rounds {
+            pair,
+            generator: Xorshift::new(start),
+            still_images: 0,
+            no_images: 0,
+            turn: 0,
+        }
+    }
+
+    pub fn all(&mut self, amount: Amount) -> Outcome {
+        self.makes()?;
+        for _ in 0..amount.0 {
+            self.histories(33)?;
+            self.every_edit()?;
+            for _ in 0..2 {
+                let (made, orders) = self.small_image(260);
+                self.every_byte(&made, &orders)?;
+                let (made, orders) = self.small_image(900);
+                self.other_blocks(&made, &orders)?;
+                self.other_lengths(&made, &orders)?;
+            }
+            for _ in 0..40 {
+                self.other_chunks()?;
+            }
+        }
+        self.long_tables(amount)
+    }
+}
+
+// ---- make --------------------------------------------------------------------
+
+impl Rounds<'_, '_> {
+    fn make(&mut self, sizes: &Sizes, seed: &[u8], length: usize) -> Result<Reply, Box<Mismatch>> {
+        let (sizes, seed) = (*sizes, seed.to_vec());
+        self.pair.take(Step::Make {
+            sizes,
+            seed,
+            length,
+        })
+    }
+
+    /// Sizes and seeds at and just beyond what is allowed.
+    fn makes(&mut self) -> Outcome {
+        let seed = identity_seed().bytes();
+        let good = sizes(2, 2, 2, 4);
+        let length = good.length();
+        self.pair.room(length + 100, 0x3c);
+        for seed_length in (0..=48).chain([80, 400]) {
+            let seed: Vec<u8> = seed.iter().copied().cycle().take(seed_length).collect();
+            self.make(&good, &seed, length)?;
+        }
+        for number in 0..10 {
+            for value in [0, 1, P - 1, P, P + 1, 1 << 31, u32::MAX] {
+                let mut seed = seed.clone();
+                seed[4 * number..4 * number + 4].copy_from_slice(&value.to_be_bytes());
+                for length in [length, length - 1] {
+                    self.make(&good, &seed, length)?;
+                }
+            }
+        }
+        for length in 0..=length + 100 {
+            self.make(&good, &seed, length)?;
+        }
+        for gamma in (0..70).chain([254, 255, 256, 257, 258, 1 << 16, u32::MAX]) {
+            for nodes in [0, 1, 2, 3, 31, 32, 33, 34, 256, 258, u32::MAX] {
+                let sizes = sizes(gamma, nodes, 2, 4);
+                self.pair.room(allowed_length(&sizes), 0xff);
+                self.make(&sizes, &seed, self.pair.bytes().len())?;
+            }
+        }
+        // β steps up just above each power of γ.
+        for gamma in 2..=64u32 {
+            for e in 0..=16 {
+                let power = u64::from(gamma).pow(e).min(70_000) as u32;
+                for orders in [power - 1, power, power + 1] {
+                    let beta = sizes(gamma, 2, orders, 0).beta();
+                    for blocks in [beta - 1, beta] {
+                        let sizes = sizes(gamma, 2, orders, blocks);
+                        self.pair.room(allowed_length(&sizes), 1);
+                        self.make(&sizes, &seed, self.pair.bytes().len())?;
+                    }
+                }
+            }
+        }
+        for (orders, blocks) in [
+            (65_535, 65_535),
+            (65_536, 65_535),
+            (65_535, 65_536),
+            (1, 65_537),
+            (65_537, 3),
+            (u32::MAX, 4),
+            (2, u32::MAX),
+        ] {
+            let sizes = sizes(64, 2, orders, blocks);
+            self.pair.room(allowed_length(&sizes), 1);
+            self.make(&sizes, &seed, self.pair.bytes().len())?;
+        }
+        Ok(())
+    }
+}
+
+/// The length of a table where the sizes are allowed, else a short one.
+fn allowed_length(sizes: &Sizes) -> usize {
+    if sizes.allowed() {
+        sizes.length()
+    } else {
+        149
+    }
+}
+
+// ---- made-up tables ----------------------------------------------------------
+
+pub fn sizes(gamma: u32, nodes: u32, orders: u32, blocks: u32) -> Sizes {
+    Sizes {
+        gamma,
+        nodes,
+        orders,
+        blocks,
+    }
+}
+
+impl Rounds<'_, '_> {
+    /// Hashes of every kind: spread, all in one place, all of one level, mostly of high levels.
+    fn seed(&mut self, gamma: u32) -> Seed {
+        let generator = &mut self.generator;
+        let random = random_seed(generator);
+        match generator.below(12) {
+            0 => zero_seed(),
+            1 => identity_seed(),
+            2 => Seed {
+                b: [generator.below(P), 0, 0, 0, 0],
+                ..random
+            },
+            3 => Seed {
+                a: [generator.below(P), 0, 0, 0, 0],
+                ..random
+            },
+            4 => constant_seed(
+                generator.pick(&[0, 1, gamma, P - 1]),
+                generator.pick(&[0, P - 1, P - 65_537]),
+            ),
+            5 => {
+                let step = u64::from(gamma).pow(generator.within(1, 3)) % u64::from(P);
+                Seed {
+                    a: [0, step as u32, 0, 0, 0],
+                    ..random
+                }
+            }
+            6 => Seed {
+                a: [P - 1; 5],
+                b: [P - 1; 5],
+            },
+            7 => Seed {
+                b: [0, 1, 0, 0, 0],
+                ..random
+            },
+            _ => random,
+        }
+    }
+
+    /// Some more keys than N, none twice: neighbours or far apart, often with both ends.
+    fn keys(&mut self, orders: u32) -> Vec<u32> {
+        let generator = &mut self.generator;
+        let highest = if generator.one_in(2) {
+            2 * orders + 8
+        } else {
+            P - 1
+        };
+        let mut keys: Vec<u32> = (0..orders + orders / 4 + 4)
+            .map(|_| generator.within(1, highest))
+            .collect();
+        if generator.one_in(2) {
+            keys.extend([1, P - 1]);
+        }
+        keys.sort_unstable();
+        keys.dedup();
+        generator.shuffle(&mut keys);
+        keys
+    }
+
+    /// Sizes with this γ, B and N, M from the least on; often so many blocks that the first N keys fill the table exactly.
+    fn made(&mut self, gamma: u32, nodes: u32, orders: u32, keys: &[u32]) -> Made {
+        let seed = self.seed(gamma);
+        let unbounded = sizes(gamma, nodes, orders, 65_535);
+        let beta = unbounded.beta();
+        let exact = {
+            let first = keys.iter().take(orders as usize);
+            let orders = first
+                .map(|&key| {
+                    (
+                        key,
+                        Quantities {
+                            total: 1,
+                            displayed: 0,
+                        },
+                    )
+                })
+                .collect();
+            chunk_count(
+                &Made {
+                    sizes: unbounded,
+                    seed,
+                },
+                &orders,
+            )
+        };
+        let generator = &mut self.generator;
+        let blocks = match generator.below(8) {
+            0 => beta,
+            1 => beta + generator.within(0, 3),
+            2 => generator.within(beta, exact.max(beta)),
+            3 => exact + 1,
+            4 => exact + generator.within(0, 2 * exact),
+            _ => exact,
+        };
+        Made {
+            sizes: Sizes {
+                blocks: blocks.clamp(beta, 65_535),
+                ..unbounded
+            },
+            seed,
+        }
+    }
+
+    /// A table of at most some bytes, and orders that fit into it.
+    fn small_image(&mut self, most: usize) -> (Made, Orders) {
+        loop {
+            let gamma = self.generator.pick(&[2, 2, 3, 4, 16, 64]);
+            let nodes = self.generator.pick(&[2, 2, 3, 4, 8]);
+            let orders = self.generator.pick(&[1, 2, 3, 4, 6, 9, 14]);
+            let keys = self.keys(orders);
+            let made = self.made(gamma, nodes, orders, &keys);
+            if made.sizes.length() > most {
+                continue;
+            }
+            let wanted = self.generator.within(0, orders) as usize;
+            let mut held = Orders::new();
+            for &key in keys.iter().take(wanted) {
+                let (total, displayed) = some_quantities(&mut self.generator);
+                held.insert(key, Quantities { total, displayed });
+                if chunk_count(&made, &held) > made.sizes.blocks {
+                    held.remove(&key);
+                }
+            }
+            return (made, held);
+        }
+    }
+}
+
+fn chunk_count(made: &Made, orders: &Orders) -> u32 {
+    chunks(made, &lists(made, orders)).len() as u32
+}
+
+// ---- histories ---------------------------------------------------------------
+
+impl Rounds<'_, '_> {
+    /// Histories for so many pairs of γ and B, which go through all pairs in turn.
+    fn histories(&mut self, pairs: u32) -> Outcome {
+        for _ in 0..pairs {
+            // 63 and 31 have no common divisor, so the steps meet all pairs.
+            let (gamma, nodes) = (2 + self.turn % 63, 2 + self.turn % 31);
+            self.turn += 1;
+            let orders = match self.generator.below(12) {
+                0 => gamma,
+                1 => gamma + 1,
+                2 => nodes + 1,
+                3 => self.generator.within(20, 120),
+                _ => self.generator.pick(&[1, 2, 3, 4, 5, 8, 13, 21]),
+            };
+            let keys = self.keys(orders);
+            let made = self.made(gamma, nodes, orders, &keys);
+            self.history(&made, &keys, 150)?;
+        }
+        Ok(())
+    }
+
+    fn history(&mut self, made: &Made, keys: &[u32], steps: u32) -> Outcome {
+        let length = made.sizes.length();
+        let extra = self.generator.pick(&[0, 1, 12, made.sizes.block_length()]);
+        self.pair.room(length + extra, self.generator.draw() as u8);
+        self.pair.take(Step::Check { length })?;
+        self.make(&made.sizes, &made.seed.bytes(), length)?;
+        for &key in keys.iter().take(40 + steps as usize) {
+            let (total, displayed) = some_quantities(&mut self.generator);
+            self.pair.take(Step::Put {
+                length,
+                key,
+                total,
+                displayed,
+            })?;
+        }
+        for step in 0..steps {
+            self.random_step(length, keys)?;
+            if step % 16 == 15 {
+                self.damage(made, keys)?;
+            }
+        }
+        self.another_way(made, length + extra)
+    }
+
+    /// A key of the pool, or one at the edges, or any number.
+    fn key(&mut self, keys: &[u32]) -> u32 {
+        let generator = &mut self.generator;
+        match generator.below(14) {
+            0 => generator.pick(&EDGE_KEYS),
+            1 => generator.draw(),
+            2 => generator
+                .pick(keys)
+                .wrapping_add(generator.pick(&[1, u32::MAX])),
+            _ => generator.pick(keys),
+        }
+    }
+
+    /// One call, whatever it answers.
+    fn random_step(&mut self, length: usize, keys: &[u32]) -> Outcome {
+        let lent = if self.generator.one_in(30) {
+            let odd = [0, 1, 52, 53, length - 1, length + 1, length + 12];
+            self.generator.pick(&odd).min(self.pair.bytes().len())
+        } else {
+            length
+        };
+        let length = lent;
+        let key = self.key(keys);
+        match self.generator.below(20) {
+            0..=6 => {
+                let (mut total, mut displayed) = some_quantities(&mut self.generator);
+                if self.generator.one_in(12) {
+                    (total, displayed) = self.generator.pick(&[
+                        (0, 0),
+                        (0, 1),
+                        (100, 101),
+                        (1, u32::MAX),
+                        (u32::MAX - 1, u32::MAX),
+                    ]);
+                }
+                self.pair.take(Step::Put {
+                    length,
+                    key,
+                    total,
+                    displayed,
+                })?;
+            }
+            7..=11 => {
+                self.pair.take(Step::Cancel { length, key })?;
+            }
+            12 => {
+                self.pair.take(Step::Check { length })?;
+            }
+            _ => self.reading(length, keys)?,
+        }
+        Ok(())
+    }
+
+    /// One lookup, span or seek.
+    fn reading(&mut self, length: usize, keys: &[u32]) -> Outcome {
+        let (one, two) = (self.key(keys), self.key(keys));
+        let (lo, hi) = match self.generator.below(12) {
+            0 => (one, two),
+            1 => (1, P - 1),
+            _ => (one.min(two), one.max(two)),
+        };
+        let step = match self.generator.below(3) {
+            0 => Step::Lookup { length, key: one },
+            1 => {
+                let held = held(&self.pair.bytes()[..length]).map_or(0, |(_, orders)| {
+                    orders.keys().filter(|&&key| lo <= key && key <= hi).count()
+                });
+                let needed = NODE * held;
+                let room = match self.generator.below(6) {
+                    0 => 0,
+                    1 => needed.saturating_sub(1),
+                    2 => needed.saturating_sub(NODE),
+                    3 => needed + self.generator.within(1, 30) as usize,
+                    _ => needed,
+                };
+                Step::Span {
+                    length,
+                    lo,
+                    hi,
+                    room,
+                }
+            }
+            _ => {
+                let r = self.generator.pick(&[
+                    0,
+                    1,
+                    50,
+                    1_000_000_000,
+                    4_000_000_000,
+                    u32::MAX - 1,
+                    u32::MAX,
+                ]);
+                Step::Seek { length, lo, hi, r }
+            }
+        };
+        self.pair.take(step)?;
+        Ok(())
+    }
+
+    /// The held orders put into a new table in another order, with others among them that are cancelled again: the bytes must be equal.
+    fn another_way(&mut self, made: &Made, size: usize) -> Outcome {
+        let length = made.sizes.length();
+        let Some((_, orders)) = held(&self.pair.bytes()[..length]) else {
+            return Err(self.pair.mismatch("a history ended without a table".into()));
+        };
+        let left = self.pair.tested_bytes()[..length].to_vec();
+        self.pair.room(size, self.generator.draw() as u8);
+        self.make(&made.sizes, &made.seed.bytes(), length)?;
+        let mut others: Vec<u32> = (0..4).map(|_| self.generator.within(1, P - 1)).collect();
+        others.extend(orders.keys().map(|key| key + 1));
+        others.retain(|key| !orders.contains_key(key) && (1..P).contains(key));
+        self.generator.shuffle(&mut others);
+        others.truncate(orders.len() / 2 + 1);
+        let mut wanted: Vec<u32> = orders.keys().copied().collect();
+        self.generator.shuffle(&mut wanted);
+        let mut mixed = [others.as_slice(), wanted.as_slice()].concat();
+        self.generator.shuffle(&mut mixed);
+        for &key in &mixed {
+            let (total, displayed) = some_quantities(&mut self.generator);
+            self.pair.take(Step::Put {
+                length,
+                key,
+                total,
+                displayed,
+            })?;
+        }
+        for &key in &others {
+            self.pair.take(Step::Cancel { length, key })?;
+        }
+        // Each with its own quantities; those that the others kept out come in now.
+        for key in wanted {
+            let Quantities { total, displayed } = orders[&key];
+            let reply = self.pair.take(Step::Put {
+                length,
+                key,
+                total,
+                displayed,
+            })?;
+            if reply.number != 0 {
+                return Err(self
+                    .pair
+                    .mismatch("an order of a set that fits was turned down".into()));
+            }
+        }
+        if self.pair.tested_bytes()[..length] != left {
+            return Err(self
+                .pair
+                .mismatch("two histories to one set of orders left different bytes".into()));
+        }
+        Ok(())
+    }
+}
+
+// ---- every edit of every small set ---------------------------------------------
+
+impl Rounds<'_, '_> {
+    /// Four keys, each absent or with one of two pairs of quantities: from every such set that fits, every put and cancel of these keys.
+    fn every_edit(&mut self) -> Outcome {
+        let gamma = self.generator.pick(&[2, 2, 2, 3, 4, 8]);
+        let nodes = self.generator.pick(&[2, 2, 3, 4]);
+        let most = self.generator.within(1, 4);
+        let mut keys = self.keys(4);
+        keys.truncate(4);
+        let made = self.made(gamma, nodes, most, &keys);
+        let length = made.sizes.length();
+        let quantities = [(1, 0), (u32::MAX, u32::MAX)];
+        self.pair.room(length, 0);
+        for set in 0..3usize.pow(keys.len() as u32) {
+            let mut orders = Orders::new();
+            for (place, &key) in keys.iter().enumerate() {
+                let choice = set / 3usize.pow(place as u32) % 3;
+                if choice > 0 {
+                    let (total, displayed) = quantities[choice - 1];
+                    orders.insert(key, Quantities { total, displayed });
+                }
+            }
+            let Some(bytes) = image(&made, &orders).filter(|_| orders.len() <= most as usize)
+            else {
+                continue;
+            };
+            self.pair.set(0, &bytes);
+            self.pair.take(Step::Span {
+                length,
+                lo: 1,
+                hi: P - 1,
+                room: NODE * orders.len(),
+            })?;
+            for &key in &keys {
+                self.pair.take(Step::Lookup { length, key })?;
+                for (total, displayed) in quantities {
+                    let reply = self.pair.take(Step::Put {
+                        length,
+                        key,
+                        total,
+                        displayed,
+                    })?;
+                    if reply.number == 0 {
+                        self.pair.set(0, &bytes);
+                    }
+                }
+                if self.pair.take(Step::Cancel { length, key })?.number == 0 {
+                    self.pair.set(0, &bytes);
+                }
+            }
+        }
+        Ok(())
+    }
+}
+
+// ---- damage ------------------------------------------------------------------
+
+impl Rounds<'_, '_> {
+    /// Asks a changed table; now and then by every call.
+    fn ask(&mut self, length: usize, keys: &[u32]) -> Outcome {
+        let image = self.pair.take(Step::Check { length })?.number == 0;
+        *if image {
+            &mut self.still_images
+        } else {
+            &mut self.no_images
+        } += 1;
+        if self.generator.one_in(12) {
+            let key = self.key(keys);
+            self.pair.take(Step::Put {
+                length,
+                key,
+                total: 7,
+                displayed: 3,
+            })?;
+            self.pair.take(Step::Cancel { length, key })?;
+            self.reading(length, keys)?;
+        }
+        Ok(())
+    }
+
+    /// Changes the bytes from some place on, asks, and changes them back.
+    fn ask_changed(&mut self, length: usize, keys: &[u32], place: usize, bytes: &[u8]) -> Outcome {
+        let before = self.pair.bytes().to_vec();
+        if before[place..place + bytes.len()] == *bytes {
+            return Ok(());
+        }
+        self.pair.set(place, bytes);
+        self.ask(length, keys)?;
+        self.pair.set(0, &before);
+        Ok(())
+    }
+
+    /// One change of a kind that somebody who edits bytes by hand would make.
+    fn damage(&mut self, made: &Made, keys: &[u32]) -> Outcome {
+        let sizes = &made.sizes;
+        let (length, width) = (sizes.length(), sizes.block_length());
+        let bytes = self.pair.bytes().to_vec();
+        let block = HEADER + self.generator.below(sizes.blocks) as usize * width;
+        let count = usize::from(bytes[block + 1]);
+        let (place, bytes) = match self.generator.below(8) {
+            0 => {
+                let place = self.generator.below(length as u32) as usize;
+                (place, vec![bytes[place] ^ 1 << self.generator.below(8)])
+            }
+            1 => {
+                let place = self.generator.below(HEADER as u32) as usize;
+                (
+                    place,
+                    vec![bytes[place].wrapping_add(self.generator.pick(&[1, 255]))],
+                )
+            }
+            // A number in some node.
+            2 => {
+                let number = self.generator.below(3 * sizes.nodes) as usize;
+                let value: u32 = self.generator.pick(&[0, 1, P, u32::MAX]);
+                (
+                    block + BLOCK_HEAD + 4 * number,
+                    value.to_be_bytes().to_vec(),
+                )
+            }
+            // A tail behind the count.
+            3 if count < sizes.nodes as usize => {
+                let place = block + BLOCK_HEAD + NODE * count;
+                let key = self.generator.pick(keys);
+                (
+                    place,
+                    [key, 5, 5].iter().flat_map(|n| n.to_be_bytes()).collect(),
+                )
+            }
+            // The count, with or without the node.
+            4 => (
+                block + 1,
+                vec![bytes[block + 1].wrapping_add(self.generator.pick(&[1, 255]))],
+            ),
+            5 => (block + 3, vec![bytes[block + 3].wrapping_add(1)]),
+            // The number of orders.
+            6 => (
+                12,
+                vec![bytes[12].wrapping_add(self.generator.pick(&[1, 255]))],
+            ),
+            // A block over the next.
+            _ => {
+                let next = if block + width < length {
+                    block + width
+                } else {
+                    HEADER
+                };
+                (next, bytes[block..block + width].to_vec())
+            }
+        };
+        self.ask_changed(length, keys, place, &bytes)
+    }
+
+    /// Stands a table of these orders in a new store.
+    fn stand(&mut self, made: &Made, orders: &Orders) -> Vec<u32> {
+        let bytes = image(made, orders).expect("they fit");
+        self.pair.room(bytes.len(), 0);
+        self.pair.set(0, &bytes);
+        orders.keys().copied().chain([1, 2, 3, P - 1]).collect()
+    }
+
+    /// Every byte of a table changed to several values.
+    fn every_byte(&mut self, made: &Made, orders: &Orders) -> Outcome {
+        let keys = self.stand(made, orders);
+        let bytes = self.pair.bytes().to_vec();
+        self.pair.take(Step::Check {
+            length: bytes.len(),
+        })?;
+        for place in 0..bytes.len() {
+            let old = bytes[place];
+            let mut values = vec![
+                0,
+                1,
+                0xff,
+                old ^ 1,
+                old ^ 0x80,
+                old.wrapping_add(1),
+                old.wrapping_sub(1),
+                old << 1,
+                old ^ 0xff,
+            ];
+            values.sort_unstable();
+            values.dedup();
+            for value in values {
+                self.ask_changed(bytes.len(), &keys, place, &[value])?;
+            }
+        }
+        Ok(())
+    }
+
+    /// Blocks exchanged, moved, doubled, taken out, turned round; tails behind the count.
+    fn other_blocks(&mut self, made: &Made, orders: &Orders) -> Outcome {
+        let keys = self.stand(made, orders);
+        let (length, width) = (made.sizes.length(), made.sizes.block_length());
+        let bytes = self.pair.bytes().to_vec();
+        let blocks: Vec<&[u8]> = bytes[HEADER..].chunks_exact(width).collect();
+        let empty = vec![0; width];
+        for one in 0..blocks.len() {
+            for two in 0..blocks.len() {
+                if one == two
+                    || blocks.len() > 12 && !self.generator.one_in(blocks.len() as u32 / 6)
+                {
+                    continue;
+                }
+                let mut exchanged = blocks.clone();
+                exchanged.swap(one, two);
+                let mut doubled = blocks.clone();
+                doubled[two] = blocks[one];
+                let mut moved = doubled.clone();
+                moved[one] = &empty;
+                for changed in [exchanged, doubled, moved] {
+                    self.ask_changed(length, &keys, HEADER, &changed.concat())?;
+                }
+            }
+        }
+        for turn in 0..blocks.len() {
+            let mut turned = blocks.clone();
+            turned.rotate_left(turn);
+            self.ask_changed(length, &keys, HEADER, &turned.concat())?;
+        }
+        for (block, own) in blocks.iter().enumerate() {
+            let at = HEADER + block * width;
+            self.ask_changed(length, &keys, at, &empty)?;
+            let count = usize::from(bytes[at + 1]);
+            for node in count..made.sizes.nodes as usize {
+                let place = at + BLOCK_HEAD + NODE * node;
+                for number in 0..3 {
+                    self.ask_changed(length, &keys, place + 4 * number + 3, &[1])?;
+                }
+                let key = self.generator.pick(&keys);
+                let tail: Vec<u8> = [key, 10, 10].iter().flat_map(|n| n.to_be_bytes()).collect();
+                self.ask_changed(length, &keys, place, &tail)?;
+            }
+            // The last node cut out, its bytes kept; the first cut out, the others pulled up.
+            if count > 0 {
+                self.ask_changed(length, &keys, at + 1, &[count as u8 - 1])?;
+                let mut shorter = own.to_vec();
+                shorter[1] -= 1;
+                shorter.drain(BLOCK_HEAD..BLOCK_HEAD + NODE);
+                shorter.resize(width, 0);
+                self.ask_changed(length, &keys, at, &shorter)?;
+            }
+        }
+        Ok(())
+    }
+
+    /// The same bytes lent shorter and longer; the sizes in the header changed so that the length is right again.
+    fn other_lengths(&mut self, made: &Made, orders: &Orders) -> Outcome {
+        let keys = self.stand(made, orders);
+        let bytes = self.pair.bytes().to_vec();
+        let width = made.sizes.block_length();
+        self.pair.room(bytes.len() + 2 * width, 0);
+        self.pair.set(0, &bytes);
+        let near = bytes.len().saturating_sub(width + 2)..=bytes.len() + width + 2;
+        for length in (0..=60).chain(near) {
+            if length <= self.pair.bytes().len() {
+                self.ask(length, &keys)?;
+            }
+        }
+        for (blocks, gamma, most) in [
+            (1, 0, 0),
+            (-1, 0, 0),
+            (2, 0, 0),
+            (0, 1, 0),
+            (0, -1, 0),
+            (0, 0, 1),
+            (0, 0, -1),
+            (1, 1, 1),
+        ] {
+            let changed = Sizes {
+                gamma: made.sizes.gamma.wrapping_add_signed(gamma),
+                blocks: made.sizes.blocks.wrapping_add_signed(blocks),
+                orders: made.sizes.orders.wrapping_add_signed(most),
+                ..made.sizes
+            };
+            let length = changed.length();
+            let mut header = bytes[..HEADER].to_vec();
+            header[1..5].copy_from_slice(&(length as u32).to_be_bytes());
+            header[5] = changed.gamma as u8;
+            header[7..9].copy_from_slice(&(changed.orders as u16).to_be_bytes());
+            header[9..11].copy_from_slice(&(changed.blocks as u16).to_be_bytes());
+            self.ask_changed(length, &keys, 0, &header)?;
+        }
+        Ok(())
+    }
+}
+
+// ---- chunks in other places, and other chunks ---------------------------------
+
+impl Rounds<'_, '_> {
+    /// Tables that obey all rules but one: chunks placed as they came, at random, cut unevenly, or of lists with other levels.
+    fn other_chunks(&mut self) -> Outcome {
+        let (made, orders) = self.small_image(2000);
+        let own_lists = lists(&made, &orders);
+        let own = chunks(&made, &own_lists);
+        let bytes = match self.generator.below(6) {
+            // First come, first served.
+            0 | 1 => {
+                let mut came = own.clone();
+                self.generator.shuffle(&mut came);
+                table(&made, orders.len(), &place(&made, &came))
+            }
+            // Anywhere.
+            2 => {
+                let mut arrangement = vec![None; made.sizes.blocks as usize];
+                for (block, chunk) in own.iter().enumerate() {
+                    arrangement[block] = Some(*chunk);
+                }
+                self.generator.shuffle(&mut arrangement);
+                table(&made, orders.len(), &arrangement)
+            }
+            // Cut elsewhere than after B nodes.
+            3 => {
+                let cut = self.cut_unevenly(&made, &own_lists);
+                if cut.len() > made.sizes.blocks as usize {
+                    return Ok(());
+                }
+                table(&made, orders.len(), &place(&made, &cut))
+            }
+            // Levels by another hash, places by this one.
+            4 => {
+                let other = Made {
+                    seed: Seed {
+                        a: self.seed(made.sizes.gamma).a,
+                        ..made.seed
+                    },
+                    ..made
+                };
+                let other_lists = lists(&other, &orders);
+                let chunks = chunks(&other, &other_lists);
+                if chunks.len() > made.sizes.blocks as usize {
+                    return Ok(());
+                }
+                table(&made, orders.len(), &place(&made, &chunks))
+            }
+            // One chunk missing, or the number of orders another.
+            _ => {
+                let mut fewer = own.clone();
+                let mut held = orders.len();
+                if self.generator.one_in(2) {
+                    fewer.remove(self.generator.below(own.len() as u32) as usize);
+                }
+                if self.generator.one_in(2) {
+                    held = self.generator.below(made.sizes.orders + 2) as usize;
+                }
+                table(&made, held, &place(&made, &fewer))
+            }
+        };
+        self.pair.room(bytes.len(), 0);
+        self.pair.set(0, &bytes);
+        let keys: Vec<u32> = orders.keys().copied().chain([1, P - 1]).collect();
+        self.ask(bytes.len(), &keys)?;
+        Ok(())
+    }
+
+    /// Chunks in rising label order, each of 1 to B nodes.
+    fn cut_unevenly<'l>(&mut self, made: &Made, lists: &'l [List]) -> Vec<Chunk<'l>> {
+        let mut cut = Vec::new();
+        for (level, list) in (1..).zip(lists) {
+            for partition in partitions(list, level) {
+                let (mut rest, mut chunk_number) = (partition, 0);
+                while !rest.is_empty() {
+                    let most = made.sizes.nodes.min(rest.len() as u32);
+                    let (nodes, others) = rest.split_at(self.generator.within(1, most) as usize);
+                    let label = Label {
+                        level,
+                        first_key: partition[0].key,
+                        chunk_number,
+                    };
+                    cut.push(Chunk { label, nodes });
+                    (rest, chunk_number) = (others, chunk_number + 1);
+                }
+            }
+        }
+        cut
+    }
+}
+
+// ---- long tables ---------------------------------------------------------------
+
+impl Rounds<'_, '_> {
+    /// Tables up to the greatest sizes, filled by the reference, with some calls on each.
+    fn long_tables(&mut self, amount: Amount) -> Outcome {
+        let random = random_seed(&mut self.generator);
+        let flat = Seed {
+            a: [1, 0, 0, 0, 0],
+            ..random
+        };
+        let crowded = Seed {
+            b: [P - 65_540, 0, 0, 0, 0],
+            ..random
+        };
+        let all = [
+            (sizes(16, 16, 2_000, 400), random, 1_900),
+            (sizes(2, 2, 3_000, 0), random, 3_000),
+            (sizes(64, 32, 5_000, 0), flat, 5_000),
+            (sizes(16, 8, 3_000, 0), crowded, 3_000),
+            (sizes(3, 2, 300, 0), zero_seed(), 300),
+            (sizes(16, 16, 65_535, 20_000), random, 60_000),
+            (sizes(2, 3, 65_535, 65_535), identity_seed(), 20_000),
+            (sizes(64, 32, 65_535, 65_535), random, 65_535),
+            (sizes(64, 2, 65_535, 65_535), flat, 65_535),
+        ];
+        let tried = if amount.0 >= 10 { all.len() } else { 5 };
+        for (sizes, seed, held) in all.into_iter().take(tried) {
+            self.long_table(sizes, seed, held)?;
+        }
+        Ok(())
+    }
+
+    /// M = 0 asks for exactly as many blocks as there are chunks.
+    fn long_table(&mut self, sizes: Sizes, seed: Seed, held: usize) -> Outcome {
+        let mut orders = Orders::new();
+        while orders.len() < held {
+            let key = self.generator.within(1, P - 1);
+            let (total, displayed) = some_quantities(&mut self.generator);
+            orders.insert(key, Quantities { total, displayed });
+        }
+        let unbounded = Made {
+            sizes: Sizes {
+                blocks: 65_535,
+                ..sizes
+            },
+            seed,
+        };
+        let blocks = if sizes.blocks == 0 {
+            chunk_count(&unbounded, &orders)
+        } else {
+            sizes.blocks
+        };
+        let made = Made {
+            sizes: Sizes { blocks, ..sizes },
+            seed,
+        };
+        let bytes = image(&made, &orders).expect("they fit");
+        let keys: Vec<u32> = orders.keys().copied().collect();
+        let length = bytes.len();
+        self.pair.room(length, 0xaa);
+        self.make(&made.sizes, &made.seed.bytes(), length)?;
+        self.pair.set(HEADER, &bytes[HEADER..]);
+        self.pair.set(11, &bytes[11..13]);
+        self.pair.take(Step::Check { length })?;
+        self.pair.take(Step::Span {
+            length,
+            lo: 1,
+            hi: P - 1,
+            room: NODE * held,
+        })?;
+        let steps = if length > 1_000_000 { 8 } else { 40 };
+        for _ in 0..steps {
+            self.random_step(length, &keys)?;
+        }
+        // Out and in again: every byte as before.
+        let before = self.pair.tested_bytes().to_vec();
+        let key = self.generator.pick(&keys);
+        let found = self.pair.take(Step::Lookup { length, key })?;
+        self.pair.take(Step::Cancel { length, key })?;
+        if found.number == 0 {
+            self.pair.take(Step::Put {
+                length,
+                key,
+                total: found.total,
+                displayed: found.displayed,
+            })?;
+            if self.pair.tested_bytes() != before {
+                return Err(self
+                    .pair
+                    .mismatch("an order out and in again changed the bytes".into()));
+            }
+        }
+        Ok(())
+    }
+}

@@ -1,0 +1,469 @@
+//! Steps taken on both sides, and their comparison after each.
+
+use crate::archive::Calls;
+use reference::calls::{self, Reply};
+use reference::image::held;
+use reference::samples::fnv_1a;
+use reference::sizes::Sizes;
+use std::fmt::Write;
+use std::time::{Duration, Instant};
+
+/// A step on a store of bytes, as the reference's `vectors` describes them. A call is lent the first `length` bytes.
+#[derive(Clone, Debug)]
+pub enum Step {
+    Room {
+        size: usize,
+        byte: u8,
+    },
+    Set {
+        place: usize,
+        bytes: Vec<u8>,
+    },
+    Make {
+        sizes: Sizes,
+        seed: Vec<u8>,
+        length: usize,
+    },
+    Check {
+        length: usize,
+    },
+    Put {
+        length: usize,
+        key: u32,
+        total: u32,
+        displayed: u32,
+    },
+    Cancel {
+        length: usize,
+        key: u32,
+    },
+    Lookup {
+        length: usize,
+        key: u32,
+    },
+    Span {
+        length: usize,
+        lo: u32,
+        hi: u32,
+        room: usize,
+    },
+    Seek {
+        length: usize,
+        lo: u32,
+        hi: u32,
+        r: u32,
+    },
+}
+
+/// Names of the calls, in the order of the tally.
+pub const CALLS: [&str; 7] = ["make", "check", "put", "cancel", "lookup", "span", "seek"];
+
+/// The numbers that each call can answer.
+pub const NUMBERS: [&[usize]; 7] = [
+    &[0, 1, 2, 3],
+    &[0, 4],
+    &[0, 4, 5, 6, 7, 8],
+    &[0, 4, 5, 9],
+    &[0, 4, 5, 9],
+    &[0, 4, 5, 10, 11],
+    &[0, 4, 5, 10, 12],
+];
+
+/// How often each call answered each number.
+#[derive(Clone, Default)]
+pub struct Tally(pub [[u64; 13]; 7]);
+
+impl Tally {
+    pub fn calls(&self) -> u64 {
+        self.0.iter().flatten().sum()
+    }
+
+    /// Calls and numbers that were never met.
+    pub fn missing(&self) -> Vec<String> {
+        let met = |call: usize, number: usize| self.0[call][number] > 0;
+        let all = (0..7).flat_map(|call| NUMBERS[call].iter().map(move |&number| (call, number)));
+        all.filter(|&(call, number)| !met(call, number))
+            .map(|(call, number)| format!("{} {number}", CALLS[call]))
+            .collect()
+    }
+}
+
+/// The two sides differ after the last of these steps.
+#[derive(Debug)]
+pub struct Mismatch {
+    pub what: String,
+    pub steps: Vec<Step>,
+}
+
+pub type Outcome = Result<(), Box<Mismatch>>;
+
+/// Bytes before and behind what is lent, which nobody may touch.
+const MARGIN: usize = 64;
+const UNTOUCHED: u8 = 0xc7;
+
+/// A buffer with margins.
+struct Fenced {
+    bytes: Vec<u8>,
+    front: usize,
+}
+
+impl Fenced {
+    /// The margin before is between one and eight bytes longer, so that buffers start at every remainder of 8.
+    fn new(content: &[u8], shift: usize) -> Fenced {
+        let front = MARGIN + 1 + shift % 8;
+        let mut bytes = vec![UNTOUCHED; front];
+        bytes.extend(content);
+        bytes.resize(bytes.len() + MARGIN, UNTOUCHED);
+        Fenced { bytes, front }
+    }
+
+    fn content(&self) -> &[u8] {
+        &self.bytes[self.front..self.bytes.len() - MARGIN]
+    }
+
+    fn lent(&mut self, length: usize) -> &mut [u8] {
+        &mut self.bytes[self.front..self.front + length]
+    }
+
+    fn whole(&self) -> bool {
+        let margins = self.bytes[..self.front]
+            .iter()
+            .chain(&self.bytes[self.bytes.len() - MARGIN..]);
+        margins.into_iter().all(|&byte| byte == UNTOUCHED)
+    }
+}
+
+/// Both sides: the tested one with its store, the reference with its own.
+pub struct Pair<'a> {
+    tested: &'a mut dyn Calls,
+    store: Fenced,
+    expected: Vec<u8>,
+    steps: Vec<Step>,
+    pub tally: Tally,
+}
+
+impl<'a> Pair<'a> {
+    pub fn new(tested: &'a mut dyn Calls) -> Pair<'a> {
+        Pair {
+            tested,
+            store: Fenced::new(&[], 0),
+            expected: Vec::new(),
+            steps: Vec::new(),
+            tally: Tally::default(),
+        }
+    }
+
+    /// The store, the same on both sides.
+    pub fn bytes(&self) -> &[u8] {
+        &self.expected
+    }
+
+    /// What the tested side has in its store.
+    pub fn tested_bytes(&self) -> &[u8] {
+        self.store.content()
+    }
+
+    pub fn room(&mut self, size: usize, byte: u8) {
+        self.steps.clear();
+        self.take(Step::Room { size, byte })
+            .expect("nothing is called");
+    }
+
+    pub fn set(&mut self, place: usize, bytes: &[u8]) {
+        let bytes = bytes.to_vec();
+        self.take(Step::Set { place, bytes })
+            .expect("nothing is called");
+    }
+
+    pub fn mismatch(&self, what: String) -> Box<Mismatch> {
+        let steps = self.steps.clone();
+        Box::new(Mismatch { what, steps })
+    }
+
+    /// Takes a step on both sides and compares every part of the answers and every byte.
+    pub fn take(&mut self, step: Step) -> Result<Reply, Box<Mismatch>> {
+        self.steps.push(step);
+        let step = self.steps.last().expect("it was pushed");
+        match self.compare(&step.clone()) {
+            Ok(reply) => Ok(reply),
+            Err(what) => Err(self.mismatch(what)),
+        }
+    }
+
+    fn compare(&mut self, step: &Step) -> Result<Reply, String> {
+        let (call, found, wanted, outputs);
+        match *step {
+            Step::Room { size, byte } => {
+                self.tested.restart();
+                self.store = Fenced::new(&vec![byte; size], usize::from(byte));
+                self.expected = vec![byte; size];
+                return Ok(Reply::done());
+            }
+            Step::Set { place, ref bytes } => {
+                self.store.lent(place + bytes.len())[place..].copy_from_slice(bytes);
+                self.expected[place..place + bytes.len()].copy_from_slice(bytes);
+                return Ok(Reply::done());
+            }
+            Step::Make {
+                ref sizes,
+                ref seed,
+                length,
+            } => {
+                let mut lent = Fenced::new(seed, length);
+                found = self
+                    .tested
+                    .make(self.store.lent(length), sizes, lent.lent(seed.len()));
+                if !lent.whole() || lent.content() != seed {
+                    return Err("make changed its seed or bytes around it".into());
+                }
+                (call, outputs) = (0, None);
+            }
+            Step::Check { length } => {
+                found = self.tested.check(self.store.lent(length));
+                (call, outputs) = (1, None);
+            }
+            Step::Put {
+                length,
+                key,
+                total,
+                displayed,
+            } => {
+                let table = self.store.lent(length);
+                found = self.tested.put(table, key, total, displayed);
+                (call, outputs) = (2, None);
+            }
+            Step::Cancel { length, key } => {
+                found = self.tested.cancel(self.store.lent(length), key);
+                (call, outputs) = (3, None);
+            }
+            Step::Lookup { length, key } => {
+                found = self.tested.lookup(self.store.lent(length), key);
+                (call, outputs) = (4, None);
+            }
+            Step::Span {
+                length,
+                lo,
+                hi,
+                room,
+            } => {
+                let mut lent = Fenced::new(&before(room), room + length);
+                let table = self.store.lent(length);
+                found = self.tested.span(table, lo, hi, lent.lent(room));
+                (call, outputs) = (5, Some(lent));
+            }
+            Step::Seek { length, lo, hi, r } => {
+                found = self.tested.seek(self.store.lent(length), lo, hi, r);
+                (call, outputs) = (6, None);
+            }
+        }
+        let expected_output;
+        (wanted, expected_output) = on_reference(&mut self.expected, step);
+        let name = CALLS[call];
+        let seeks = matches!(step, Step::Seek { .. }) && wanted.number == 0;
+        let right = if seeks {
+            fits(&self.expected, step, &found)
+        } else {
+            found == wanted
+        };
+        if !right {
+            return Err(format!("{name} answered {found:?}, not {wanted:?}"));
+        }
+        self.tally.0[call][found.number as usize] += 1;
+        if let Some(place) = first_difference(self.store.content(), &self.expected) {
+            let (found, wanted) = (self.store.content()[place], self.expected[place]);
+            return Err(format!(
+                "{name} left {found} in byte {place} of the store, not {wanted}"
+            ));
+        }
+        if !self.store.whole() {
+            return Err(format!("{name} wrote outside the store"));
+        }
+        if let Some(lent) = outputs {
+            if let Some(place) = first_difference(lent.content(), &expected_output) {
+                let (found, wanted) = (lent.content()[place], expected_output[place]);
+                return Err(format!(
+                    "{name} left {found} in byte {place} of the output, not {wanted}"
+                ));
+            }
+            if !lent.whole() {
+                return Err(format!("{name} wrote outside the output"));
+            }
+        }
+        Ok(found)
+    }
+}
+
+fn first_difference(one: &[u8], two: &[u8]) -> Option<usize> {
+    if one == two {
+        return None;
+    }
+    let differs = one.iter().zip(two).position(|(a, b)| a != b);
+    Some(differs.unwrap_or(one.len().min(two.len())))
+}
+
+/// An output before the call.
+fn before(room: usize) -> Vec<u8> {
+    (0..room).map(|i| (i % 251) as u8).collect()
+}
+
+/// Whether a seek's answer is one that document 01 allows: "some such order", with its own quantities.
+fn fits(store: &[u8], step: &Step, found: &Reply) -> bool {
+    let Step::Seek { length, lo, hi, r } = *step else {
+        return false;
+    };
+    let Some((_, orders)) = held(&store[..length]) else {
+        return false;
+    };
+    let order = orders.get(&found.key);
+    order.is_some_and(|order| {
+        *found == Reply::order(found.key, order)
+            && (lo..=hi).contains(&found.key)
+            && order.total - order.displayed >= r
+    })
+}
+
+/// The reference's answer, and the whole output of a span.
+fn on_reference(store: &mut [u8], step: &Step) -> (Reply, Vec<u8>) {
+    let reply = match *step {
+        Step::Room { .. } | Step::Set { .. } => Reply::done(),
+        Step::Make {
+            ref sizes,
+            ref seed,
+            length,
+        } => calls::make(
+            sizes.gamma,
+            sizes.nodes,
+            sizes.orders,
+            sizes.blocks,
+            seed,
+            &mut store[..length],
+        ),
+        Step::Check { length } => calls::check(&store[..length]),
+        Step::Put {
+            length,
+            key,
+            total,
+            displayed,
+        } => calls::put(&mut store[..length], key, total, displayed),
+        Step::Cancel { length, key } => calls::cancel(&mut store[..length], key),
+        Step::Lookup { length, key } => calls::lookup(&store[..length], key),
+        Step::Span {
+            length,
+            lo,
+            hi,
+            room,
+        } => {
+            let mut output = before(room);
+            let reply = calls::span(&store[..length], lo, hi, &mut output);
+            return (reply, output);
+        }
+        Step::Seek { length, lo, hi, r } => calls::seek(&store[..length], lo, hi, r),
+    };
+    (reply, Vec::new())
+}
+
+// ---- a script that replays a mismatch ----------------------------------------
+
+/// Leaves out steps as long as the two sides still differ, for so long at most.
+pub fn shorten(tested: &mut dyn Calls, mut steps: Vec<Step>, time: Duration) -> Vec<Step> {
+    let end = Instant::now() + time;
+    let mut width = steps.len() / 2;
+    while width > 0 {
+        let mut from = 1;
+        while from + width < steps.len() && Instant::now() < end {
+            let mut fewer = steps.clone();
+            fewer.drain(from..from + width);
+            match differs(tested, &fewer) {
+                Some(last) => {
+                    fewer.truncate(last + 1);
+                    steps = fewer;
+                }
+                None => from += width,
+            }
+        }
+        width /= 2;
+    }
+    steps
+}
+
+/// The number of the step after which the two sides differ.
+pub fn differs(tested: &mut dyn Calls, steps: &[Step]) -> Option<usize> {
+    let mut pair = Pair::new(tested);
+    steps
+        .iter()
+        .position(|step| pair.take(step.clone()).is_err())
+}
+
+/// The steps with the reference's answers, in the form that tests/c/vectors.c reads.
+pub fn script(steps: &[Step]) -> String {
+    let mut text = String::new();
+    let mut store = Vec::new();
+    for step in steps {
+        let line = match *step {
+            Step::Room { size, byte } => {
+                store = vec![byte; size];
+                format!("room {size} {byte}")
+            }
+            Step::Set { place, ref bytes } => {
+                store[place..place + bytes.len()].copy_from_slice(bytes);
+                format!("set {place} {}", hex(bytes))
+            }
+            Step::Make {
+                sizes:
+                    Sizes {
+                        gamma,
+                        nodes,
+                        orders,
+                        blocks,
+                    },
+                ref seed,
+                length,
+            } => {
+                format!(
+                    "make {gamma} {nodes} {orders} {blocks} {} {length}",
+                    hex(seed)
+                )
+            }
+            Step::Check { length } => format!("check {length}"),
+            Step::Put {
+                length,
+                key,
+                total,
+                displayed,
+            } => format!("put {length} {key} {total} {displayed}"),
+            Step::Cancel { length, key } => format!("cancel {length} {key}"),
+            Step::Lookup { length, key } => format!("lookup {length} {key}"),
+            Step::Span {
+                length,
+                lo,
+                hi,
+                room,
+            } => format!("span {length} {lo} {hi} {room}"),
+            Step::Seek { length, lo, hi, r } => format!("seek {length} {lo} {hi} {r}"),
+        };
+        text.push_str(&line);
+        if !matches!(step, Step::Room { .. } | Step::Set { .. }) {
+            let (reply, output) = on_reference(&mut store, step);
+            let Reply {
+                number,
+                key,
+                total,
+                displayed,
+            } = reply;
+            let hash = fnv_1a(&store);
+            write!(text, " = {number} {key} {total} {displayed} {hash:016x}").expect("a string");
+            if matches!(step, Step::Span { .. }) {
+                write!(text, " {:016x}", fnv_1a(&output)).expect("a string");
+            }
+        }
+        text.push('\n');
+    }
+    text
+}
+
+fn hex(bytes: &[u8]) -> String {
+    if bytes.is_empty() {
+        return "-".to_string();
+    }
+    bytes.iter().map(|byte| format!("{byte:02x}")).collect()
+}

@@ -1,0 +1,84 @@
+/* Writes a first corpus for the fuzz target into a folder: lists of calls on tables of several sizes, and tables themselves.
+ *
+ *     corpus FOLDER
+ *
+ * The forms are those that fuzz.c reads. */
+#include "balluchaw.h"
+
+#include <stdio.h>
+#include <stdlib.h>
+
+static const char *folder;
+static unsigned files;
+static uint32_t state = 1;
+
+static uint32_t draw(void) {
+    state ^= state << 13;
+    state ^= state >> 17;
+    return state ^= state << 5;
+}
+
+static void save(const uint8_t *bytes, size_t n) {
+    char name[4096];
+    snprintf(name, sizeof name, "%s/first-%02u", folder, files++);
+    FILE *file = fopen(name, "wb");
+    if (!file || fwrite(bytes, 1, n, file) != n || fclose(file) != 0) {
+        perror(name);
+        exit(1);
+    }
+}
+
+/* Sizes, a kind of seed, then calls: many puts, then all kinds. */
+static void calls(uint8_t gamma, uint8_t nodes, uint8_t orders, uint8_t more, uint8_t seed) {
+    uint8_t bytes[1200];
+    size_t n = 0;
+    bytes[n++] = 0;
+    bytes[n++] = (uint8_t)(gamma - 2);
+    bytes[n++] = (uint8_t)(nodes - 2);
+    bytes[n++] = (uint8_t)(orders - 1);
+    bytes[n++] = more;
+    bytes[n++] = seed;
+    while (n < 60) bytes[n++] = (uint8_t)draw();
+    for (int i = 0; n < sizeof bytes - 8; i++) {
+        bytes[n++] = (uint8_t)(i < orders + 4 ? 0 : draw());
+        for (int j = 0; j < 4; j++) bytes[n++] = (uint8_t)draw();
+    }
+    save(bytes, n);
+}
+
+/* A table with some orders, as it is, and asking for a header that fits. */
+static void image(uint32_t gamma, uint32_t nodes, uint32_t orders, uint32_t blocks, uint32_t held) {
+    size_t length = BALLUCHAW_LENGTH(nodes, blocks);
+    uint8_t *bytes = malloc(1 + length), seed[40];
+    if (!bytes) exit(1);
+    for (int i = 0; i < 40; i++) seed[i] = (uint8_t)(draw() & 0x7f);
+    if (balluchaw_make(bytes + 1, length, gamma, nodes, orders, blocks, seed, 40) != 0) {
+        fprintf(stderr, "corpus: make refused %u %u %u %u\n", gamma, nodes, orders, blocks);
+        exit(1);
+    }
+    for (uint32_t i = 0; i < held; i++) balluchaw_put(bytes + 1, length, 1 + draw() % 1000, 1 + draw() % 500, 0);
+    for (uint8_t first = 192; first < 194; first++) {
+        bytes[0] = first;
+        save(bytes, 1 + length);
+    }
+    free(bytes);
+}
+
+int main(int count, char **words) {
+    if (count != 2) {
+        fprintf(stderr, "corpus FOLDER\n");
+        return 2;
+    }
+    folder = words[1];
+    static const uint8_t gammas[] = {2, 3, 16, 64}, nodes[] = {2, 3, 8, 32}, orders[] = {2, 9, 24, 48};
+    for (uint8_t i = 0; i < 4; i++)
+        for (uint8_t j = 0; j < 4; j++) calls(gammas[i], nodes[j], orders[(i + j) % 4], (uint8_t)(i * 40 + j * 3), (uint8_t)(4 * i + j));
+    image(2, 2, 2, 4, 2);
+    image(2, 2, 8, 20, 8);
+    image(3, 4, 12, 9, 9);
+    image(16, 8, 40, 14, 40);
+    image(64, 32, 100, 6, 60);
+    image(2, 3, 1, 2, 0);
+    printf("corpus: %u first inputs\n", files);
+    return 0;
+}

@@ -1,0 +1,572 @@
+/* A fuzz target over the seven calls, for libFuzzer.
+ *
+ * An input below FIRST_RAW in its first byte is sizes, a seed and a list of calls; otherwise the bytes behind the first are a table that
+ * somebody made. Input that ends early reads as zeros. What must hold stands in the functions named after the calls:
+ *   - a call answers the number that a plain model of document 01 gives, and all parts of its answer;
+ *   - a refused call and a reading change no byte of the table, a refused span none of its output;
+ *   - after an edit the check answers 0, and lookup and span give what the model holds;
+ *   - the same orders put into a new table in another order give the same bytes;
+ *   - bytes that the check accepts are those that make and puts of their own orders give; on others every call answers 4.
+ *
+ * Each buffer has exactly its length and stands, as the input says, against a page behind it, a page before it, or on the heap.
+ *
+ * The archive is compiled from proved code and carries no coverage counters, so libFuzzer would see only this file. The counters that it also
+ * reads (section __libfuzzer_extra_counters) are fed from outside: which call answered which number, and what each edit left: levels, full and
+ * part-filled blocks, how far a chunk stands from its home, chains that go round, chunk numbers. So an input that brings a table into a new shape
+ * is kept, though no new line of this file ran. */
+#define _GNU_SOURCE
+#include "balluchaw.h"
+#include "../c/zone.h"
+
+#define P 2147483647u
+
+enum { FIRST_RAW = 192, MOST_ORDERS = 48, MOST_STEPS = 120, LONGEST_RAW = 1 << 16 };
+enum { MAKE, CHECK, PUT, CANCEL, LOOKUP, SPAN, SEEK };
+enum { TABLE, SEED, OUTPUT };
+
+#ifdef __clang__
+__attribute__((used, section("__libfuzzer_extra_counters"), no_sanitize("address")))
+#endif
+static uint8_t features[8192];
+
+/* Freed blocks are used again soon: most of the time would go into fresh pages otherwise. */
+const char *__asan_default_options(void);
+const char *__asan_default_options(void) { return "quarantine_size_mb=1"; }
+
+static void feature(size_t f) {
+    if (features[f % sizeof features] < 255) features[f % sizeof features]++;
+}
+
+static unsigned long archive_calls;
+
+static void tell(void) { fprintf(stderr, "fuzz: %lu calls\n", archive_calls); }
+
+int LLVMFuzzerInitialize(int *count, char ***words);
+int LLVMFuzzerInitialize(int *count, char ***words) {
+    (void)count, (void)words;
+    return atexit(tell);
+}
+
+static void must(int right, const char *what) {
+    if (right) return;
+    fprintf(stderr, "fuzz: broken: %s\n", what);
+    abort();
+}
+
+/* ---- the input ---- */
+
+static const uint8_t *input;
+static size_t left;
+
+static uint32_t byte(void) {
+    if (left == 0) return 0;
+    left--;
+    return *input++;
+}
+
+static uint32_t word(void) {
+    uint32_t a = byte(), b = byte(), c = byte();
+    return a << 24 | b << 16 | c << 8 | byte();
+}
+
+/* ---- buffers ---- */
+
+static zone zones[3];
+
+static uint8_t *borrow(int which, const uint8_t *content, size_t n, unsigned how) {
+    uint8_t *p;
+    if (n == 0 && how & 4) return NULL;
+    if (how % 4 == 3) {
+        p = malloc(n);
+        must(p != NULL, "no memory");
+    } else {
+        p = zone_place(&zones[which], n, how % 2);
+        zone_mark(&zones[which], p, n);
+    }
+    if (n) memcpy(p, content, n);
+    return p;
+}
+
+static void give_back(int which, uint8_t *p, size_t n, unsigned how) {
+    if (p && how % 4 == 3) free(p);
+    else if (p) must(zone_whole(&zones[which], p, n), "bytes beside a buffer changed");
+}
+
+/* ---- the model ---- */
+
+typedef struct {
+    uint32_t key, total, displayed;
+    uint32_t level; /* in the model */
+} order;
+
+typedef struct {
+    uint32_t gamma, nodes, orders, blocks, beta, a[5], b[5];
+    uint8_t seed[40];
+    uint32_t n;
+    order held[MOST_ORDERS + 1]; /* by rising key */
+} model;
+
+static uint32_t number_at(const uint8_t *p) { return (uint32_t)p[0] << 24 | (uint32_t)p[1] << 16 | (uint32_t)p[2] << 8 | p[3]; }
+
+static void write_number(uint8_t *p, uint32_t n) {
+    for (int i = 0; i < 4; i++) p[i] = (uint8_t)(n >> (24 - 8 * i));
+}
+
+static uint32_t beta_of(uint32_t gamma, uint32_t orders) {
+    uint32_t beta = 2;
+    for (uint64_t power = 1; power < orders; power *= gamma) beta++;
+    return beta;
+}
+
+static uint32_t hash(const uint32_t c[5], uint32_t x) {
+    uint64_t sum = 0;
+    for (int i = 4; i >= 0; i--) sum = (sum * x + c[i]) % P;
+    return (uint32_t)sum;
+}
+
+static uint32_t level(const model *m, uint32_t key) {
+    uint32_t l = 1, h = hash(m->a, key);
+    for (; l < m->beta && h % m->gamma == 0; h /= m->gamma) l++;
+    return l;
+}
+
+/* How many chunks the held orders make. */
+static uint32_t chunks(const model *m) {
+    uint32_t count = 0;
+    for (uint32_t k = 1; k <= m->beta; k++) {
+        uint32_t nodes = 1; /* the front opens the first partition */
+        for (uint32_t i = 0; i < m->n; i++) {
+            uint32_t l = m->held[i].level;
+            if (l > k) {
+                count += (nodes + m->nodes - 1) / m->nodes;
+                nodes = 1;
+            } else if (l == k) {
+                nodes++;
+            }
+        }
+        count += (nodes + m->nodes - 1) / m->nodes;
+    }
+    return count;
+}
+
+static uint32_t place_of(const model *m, uint32_t key) {
+    uint32_t i = 0;
+    while (i < m->n && m->held[i].key < key) i++;
+    return i;
+}
+
+static const order *find(const model *m, uint32_t key) {
+    uint32_t i = place_of(m, key);
+    return i < m->n && m->held[i].key == key ? &m->held[i] : NULL;
+}
+
+static int is_key(uint32_t key) { return key >= 1 && key < P; }
+
+static uint32_t model_put(model *m, order o) {
+    if (!is_key(o.key)) return 5;
+    if (o.total < 1 || o.displayed > o.total) return 6;
+    uint32_t i = place_of(m, o.key);
+    o.level = level(m, o.key);
+    if (find(m, o.key)) {
+        m->held[i] = o;
+        return 0;
+    }
+    if (m->n >= m->orders) return 7;
+    memmove(m->held + i + 1, m->held + i, (m->n - i) * sizeof(order));
+    m->held[i] = o;
+    m->n++;
+    if (chunks(m) <= m->blocks) return 0;
+    m->n--;
+    memmove(m->held + i, m->held + i + 1, (m->n - i) * sizeof(order));
+    return 8;
+}
+
+static uint32_t model_cancel(model *m, uint32_t key) {
+    if (!is_key(key)) return 5;
+    if (!find(m, key)) return 9;
+    uint32_t i = place_of(m, key);
+    m->n--;
+    memmove(m->held + i, m->held + i + 1, (m->n - i) * sizeof(order));
+    return 0;
+}
+
+/* ---- a table, and the calls on it ---- */
+
+typedef struct {
+    uint8_t *bytes;
+    size_t length;
+} table;
+
+static void shape(const model *m, const table *t) {
+    size_t width = 8 + 12 * m->nodes;
+    uint32_t filled = 0, farthest = 0, round = 0;
+    for (uint32_t i = 0; i < m->blocks; i++) {
+        const uint8_t *b = t->bytes + 53 + i * width;
+        if (b[0] == 0) continue;
+        filled++;
+        uint32_t chunk = (uint32_t)b[2] << 8 | b[3];
+        uint32_t home = (uint32_t)(((uint64_t)hash(m->b, number_at(b + 4)) + 65536u * b[0] + chunk) % P % m->blocks);
+        uint32_t far = i >= home ? i - home : m->blocks - home + i;
+        round |= i < home;
+        if (far > farthest) farthest = far;
+        feature(256 + b[0] * 64 + (b[1] == m->nodes) * 32 + (chunk < 3 ? chunk : 3) * 8 + (far < 7 ? far : 7));
+    }
+    feature(2048 + (farthest < 63 ? farthest : 63) * 4 + round * 2 + (filled == m->blocks));
+    feature(2560 + m->n);
+}
+
+static uint8_t *lend(const table *t, unsigned how) { return borrow(TABLE, t->bytes, t->length, how); }
+
+/* Takes the table back after a call, and sees that it changed only where it may. */
+static void take_back(table *t, uint8_t *lent, unsigned how, int may_change) {
+    archive_calls++;
+    if (t->length) {
+        must(may_change || memcmp(lent, t->bytes, t->length) == 0, "a reading or a refused call changed the table");
+        memcpy(t->bytes, lent, t->length);
+    }
+    give_back(TABLE, lent, t->length, how);
+}
+
+static uint32_t check(table *t, unsigned how) {
+    uint8_t *lent = lend(t, how);
+    uint32_t number = balluchaw_check(lent, t->length);
+    take_back(t, lent, how, 0);
+    must(number == 0 || number == 4, "check answers 0 or 4");
+    feature(CHECK * 16 + number);
+    return number;
+}
+
+static uint32_t make(const model *m, table *t, unsigned how) {
+    uint8_t *seed = borrow(SEED, m->seed, 40, how / 8);
+    uint8_t *lent = lend(t, how);
+    uint32_t number = balluchaw_make(lent, t->length, m->gamma, m->nodes, m->orders, m->blocks, seed, 40);
+    take_back(t, lent, how, number == 0);
+    must(memcmp(seed, m->seed, 40) == 0, "make changed its seed");
+    give_back(SEED, seed, 40, how / 8);
+    feature(MAKE * 16 + number);
+    return number;
+}
+
+static uint32_t put(table *t, order o, unsigned how) {
+    uint8_t *lent = lend(t, how);
+    uint32_t number = balluchaw_put(lent, t->length, o.key, o.total, o.displayed);
+    take_back(t, lent, how, number == 0);
+    feature(PUT * 16 + number);
+    return number;
+}
+
+static uint32_t cancel(table *t, uint32_t key, unsigned how) {
+    uint8_t *lent = lend(t, how);
+    uint32_t number = balluchaw_cancel(lent, t->length, key);
+    take_back(t, lent, how, number == 0);
+    feature(CANCEL * 16 + number);
+    return number;
+}
+
+static int is_reply(balluchaw_reply r, uint32_t number, order o) {
+    return r.number == number && r.key == o.key && r.total == o.total && r.displayed == o.displayed;
+}
+
+static const order none = {0, 0, 0, 0};
+
+/* The model is NULL for bytes that are no table. */
+static void lookup(const model *m, table *t, uint32_t key, unsigned how) {
+    uint8_t *lent = lend(t, how);
+    balluchaw_reply r = balluchaw_lookup(lent, t->length, key);
+    take_back(t, lent, how, 0);
+    feature(LOOKUP * 16 + r.number);
+    const order *o = m ? find(m, key) : NULL;
+    uint32_t number = !m ? 4 : !is_key(key) ? 5 : !o ? 9 : 0;
+    must(is_reply(r, number, number == 0 ? *o : none), "lookup answers as the model");
+}
+
+static void span(const model *m, table *t, uint32_t lo, uint32_t hi, size_t room, unsigned how) {
+    static uint8_t before[12 * MOST_ORDERS + 64], after[sizeof before];
+    if (room > sizeof before) room = sizeof before;
+    for (size_t i = 0; i < room; i++) before[i] = after[i] = (uint8_t)(i * 7 + 1);
+    uint32_t number = !m ? 4 : !is_key(lo) || !is_key(hi) ? 5 : lo > hi ? 10 : 0, count = 0;
+    for (uint32_t i = 0; number == 0 && i < m->n; i++) {
+        const order *o = &m->held[i];
+        if (o->key < lo || o->key > hi) continue;
+        if (12 * count + 12 <= room) {
+            write_number(after + 12 * count, o->key);
+            write_number(after + 12 * count + 4, o->total);
+            write_number(after + 12 * count + 8, o->displayed);
+        }
+        count++;
+    }
+    if (number == 0 && 12 * count > room) number = 11;
+    if (number) count = 0;
+    uint8_t *output = borrow(OUTPUT, before, room, how / 8);
+    uint8_t *lent = lend(t, how);
+    balluchaw_reply r = balluchaw_span(lent, t->length, lo, hi, output, room);
+    take_back(t, lent, how, 0);
+    feature(SPAN * 16 + r.number);
+    must(is_reply(r, number, (order){0, count, 0, 0}), "span answers as the model");
+    must(room == 0 || memcmp(output, number ? before : after, room) == 0, "span writes the model's orders and nothing else");
+    give_back(OUTPUT, output, room, how / 8);
+}
+
+static void seek(const model *m, table *t, uint32_t lo, uint32_t hi, uint32_t reserve, unsigned how) {
+    uint8_t *lent = lend(t, how);
+    balluchaw_reply r = balluchaw_seek(lent, t->length, lo, hi, reserve);
+    take_back(t, lent, how, 0);
+    feature(SEEK * 16 + r.number);
+    uint32_t number = !m ? 4 : !is_key(lo) || !is_key(hi) ? 5 : lo > hi ? 10 : 12;
+    for (uint32_t i = 0; number == 12 && i < m->n; i++) {
+        const order *o = &m->held[i];
+        if (o->key >= lo && o->key <= hi && o->total - o->displayed >= reserve) number = 0;
+    }
+    const order *o = number == 0 ? find(m, r.key) : &none;
+    must(o && is_reply(r, number, *o), "seek answers as the model, with an order that is held");
+    if (number == 0) must(o->key >= lo && o->key <= hi && o->total - o->displayed >= reserve, "seek gives an order that fits");
+}
+
+/* Every call on bytes that are no table. */
+static void refused(table *t, unsigned how) {
+    must(put(t, (order){7, 9, 5, 0}, how) == 4, "put on what is no table");
+    must(cancel(t, 7, how + 1) == 4, "cancel on what is no table");
+    lookup(NULL, t, 7, how + 2);
+    span(NULL, t, 1, P - 1, 24, how + 3);
+    seek(NULL, t, 1, P - 1, 0, how + 4);
+}
+
+/* The held orders, from some place on, rising or falling. */
+static order turned(const model *m, uint32_t turn, uint32_t i) {
+    uint32_t place = (turn + i) % m->n;
+    return m->held[turn & 1 ? place : m->n - 1 - place];
+}
+
+/* The model's orders in a new table, put in another order, with one more among them that goes again. */
+static void another_way(const model *m, const table *t, uint32_t turn, uint32_t other, unsigned how) {
+    table second = {malloc(t->length), t->length};
+    must(second.bytes != NULL, "no memory");
+    memset(second.bytes, (int)turn, second.length);
+    must(make(m, &second, how) == 0, "make accepts what it accepted before");
+    int more = is_key(other) && !find(m, other) && put(&second, (order){other, 3, 2, 0}, how) == 0;
+    for (uint32_t i = 0; i < m->n; i++) {
+        if (more && i == m->n / 2) {
+            must(cancel(&second, other, how) == 0, "an order that was put can be cancelled");
+            more = 0;
+        }
+        must(put(&second, turned(m, turn, i), how) == 0 || more, "an order of a set that fits is accepted");
+    }
+    if (more) must(cancel(&second, other, how) == 0, "an order that was put can be cancelled");
+    /* Those that the other order kept out come in now. */
+    for (uint32_t i = 0; i < m->n / 2; i++) must(put(&second, turned(m, turn, i), how) == 0, "an order of a set that fits is accepted");
+    must(memcmp(second.bytes, t->bytes, t->length) == 0, "two histories to the same orders give the same bytes");
+    free(second.bytes);
+}
+
+/* Bytes from anywhere: a table exactly when their own orders give them again. */
+static void foreign(table *t, unsigned how) {
+    if (check(t, how) == 4) {
+        refused(t, how);
+        return;
+    }
+    must(t->length >= 53, "a table has a header");
+    static model m;
+    m = (model){.gamma = t->bytes[5], .nodes = t->bytes[6]};
+    m.orders = (uint32_t)t->bytes[7] << 8 | t->bytes[8];
+    m.blocks = (uint32_t)t->bytes[9] << 8 | t->bytes[10];
+    memcpy(m.seed, t->bytes + 13, 40);
+    uint32_t n = (uint32_t)t->bytes[11] << 8 | t->bytes[12];
+    uint8_t *rows = malloc(12 * (size_t)n);
+    table second = {malloc(t->length), t->length};
+    must((rows || n == 0) && second.bytes, "no memory");
+    balluchaw_reply r = balluchaw_span(t->bytes, t->length, 1, P - 1, rows, 12 * (size_t)n);
+    must(is_reply(r, 0, (order){0, n, 0, 0}), "a table's span gives as many orders as its header says");
+    memset(second.bytes, 0x5a, second.length);
+    must(make(&m, &second, how) == 0, "the sizes and seed of a table are ones that make allows");
+    for (uint32_t i = 0; i < n; i++) {
+        const uint8_t *row = rows + 12 * (size_t)(n - 1 - i);
+        order o = {number_at(row), number_at(row + 4), number_at(row + 8), 0};
+        must(put(&second, o, how) == 0, "the orders of a table fit into its sizes");
+    }
+    must(memcmp(second.bytes, t->bytes, t->length) == 0, "a table that the check accepts is what its orders give");
+    free(rows);
+    free(second.bytes);
+}
+
+/* ---- one input ---- */
+
+static uint32_t some_key(const model *m) {
+    static const uint32_t edges[] = {0, 1, P - 1, P, UINT32_MAX, P - 2, 2};
+    uint32_t b = byte();
+    if (b < 216) return 1 + b % (2 * m->orders + 8);
+    if (b < 244) return edges[b % 7];
+    return word();
+}
+
+static order some_order(const model *m) {
+    order o = {some_key(m), 0, 0, 0};
+    uint32_t b = byte();
+    o.total = b < 200 ? 1 + b : b < 240 ? UINT32_MAX : word();
+    b = byte();
+    o.displayed = b < 128 ? (uint32_t)((uint64_t)o.total * b / 127) : b < 160 ? 0 : b < 250 ? o.total : word();
+    return o;
+}
+
+static void some_seed(model *m) {
+    uint32_t kind = byte() % 8, state = 0;
+    uint32_t *numbers[10];
+    for (int i = 0; i < 5; i++) numbers[i] = &m->a[i], numbers[5 + i] = &m->b[i];
+    if (kind >= 5) state = word() | 1;
+    for (int i = 0; i < 10; i++) {
+        uint32_t n = 0;
+        if (kind == 1) n = i % 5 == 1;                   /* h(x) = g(x) = x */
+        if (kind == 2) n = i % 5 == 0 ? word() : 0;      /* both constant */
+        if (kind == 3) n = i == 1 ? m->gamma : word();   /* levels from 2 on */
+        if (kind == 4) n = word();
+        if (kind >= 5) n = (state ^= state << 13, state ^= state >> 17, state ^= state << 5);
+        if (kind == 6 && i > 5) n = 0;                   /* one home for all */
+        if (kind == 7 && i > 0 && i < 5) n = 0;          /* one level for all */
+        *numbers[i] = (n & P) == P ? 0 : n & P;
+        write_number(m->seed + 4 * i, *numbers[i]);
+    }
+}
+
+static uint32_t any_size(void) {
+    uint32_t b = byte();
+    return b < 250 ? b % 70 : word();
+}
+
+/* A make with any sizes, seed and lengths. */
+static void any_make(unsigned how) {
+    uint32_t gamma = any_size(), nodes = any_size(), orders = any_size(), blocks = any_size(), b = byte();
+    uint8_t seed[48];
+    size_t seed_length = b < 200 ? 40 : b % 48;
+    for (size_t i = 0; i < seed_length; i++) seed[i] = (uint8_t)byte();
+    int right_seed = seed_length == 40;
+    for (size_t i = 0; right_seed && i < 40; i += 4) right_seed = number_at(seed + i) < P;
+    int allowed = gamma >= 2 && gamma <= 64 && nodes >= 2 && nodes <= 32 && orders >= 1 && orders <= 65535 && blocks <= 65535;
+    allowed = allowed && blocks >= beta_of(gamma, orders);
+    size_t right_length = allowed ? BALLUCHAW_LENGTH(nodes, blocks) : 149;
+    b = byte();
+    size_t length = right_length > LONGEST_RAW || b > 200 ? b : right_length;
+    table t = {calloc(length + 1, 1), length};
+    must(t.bytes != NULL, "no memory");
+    uint8_t *lent_seed = borrow(SEED, seed, seed_length, how / 8), *lent = lend(&t, how);
+    uint32_t number = balluchaw_make(lent, length, gamma, nodes, orders, blocks, lent_seed, seed_length);
+    take_back(&t, lent, how, number == 0);
+    must(number == (!right_seed ? 1u : !allowed ? 2u : length != right_length ? 3u : 0u), "make answers as its questions say");
+    must(seed_length == 0 || memcmp(lent_seed, seed, seed_length) == 0, "make changed its seed");
+    give_back(SEED, lent_seed, seed_length, how / 8);
+    feature(MAKE * 16 + number);
+    if (number == 0) must(check(&t, how) == 0, "a new table is one");
+    free(t.bytes);
+}
+
+static void calls(void) {
+    static model m;
+    m = (model){.gamma = 2 + byte() % 63, .nodes = 2 + byte() % 31};
+    m.orders = 1 + byte() % MOST_ORDERS;
+    m.beta = beta_of(m.gamma, m.orders);
+    uint32_t more = byte();
+    m.blocks = m.beta + (more < 250 ? more % 50 : (m.orders + 1) * m.beta);
+    some_seed(&m);
+    table t = {NULL, BALLUCHAW_LENGTH(m.nodes, m.blocks)};
+    t.bytes = malloc(t.length);
+    must(t.bytes != NULL, "no memory");
+    memset(t.bytes, 0xa5, t.length);
+    must(make(&m, &t, byte()) == 0, "make accepts allowed sizes");
+    must(check(&t, 0) == 0, "a new table is one");
+    for (int step = 0; step < MOST_STEPS && left > 0; step++) {
+        uint32_t kind = byte(), how = byte();
+        if (kind % 16 < 6) {
+            order o = some_order(&m);
+            uint32_t number = put(&t, o, how);
+            must(number == model_put(&m, o), "put answers as the model");
+            if (number == 0) {
+                must(check(&t, how + 1) == 0, "a table after a put is one");
+                lookup(&m, &t, o.key, how + 2);
+                shape(&m, &t);
+            }
+        } else if (kind % 16 < 9) {
+            uint32_t key = some_key(&m);
+            uint32_t number = cancel(&t, key, how);
+            must(number == model_cancel(&m, key), "cancel answers as the model");
+            if (number == 0) {
+                must(check(&t, how + 1) == 0, "a table after a cancel is one");
+                lookup(&m, &t, key, how + 2);
+                shape(&m, &t);
+            }
+        } else if (kind % 16 == 9) {
+            lookup(&m, &t, some_key(&m), how);
+        } else if (kind % 16 == 10) {
+            uint32_t lo = some_key(&m), hi = some_key(&m);
+            span(&m, &t, lo, hi, 12 * (size_t)(byte() % (MOST_ORDERS + 2)) + byte() % 13, how);
+        } else if (kind % 16 == 11) {
+            uint32_t lo = some_key(&m), hi = some_key(&m), r = byte();
+            seek(&m, &t, lo, hi, r < 200 ? r : r < 220 ? UINT32_MAX : word(), how);
+        } else if (kind % 16 == 12) {
+            uint32_t turn = byte();
+            another_way(&m, &t, turn, some_key(&m), how);
+        } else if (kind % 16 == 13 && how & 64) {
+            any_make(how);
+        } else if (kind % 16 == 13) {
+            /* The table lent shorter or longer than it is. */
+            size_t length = how % 2 ? t.length - 1 - byte() % t.length : t.length + 1 + byte() % 40;
+            table other = {calloc(length ? length : 1, 1), length};
+            must(other.bytes != NULL, "no memory");
+            memcpy(other.bytes, t.bytes, length < t.length ? length : t.length);
+            must(check(&other, how) == 4, "a table of another length is none");
+            refused(&other, how);
+            free(other.bytes);
+        } else {
+            /* Some bytes changed, on a copy. */
+            table other = {malloc(t.length), t.length};
+            must(other.bytes != NULL, "no memory");
+            memcpy(other.bytes, t.bytes, t.length);
+            size_t width = 8 + 12 * m.nodes;
+            uint8_t *one = other.bytes + 53 + byte() % m.blocks * width, *two = other.bytes + 53 + byte() % m.blocks * width;
+            if (kind % 16 == 14) {
+                for (uint32_t i = 0, changes = 1 + how / 64; i < changes; i++) {
+                    uint8_t *place = one + byte() * width / 256;
+                    *(how & 32 ? other.bytes + byte() % 53 : place) = (uint8_t)byte();
+                }
+            } else {
+                for (size_t i = 0; i < width; i++) {
+                    uint8_t old = one[i];
+                    if (how & 32) one[i] = two[i];
+                    two[i] = old;
+                }
+            }
+            foreign(&other, how);
+            free(other.bytes);
+        }
+    }
+    span(&m, &t, 1, P - 1, 12 * (size_t)m.n, 1);
+    another_way(&m, &t, m.n / 2 + 1, 9, 2);
+    free(t.bytes);
+}
+
+/* The first byte's lowest bit asks for a header that agrees with the length, so that more inputs come past rule 1. */
+static void raw(uint32_t first) {
+    size_t length = left < LONGEST_RAW ? left : LONGEST_RAW;
+    table t = {malloc(length ? length : 1), length};
+    must(t.bytes != NULL, "no memory");
+    if (length) memcpy(t.bytes, input, length);
+    uint32_t nodes = length >= 53 ? t.bytes[6] : 0;
+    if (first & 1 && nodes >= 2 && nodes <= 32) {
+        size_t width = 8 + 12 * nodes, blocks = (length - 53) / width;
+        t.length = 53 + blocks * width;
+        t.bytes[0] = 1;
+        write_number(t.bytes + 1, (uint32_t)t.length);
+        t.bytes[9] = (uint8_t)(blocks >> 8);
+        t.bytes[10] = (uint8_t)blocks;
+        for (int i = 13; i < 53; i += 4) t.bytes[i] &= 0x7f;
+    }
+    foreign(&t, first / 2);
+    free(t.bytes);
+}
+
+int LLVMFuzzerTestOneInput(const uint8_t *data, size_t size);
+int LLVMFuzzerTestOneInput(const uint8_t *data, size_t size) {
+    input = data;
+    left = size;
+    uint32_t first = byte();
+    if (first < FIRST_RAW) calls();
+    else raw(first);
+    return 0;
+}

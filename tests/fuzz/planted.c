@@ -1,0 +1,80 @@
+/* Faults planted between the fuzz target and the archive, one for each value of FAULT in the environment; the target must stop at each.
+ * The linker's --wrap leads the calls here. */
+#include "balluchaw.h"
+
+#include <stdlib.h>
+#include <string.h>
+
+uint32_t __real_balluchaw_check(const uint8_t *table, size_t length);
+uint32_t __real_balluchaw_put(uint8_t *table, size_t length, uint32_t key, uint32_t total, uint32_t displayed);
+uint32_t __real_balluchaw_cancel(uint8_t *table, size_t length, uint32_t key);
+balluchaw_reply __real_balluchaw_lookup(const uint8_t *table, size_t length, uint32_t key);
+balluchaw_reply __real_balluchaw_span(const uint8_t *table, size_t length, uint32_t lo, uint32_t hi, uint8_t *output, size_t output_length);
+balluchaw_reply __real_balluchaw_seek(const uint8_t *table, size_t length, uint32_t lo, uint32_t hi, uint32_t reserve);
+
+static int fault(int which) {
+    static int planted = -1;
+    if (planted < 0) planted = getenv("FAULT") ? atoi(getenv("FAULT")) : 0;
+    return planted == which;
+}
+
+static volatile uint8_t seen;
+
+/* Whether the last block is used; its last byte is free in any case while the block is not full. */
+static int last_byte_free(const uint8_t *table, size_t length) {
+    uint32_t nodes = table[6];
+    const uint8_t *block = table + length - (8 + 12 * nodes);
+    return block[1] < nodes;
+}
+
+uint32_t __wrap_balluchaw_check(const uint8_t *table, size_t length) {
+    if (fault(1) && length >= 53 && table[0] == 1) return 0; /* a check that looks at the version alone */
+    if (fault(2) && length) seen = table[-1];
+    if (fault(3) && length) seen = table[length];
+    if (fault(4) && length >= 200 && table[0] == 1 && last_byte_free(table, length)) { /* a check that does not see the last byte */
+        uint8_t *copy = malloc(length);
+        if (!copy) abort();
+        memcpy(copy, table, length);
+        copy[length - 1] = 0;
+        uint32_t number = __real_balluchaw_check(copy, length);
+        free(copy);
+        return number;
+    }
+    return __real_balluchaw_check(table, length);
+}
+
+uint32_t __wrap_balluchaw_put(uint8_t *table, size_t length, uint32_t key, uint32_t total, uint32_t displayed) {
+    uint8_t kept = length ? table[length - 1] : 0;
+    if (fault(4) && length >= 200 && table[0] == 1 && last_byte_free(table, length)) table[length - 1] = 0;
+    else kept = 0;
+    uint32_t number = __real_balluchaw_put(table, length, key, total, displayed);
+    /* A table that counts its puts in a byte that nobody reads: only its bytes tell. */
+    if (fault(4) && number != 4 && length >= 200 && last_byte_free(table, length)) table[length - 1] = (uint8_t)(kept + (number == 0));
+    if (fault(5) && number == 8) table[20] ^= 1; /* a refused put that leaves a trace */
+    return number;
+}
+
+uint32_t __wrap_balluchaw_cancel(uint8_t *table, size_t length, uint32_t key) {
+    uint32_t number = __real_balluchaw_cancel(table, length, key);
+    if (fault(6) && number == 0 && last_byte_free(table, length)) table[length - 1] = (uint8_t)(key | 1); /* a stale tail */
+    if (fault(7) && number == 9) return 0;
+    return number;
+}
+
+balluchaw_reply __wrap_balluchaw_lookup(const uint8_t *table, size_t length, uint32_t key) {
+    balluchaw_reply reply = __real_balluchaw_lookup(table, length, key);
+    if (fault(8) && reply.number == 9) reply.key = key;
+    return reply;
+}
+
+balluchaw_reply __wrap_balluchaw_span(const uint8_t *table, size_t length, uint32_t lo, uint32_t hi, uint8_t *output, size_t output_length) {
+    balluchaw_reply reply = __real_balluchaw_span(table, length, lo, hi, output, output_length);
+    if (fault(9) && reply.number == 0 && reply.total > 2) output[12 * reply.total] = 0; /* one byte too far */
+    return reply;
+}
+
+balluchaw_reply __wrap_balluchaw_seek(const uint8_t *table, size_t length, uint32_t lo, uint32_t hi, uint32_t reserve) {
+    balluchaw_reply reply = __real_balluchaw_seek(table, length, lo, hi, reserve);
+    if (fault(10) && reply.number == 0 && reserve > 100) return (balluchaw_reply){12, 0, 0, 0};
+    return reply;
+}
