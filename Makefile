@@ -9,7 +9,7 @@ ARCHIVE = target/staticlib/libballuchaw.a
 # The program of document 01, once its crate is there.
 PROGRAM = $(if $(wildcard crates/console/src),target/bin/console)
 
-.PHONY: all run test tests test-reference test-vectors test-kit test-differential fuzz bench install install-program uninstall clean need reference archive program
+.PHONY: all run test tests test-reference test-program test-vectors test-kit test-differential fuzz bench install install-program uninstall clean need reference archive program
 
 all: archive $(if $(PROGRAM),program)
 
@@ -40,13 +40,17 @@ test: tests
 	rt ci
 
 # Every test but the proofs. Each says in a line what it did.
-tests: test-reference test-vectors test-kit test-differential fuzz lesson bench-smoke
+tests: test-reference test-program test-vectors test-kit test-differential fuzz lesson bench-smoke
 
 # The reference's own tests, and document 01's full run on its program.
 test-reference: reference
 	@$(CARGO) test --quiet --release --offline --manifest-path reference/Cargo.toml >build/test-reference.log 2>&1 || { cat build/test-reference.log; exit 1; }
 	@$(REFERENCE)/console < examples/full-run.txt | diff examples/full-run.out -
 	@echo "reference: $$(grep -c '^test result: ok' build/test-reference.log) files of tests passed; document 01's full run as it stands there"
+
+# The program beside the reference program: stored runs, and scripts of valid, refused and malformed lines.
+test-program: reference program
+	@scripts/compare $(PROGRAM) $(REFERENCE) 60
 
 # Answers and bytes that the reference recorded, from the archive; some of them again with valgrind watching.
 test-vectors: reference build/vectors
