@@ -6,12 +6,11 @@ CARGO = CARGO_TARGET_DIR=build/reference cargo
 REFERENCE = build/reference/release
 ARCHIVE = target/staticlib/libballuchaw.a
 
-# The program of document 01, once its crate is there.
-PROGRAM = $(if $(wildcard crates/console/src),target/bin/console)
+PROGRAM = target/bin/console
 
-.PHONY: all run test tests test-reference test-vectors test-kit test-differential fuzz bench install install-program uninstall clean need reference archive program
+.PHONY: all run test tests test-reference test-program test-vectors test-kit test-differential fuzz bench install install-program uninstall clean need reference archive program
 
-all: archive $(if $(PROGRAM),program)
+all: archive program
 
 need:
 	@scripts/need cargo:cargo cc:gcc valgrind:valgrind pkg-config:pkg-config clang:clang \
@@ -29,9 +28,10 @@ $(ARCHIVE): crates.txt $(shell find crates -name '*.rt' -o -name '*.antt')
 program:
 	rt check console
 
-# Document 01's full run.
-run: reference
-	@$(REFERENCE)/console < examples/full-run.txt | tee build/full-run.out
+# Document 01's full run, by the program; the first time it is proved before.
+run: program
+	@mkdir -p build
+	@$(PROGRAM) < examples/full-run.txt | tee build/full-run.out
 	@diff examples/full-run.out build/full-run.out && echo "as document 01 has it"
 
 # All tests, and last the proofs: the last line is rt ci's own.
@@ -40,13 +40,17 @@ test: tests
 	rt ci
 
 # Every test but the proofs. Each says in a line what it did.
-tests: test-reference test-vectors test-kit test-differential fuzz lesson bench-smoke
+tests: test-reference test-program test-vectors test-kit test-differential fuzz lesson bench-smoke
 
 # The reference's own tests, and document 01's full run on its program.
 test-reference: reference
 	@$(CARGO) test --quiet --release --offline --manifest-path reference/Cargo.toml >build/test-reference.log 2>&1 || { cat build/test-reference.log; exit 1; }
 	@$(REFERENCE)/console < examples/full-run.txt | diff examples/full-run.out -
 	@echo "reference: $$(grep -c '^test result: ok' build/test-reference.log) files of tests passed; document 01's full run as it stands there"
+
+# The program beside the reference program: stored runs, and scripts of valid, refused and malformed lines.
+test-program: reference program
+	@scripts/compare $(PROGRAM) $(REFERENCE) 60
 
 # Answers and bytes that the reference recorded, from the archive; some of them again with valgrind watching.
 test-vectors: reference build/vectors
@@ -134,7 +138,7 @@ bench-smoke: bench-build
 # The kit: what a gateway's programmer needs. uninstall takes away exactly what install puts in place.
 TO = $(DESTDIR)$(PREFIX)
 
-install: archive $(if $(PROGRAM),install-program)
+install: archive install-program
 	install -d $(TO)/lib/pkgconfig $(TO)/include $(TO)/share/man/man3
 	install -m 644 $(ARCHIVE) $(TO)/lib/
 	install -m 644 include/balluchaw.h $(TO)/include/
@@ -162,10 +166,10 @@ pictures: reference
 	scripts/pictures pictures
 
 # What docs/class.md and docs/format.md show, the reader, and the stored pictures, against what the programs give now.
-lesson: reference
+lesson: reference program
 	@scripts/need python3:python3
-	scripts/lesson
-	scripts/try-reader
-	rm -rf build/pictures
-	scripts/pictures build/pictures
-	diff -r pictures build/pictures && echo "pictures: as stored"
+	@PROGRAM=$(PROGRAM) scripts/lesson
+	@scripts/try-reader
+	@rm -rf build/pictures
+	@PROGRAM=$(PROGRAM) scripts/pictures build/pictures
+	@diff -r pictures build/pictures && echo "pictures: as stored"

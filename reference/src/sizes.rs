@@ -115,7 +115,7 @@ impl Made {
         }
         let mut j = 0;
         let mut rest = self.seed.h(key); // h(x) / γ^j; 0 can be divided for ever
-        while j < beta - 1 && rest.is_multiple_of(self.sizes.gamma) {
+        while j < beta - 1 && rest % self.sizes.gamma == 0 {
             j += 1;
             rest /= self.sizes.gamma;
         }

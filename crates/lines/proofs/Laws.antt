@@ -4,3 +4,4 @@ pub mod Pieces
 pub mod Words
 pub mod Reading
 pub mod Writing
+pub mod Back

@@ -46,10 +46,10 @@ pieces (b ∷ s) =
     (record { first = b ∷ pieces s .first; others = pieces s .others })
 
 -- "decimal fields of one or more digits", none "above 4,294,967,295": each byte is 48..57, and the value is what counts, so zeros in front count for
--- nothing. `worth base zero v p` is the number v with the signs of p behind it; `zero` is the byte that counts 0
-unfoldable pub worth : (base zero v : ℕ) → List ℕ → ℕ
-worth base zero v [] = v
-worth base zero v (b ∷ p) = worth base zero (base * v + (b - zero)) p
+-- nothing. `worth base nought v p` is the number v with the signs of p behind it; `nought` is the byte that counts 0
+unfoldable pub worth : (base nought v : ℕ) → List ℕ → ℕ
+worth base nought v [] = v
+worth base nought v (b ∷ p) = worth base nought (base * v + (b - nought)) p
 
 unfoldable pub within : (low high : ℕ) → List ℕ → Bool
 within low high [] = true

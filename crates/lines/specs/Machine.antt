@@ -5,12 +5,12 @@ use mathlib.Core.List.{List, [], _∷_}
 use mathlib.Core.Path.{_≡_}
 use Prim.Native.Nat.{ℕ, _+_, _*_, _-_, _≤_}
 use lib.Dec.{leb, ltb, eqb}
-use lib.ListN.{length, getD, set, take, drop, replicate}
+use lib.ListN.{length, getD, set, drop, replicate}
 use Rattle.lines.specs.declared.Call.{Call}
-use Rattle.lines.specs.declared.Call.the-variants.{Bad, Make, Put, Cancel, Show, Span, Seek, Blocks}
+use Rattle.lines.specs.declared.Call.the-variants.{Bad}
 use Rattle.lines.specs.declared.Reader.{Reader}
 use Rattle.lines.specs.declared.Line.{Line}
-use Rattle.lines.specs.Grammar.{Asked, word, fields, calls, worth, asks}
+use Rattle.lines.specs.Grammar.{Asked, word, fields, calls, worth, asks, line}
 
 -- no byte is read yet; and a line that asks for nothing, whatever comes
 unfoldable pub fresh : ℕ → List ℕ → Reader
@@ -26,10 +26,10 @@ spoilt = record { good = false; some = false; value = 0; count = 0; pieces = rep
 unfoldable pub signed : ℕ → Reader → Reader
 signed v r = record { good = true; some = true; value = v; count = r .count; pieces = r .pieces }
 
-unfoldable pub sign-of : (base zero low high : ℕ) → Reader → ℕ → Reader
-sign-of base zero low high r b =
+unfoldable pub sign-of : (base nought low high : ℕ) → Reader → ℕ → Reader
+sign-of base nought low high r b =
     cond (leb low b && leb b high)
-    (cond (leb (base * r .value + (b - zero)) 4294967295) (signed (base * r .value + (b - zero)) r) spoilt)
+    (cond (leb (base * r .value + (b - nought)) 4294967295) (signed (base * r .value + (b - nought)) r) spoilt)
     spoilt
 
 -- the piece under way ends
@@ -83,3 +83,7 @@ pub record Advanced (s : List ℕ) (at : ℕ) (r q : Reader) (i : ℕ) : Type 0 
 -- a line has begun
 unfoldable pub under-way : Reader → Bool
 under-way r = cond (r .good) (cond (r .some) true (ltb 0 (r .count))) true
+
+-- STATEMENT: a line that is read byte by byte and closed says what the grammar says of the whole line. So which lines are `?` is what it says
+unfoldable pub Reads-lines : Type 0
+Reads-lines = (s : List ℕ) → says (close-of (steps-of beginning s)) ≡ line s

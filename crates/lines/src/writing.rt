@@ -3,7 +3,7 @@ ghost use mathlib.Core.Path.{_≡_};
 ghost use mathlib.Core.List.{[], _∷_};
 ghost use Prim.Native.Nat.{_+_, _*_, _≤_, _<_};
 ghost use lib.ListN.{length};
-ghost use Rattle.lines.specs.Text.{numeral, parted, row, Put};
+ghost use Rattle.lines.specs.Text.{numeral, parted, row, dash, Put};
 
 pub fn put_byte(out: &mut [u8], at: usize, b: u8) -> usize
     requires { ⌜ at < length (now out) ⌝ }
@@ -56,4 +56,23 @@ pub fn put_row(out: &mut [u8], at: usize, first: u32, others: &[u32]) -> usize
     let head = put_number(out, at, first);
     let end = put_parted(out, head, others);
     put_byte(out, end, 10)
+}
+
+// A line that ends with a sign: the sign and the line's end.
+pub fn put_mark(out: &mut [u8], at: usize, mark: u8) -> usize
+    requires { ⌜ at + 2 ≤ length (now out) ⌝ }
+    ensures { λ r. ⌜ Put (now (out .entry)) (now (out .exit)) at (mark ∷ 10 ∷ []) r ⌝ }
+{
+    let end = put_byte(out, at, mark);
+    put_byte(out, end, 10)
+}
+
+// A number and `-`, which stands for an empty block.
+pub fn put_dash(out: &mut [u8], at: usize, n: u32) -> usize
+    requires { ⌜ at + 13 ≤ length (now out) ⌝ }
+    ensures { λ r. ⌜ Put (now (out .entry)) (now (out .exit)) at (dash n) r ⌝ }
+{
+    let place = put_number(out, at, n);
+    let end = put_byte(out, place, 32);
+    put_mark(out, end, 45)
 }

@@ -1,17 +1,17 @@
 -- The machine reads a line piece by piece, and a piece as a number. Assumes nothing.
-use mathlib.Core.Path.{_≡_, refl, ap, sym, _∙_}
-use mathlib.Core.Bool.{Bool, true, false, _&&_, _||_, cond, and-false, and-true, or-false, or-true, true≢false}
+use mathlib.Core.Path.{_≡_, refl, _∙_}
+use mathlib.Core.Bool.{Bool, true, false, _&&_, _||_, cond, and-false, and-true, or-false, or-true}
 use mathlib.Core.List.{List, [], _∷_, map}
-use Prim.Native.Nat.{ℕ, zero, suc, _+_, _*_, _-_, _≤_, _<_}
+use Prim.Native.Nat.{ℕ, _+_, _*_, _-_, _≤_, _<_}
 use native.Mathlib.Nat.{mul-le-mul}
 use native.Mathlib.Numerals.{add-one}
 use native.Mathlib.Omega.{arith}
 use lib.Dec.{leb, ltb, eqb}
-use lib.ListN.{length, getD, set, take, drop, replicate}
+use lib.ListN.{length, set, replicate}
 use lib.Seq.{sets}
 use borrow.Author.Tests.{le-leb, lt-leb, leb-true, leb-false, ltb-true, ltb-false, eqb-true, ne-eqb}
 use Rattle.lines.specs.declared.Reader.{Reader}
-use Rattle.lines.specs.Grammar.{Pieces, pieces, worth, within, some, value, number, numbers}
+use Rattle.lines.specs.Grammar.{pieces, worth, within, some, value, number, numbers}
 use Rattle.lines.specs.Machine.{fresh, beginning, spoilt, signed, sign-of, cut-of, kept-of, step-of, steps-of}
 
 -- a byte that is no blank, and the signs of a piece

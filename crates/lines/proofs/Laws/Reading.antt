@@ -1,20 +1,20 @@
 -- A line that is read byte by byte and closed says what the grammar says of the whole line. Assumes nothing.
-use mathlib.Core.Path.{_≡_, refl, ap, sym, _∙_}
-use mathlib.Core.Bool.{Bool, true, false, _&&_, cond, and-false}
+use mathlib.Core.Path.{_≡_, refl, ap, _∙_}
+use mathlib.Core.Bool.{Bool, true, false, _&&_, cond}
 use mathlib.Core.List.{List, [], _∷_, _++_, map}
-use Prim.Native.Nat.{ℕ, zero, suc, _+_, _*_, _-_, _≤_, _<_}
+use Prim.Native.Nat.{ℕ, suc, _+_, _*_, _-_, _≤_}
 use native.Mathlib.Omega.{arith}
 use lib.Dec.{leb, ltb, eqb}
-use lib.ListN.{length, getD, set, take, drop, replicate}
+use lib.ListN.{length, getD, set, drop, replicate}
 use lib.Seq.{sets, sets-eq, take-append-le}
 use borrow.Author.Tests.{leb-true, leb-false, lt-ltb}
 use Rattle.lines.specs.declared.Call.{Call}
 use Rattle.lines.specs.declared.Call.the-variants.{Bad}
 use Rattle.lines.specs.declared.Reader.{Reader}
-use Rattle.lines.specs.Grammar.{Asked, pieces, worth, value, numbers, fields, calls, call-among, asks, asked, line, word, some}
-use Rattle.lines.specs.Machine.{fresh, beginning, spoilt, step-of, steps-of, call-in, first-in, spelt, line-of, close-of, says, under-way, cut-of, kept-of, sign-of, signed}
+use Rattle.lines.specs.Grammar.{pieces, worth, value, numbers, fields, calls, call-among, asks, asked, line, word, some}
+use Rattle.lines.specs.Machine.{fresh, beginning, spoilt, step-of, steps-of, call-in, first-in, spelt, line-of, close-of, says, Reads-lines, under-way, cut-of, kept-of, sign-of, signed}
 use Rattle.lines.proofs.Laws.Pieces.{signs, ends, behind, each, each-ends, by-pieces, bad-each, read-fields, is-word, read-word}
-use Rattle.lines.proofs.Laws.Words.{both, call-is, call-bad, call-many, call-fits}
+use Rattle.lines.proofs.Laws.Words.{call-is, call-bad, call-many, call-fits}
 
 -- the first of the pieces stays when the others come behind it
 sets-behind : (x : ℕ) (xs vs : List ℕ) (i : ℕ) → sets (x ∷ xs) (suc i) vs ≡ x ∷ sets xs i vs
@@ -69,8 +69,8 @@ module _ (w : List ℕ) (ps : List (List ℕ)) where
       go true e true f false g = rw (read-all, e, f, g, call-many w (length ps) (omega (arith, leb-false (1 + length ps) 15 g))) (bad-says _)
       go true e true f true g = rw (read-all, e, f, g) (good-says e (omega (arith, leb-true (1 + length ps) 15 g)))
 
-pub read-is : (s : List ℕ) → says (close-of (steps-of beginning s)) ≡ line s
-unfolding line close-of ends
+pub read-is : Reads-lines
+unfolding Reads-lines line close-of ends
 read-is s = rw (by-pieces beginning s, each-ends (signs beginning (pieces s .first)) (pieces s .others)) (closed (pieces s .first) (pieces s .others))
 
 -- a line that comes in parts is read as one

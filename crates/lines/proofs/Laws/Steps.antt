@@ -1,13 +1,13 @@
 -- The functions of the reader, one law for each return. Assumes nothing.
 use mathlib.Core.Path.{_≡_, refl, ap, sym, _∙_}
-use mathlib.Core.Bool.{Bool, true, false, _&&_, cond, and-false}
+use mathlib.Core.Bool.{Bool, true, false, _&&_, and-false}
 use mathlib.Core.List.{List, [], _∷_}
 use Prim.Native.Nat.{ℕ, suc, _+_, _*_, _-_, _≤_, _<_}
 use native.Mathlib.Nat.{mul-le-mul}
 use native.Mathlib.Numerals.{add-one}
 use native.Mathlib.Omega.{arith}
-use lib.Dec.{leb, ltb, eqb}
-use lib.ListN.{length, getD, set, drop, replicate, length-drop}
+use lib.Dec.{ltb, eqb}
+use lib.ListN.{length, getD, set, drop}
 use lib.Seq.{drop-cons, drop-length}
 use borrow.Author.Tests.{le-leb, lt-leb, lt-ltb, le-ltb, eq-eqb, ne-eqb}
 use mir.Val.{Fits}
@@ -17,7 +17,7 @@ use Rattle.lines.specs.declared.Call.the-variants.{Bad, Make, Put, Cance
 use Rattle.lines.specs.declared.Reader.{Reader}
 use Rattle.lines.specs.declared.Line.{Line}
 use Rattle.lines.specs.Grammar.{word, fields, worth}
-use Rattle.lines.specs.Machine.{fresh, beginning, spoilt, signed, sign-of, cut-of, kept-of, step-of, steps-of, spelt, first-in, call-in, line-of, close-of, before-end, Advanced, under-way}
+use Rattle.lines.specs.Machine.{fresh, spoilt, signed, sign-of, cut-of, kept-of, step-of, steps-of, spelt, first-in, call-in, line-of, close-of, before-end, Advanced, under-way}
 
 -- A SIGN
 pub product : (base v : ℕ) → base ≤ 32 → v < 4294967296 → base * v ≤ 137438953472

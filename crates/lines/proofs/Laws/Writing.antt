@@ -3,14 +3,13 @@ use mathlib.Core.Path.{_≡_, refl, ap, sym, _∙_}
 use mathlib.Core.Bool.{Bool, true, false, cond}
 use mathlib.Core.List.{List, [], _∷_, _++_, append-assoc, append-nil}
 use Prim.Native.Nat.{ℕ, zero, suc, _+_, _*_, _/_, _%_, _-_, _^_, _≤_, _<_}
-use native.Mathlib.Nat.{div-lt-iff-lt-mul, pow-succ'}
 use native.Mathlib.Numerals.{add-one}
 use native.Mathlib.Omega.{arith}
 use lib.Dec.{ltb}
-use lib.ListN.{length, getD, set, take, drop, length-append}
+use lib.ListN.{length, getD, set, take, length-append}
 use lib.Seq.{sets, length-sets, take-suc, take-all}
-use borrow.Author.Tests.{lt-ltb, le-ltb, ltb-true, ltb-false}
-use Rattle.lines.specs.Text.{numeral, numeral-in, parted, row, Put}
+use borrow.Author.Tests.{lt-ltb, le-ltb}
+use Rattle.lines.specs.Text.{numeral, numeral-in, parted, row, dash, Put}
 
 -- A NUMERAL
 in-short : (k n : ℕ) → length (numeral-in k n) ≤ k
@@ -166,3 +165,41 @@ module _ (old out : List ℕ) (at first : ℕ) (others : List ℕ) (head : ℕ) 
 
       pub row-long : length last ≡ length old
       row-long = put-long old last at (numeral first ++ parted others ++ (10 ∷ [])) r all
+
+pub row-short : (first : ℕ) (others : List ℕ) → length (row first others) ≤ 11 * (1 + length others)
+unfolding row
+row-short first others = simp length-append (omega (arith, numeral-short first, parted-short others))
+
+-- A SIGN at the end of a line
+module _ (old mid : List ℕ) (at x p : ℕ) (k : Put old mid at (x ∷ []) p) where
+  pub mark-room : at + 2 ≤ length old → p < length mid
+  mark-room h = omega (arith, k .next, put-long old mid at (x ∷ []) p k)
+
+  pub mark-end : (new : List ℕ) (y r : ℕ) → Put mid new p (y ∷ []) r → Put old new at (x ∷ y ∷ []) r
+  mark-end new y r m = put-on old mid at (x ∷ []) p k new (y ∷ []) r m
+
+pub dash-number : (at n long : ℕ) → at + 13 ≤ long → at + length (numeral n) ≤ long
+dash-number at n long h = omega (arith, numeral-short n)
+
+module _ (old out : List ℕ) (at n p : ℕ) (k : Put old out at (numeral n) p) where
+  pub dash-byte : at + 13 ≤ length old → p < length out
+  dash-byte h = omega (arith, k .next, numeral-short n, put-long old out at (numeral n) p k)
+
+  module _ (mid : List ℕ) (q : ℕ) (m : Put out mid p (32 ∷ []) q) where
+    pub dash-mark : at + 13 ≤ length old → q + 2 ≤ length mid
+    dash-mark h = omega (arith, k .next, m .next, numeral-short n, put-longs old out at (numeral n) p k mid (32 ∷ []) q m)
+
+    module _ (new : List ℕ) (r : ℕ) (e : Put mid new q (45 ∷ 10 ∷ []) r) where
+      dash-all : Put old new at (numeral n ++ (32 ∷ []) ++ (45 ∷ 10 ∷ [])) r
+      dash-all = put-on old mid at (numeral n ++ (32 ∷ [])) q (put-on old out at (numeral n) p k mid (32 ∷ []) q m) new (45 ∷ 10 ∷ []) r e
+
+      pub dash-end : Put old new at (dash n) r
+      unfolding dash
+      dash-end = dash-all
+
+      pub dash-long : length new ≡ length old
+      dash-long = put-long old new at (numeral n ++ (32 ∷ []) ++ (45 ∷ 10 ∷ [])) r dash-all
+
+pub dash-short : (n : ℕ) → length (dash n) ≤ 13
+unfolding dash
+dash-short n = simp length-append (omega (arith, numeral-short n))

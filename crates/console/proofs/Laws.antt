@@ -1,0 +1,3 @@
+-- Laws by subject.
+pub mod Buffers
+pub mod Found

@@ -1,0 +1,37 @@
+-- What a span found fits the output that it was lent. Assumes nothing.
+use mathlib.Core.Path.{_≡_, refl}
+use mathlib.Core.Bool.{Bool, true, false, _&&_, cond}
+use mathlib.Core.List.{List}
+use Prim.Native.Nat.{ℕ, _*_, _≤_}
+use native.Mathlib.Omega.{arith}
+use lib.Dec.{leb}
+use lib.ListN.{length}
+use borrow.Author.Tests.{leb-true}
+use Rattle.skiplist.specs.Image.{is-image, orders-in}
+use Rattle.skiplist.specs.Questions.{first-no, is-key, between, asks-image, asks-range, asks-span}
+use Rattle.table.specs.declared.Reply.{Reply}
+use Rattle.table.specs.Calls.{says, Span-as, Span-says}
+
+module _ (x : List ℕ) (lo hi : ℕ) (r : Reply) (o z : List ℕ) where
+  pub span-room : Span-says x lo hi r o z → 12 * r .total ≤ length o
+  unfolding Span-says Span-as says asks-image asks-span asks-range first-no
+  span-room h = go (is-image x) (is-key lo && is-key hi) (leb lo hi) (leb (12 * length (between lo hi (orders-in x))) (length o)) refl h
+    where
+      go : (a b c d : Bool) → leb (12 * length (between lo hi (orders-in x))) (length o) ≡ d
+          → Span-as (cond a (cond b (cond c (cond d 0 11) 10) 5) 4) (between lo hi (orders-in x)) r o z → 12 * r .total ≤ length o
+      go true true true true e k =
+          let l : 12 * length (between lo hi (orders-in x)) ≤ length o = leb-true (12 * length (between lo hi (orders-in x))) (length o) e in
+          let t : r .total ≡ length (between lo hi (orders-in x)) = k .0 .2 in
+          rw t l
+      go true true true false e k =
+          let t : r .total ≡ 0 = k .0 .2 in
+          omega arith
+      go true true false d e k =
+          let t : r .total ≡ 0 = k .0 .2 in
+          omega arith
+      go true false c d e k =
+          let t : r .total ≡ 0 = k .0 .2 in
+          omega arith
+      go false b c d e k =
+          let t : r .total ≡ 0 = k .0 .2 in
+          omega arith

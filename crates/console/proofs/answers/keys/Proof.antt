@@ -1,0 +1,19 @@
+-- `console::answers::keys` meets its contract: each need follows from the laws listed. Assumes nothing.
+use borrow.Author.Needs.{needs}
+use Prim.Native.Nat.{_-_}
+use Rattle.console.proofs.Laws.Buffers.{Keying, keying-start, keying-more}
+use Rattle.console.proofs.answers.keys.Statement.{statement}
+use Rattle.console.proofs.answers.keys.Tie as tie
+
+ruleset laws = (needs, keying-start, keying-more)
+
+abbrev Inv-loop : tie.InvT-loop
+Inv-loop table at n row₀ i₀ row i = Keying row n i
+
+abbrev μ-loop : tie.MeasureT-loop
+μ-loop table at n row₀ i₀ row i = n - i
+
+pub keys-spec : {M : Type 1} → statement M
+keys-spec =
+    tie.close
+    (tie.spec Inv-loop μ-loop (λ c. search laws) (λ c. search laws) (λ c. search laws) (λ c κs. search laws) (λ c. search laws) (λ c. search laws) (λ c. search laws) (λ c. search laws) (λ c. search laws) (λ c. search laws) (λ c. search laws))

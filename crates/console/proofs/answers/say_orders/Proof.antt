@@ -1,0 +1,19 @@
+-- `console::answers::say_orders` meets its contract: each need follows from the laws listed. Assumes nothing.
+use borrow.Author.Needs.{needs}
+use Prim.Native.Nat.{_-_}
+use Rattle.console.proofs.Laws.Buffers.{Saying, saying-start, saying-more}
+use Rattle.console.proofs.answers.say_orders.Statement.{statement}
+use Rattle.console.proofs.answers.say_orders.Tie as tie
+
+ruleset laws = (needs, saying-start, saying-more)
+
+abbrev Inv-loop : tie.InvT-loop
+Inv-loop out₀ used found n place₀ i₀ out place i = Saying out place i n
+
+abbrev μ-loop : tie.MeasureT-loop
+μ-loop out₀ used found n place₀ i₀ out place i = n - i
+
+pub say-orders-spec : {M : Type 1} → statement M
+say-orders-spec =
+    tie.close
+    (tie.spec Inv-loop μ-loop (λ c. search laws) (λ c. search laws) (λ c. search laws) (λ c κs. search laws) (λ c. search laws) (λ c. search laws) (λ c. search laws) (λ c. search laws) (λ c. search laws))

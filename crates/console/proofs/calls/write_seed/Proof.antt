@@ -1,0 +1,19 @@
+-- `console::calls::write_seed` meets its contract: each need follows from the laws listed. Assumes nothing.
+use borrow.Author.Needs.{needs}
+use Prim.Native.Nat.{_-_}
+use Rattle.console.proofs.Laws.Buffers.{Seeding, seeding-start, seeding-more}
+use Rattle.console.proofs.calls.write_seed.Statement.{statement}
+use Rattle.console.proofs.calls.write_seed.Tie as tie
+
+ruleset laws = (needs, seeding-start, seeding-more)
+
+abbrev Inv-loop : tie.InvT-loop
+Inv-loop seed₀ pieces i₀ seed i = Seeding seed₀ seed i
+
+abbrev μ-loop : tie.MeasureT-loop
+μ-loop seed₀ pieces i₀ seed i = 10 - i
+
+pub write-seed-spec : {M : Type 1} → statement M
+write-seed-spec =
+    tie.close
+    (tie.spec Inv-loop μ-loop (λ c. search laws) (λ c. search laws) (λ c. search laws) (λ c. search laws) (λ c. search laws) (λ c κs. search laws) (λ c. search laws) (λ c. search laws) (λ c. search laws) (λ c. search laws) (λ c. search laws))

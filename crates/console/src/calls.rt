@@ -1,0 +1,96 @@
+// The calls on the table, which is the first `long` bytes of a buffer. No other file names the crates that have them.
+ghost use mathlib.Core.Path.{_≡_};
+ghost use Prim.Native.Nat.{_*_, _≤_};
+ghost use lib.ListN.{length};
+use placement::Sizes;
+use placement::header::sizes_allowed;
+use placement::header::table_length;
+use placement::numbers::put4;
+use table::Reply;
+
+// The sizes that a make is asked for.
+fn sizes_of(pieces: [u32; 15]) -> Sizes {
+    let seed = [0u32; 10];
+    Sizes {
+        gamma: pieces[1],
+        nodes: pieces[2],
+        orders: pieces[3],
+        blocks: pieces[4],
+        seed: seed,
+    }
+}
+
+// The bytes of a table of allowed sizes; 0 for sizes that are not allowed.
+pub fn wanted(pieces: [u32; 15]) -> usize {
+    let s = sizes_of(pieces);
+    if sizes_allowed(s) {
+        return table_length(s) as usize;
+    }
+    0
+}
+
+// The ten seed numbers as bytes.
+fn write_seed(seed: &mut [u8], pieces: [u32; 15])
+    requires { ⌜ 40 ≤ length (now seed) ⌝ }
+{
+    let mut i: usize = 0;
+    while i < 10 {
+        put4(seed, 4 * i, pieces[5 + i]);
+        i += 1;
+    }
+}
+
+pub fn make(table: &mut [u8], long: usize, pieces: [u32; 15]) -> u32
+    requires { ⌜ long ≤ length (now table) ⌝ }
+    ensures { λ r. ⌜ length (now (table .exit)) ≡ length (now (table .entry)) ⌝ }
+{
+    let mut seed = [0u8; 40];
+    write_seed(&mut seed, pieces);
+    table::making::make(
+        &mut table[0..long],
+        pieces[1],
+        pieces[2],
+        pieces[3],
+        pieces[4],
+        &seed,
+    )
+}
+
+pub fn put(table: &mut [u8], long: usize, key: u32, total: u32, displayed: u32) -> u32
+    requires { ⌜ long ≤ length (now table) ⌝ }
+    ensures { λ r. ⌜ length (now (table .exit)) ≡ length (now (table .entry)) ⌝ }
+{
+    edits::changes::put(&mut table[0..long], key, total, displayed)
+}
+
+pub fn cancel(table: &mut [u8], long: usize, key: u32) -> u32
+    requires { ⌜ long ≤ length (now table) ⌝ }
+    ensures { λ r. ⌜ length (now (table .exit)) ≡ length (now (table .entry)) ⌝ }
+{
+    edits::changes::cancel(&mut table[0..long], key)
+}
+
+pub fn show(table: &[u8], long: usize, key: u32) -> Reply
+    requires { ⌜ long ≤ length (now table) ⌝ }
+{
+    readings::calls::lookup(&table[0..long], key)
+}
+
+pub fn span(table: &[u8], long: usize, lo: u32, hi: u32, found: &mut [u8]) -> Reply
+    requires { ⌜ long ≤ length (now table) ⌝ }
+    ensures { λ r. ⌜ (12 * r .total ≤ length (now (found .entry))) × (length (now (found .exit)) ≡ length (now (found .entry))) ⌝ }
+{
+    readings::calls::span(&table[0..long], lo, hi, found)
+}
+
+pub fn seek(table: &[u8], long: usize, lo: u32, hi: u32, reserve: u32) -> Reply
+    requires { ⌜ long ≤ length (now table) ⌝ }
+{
+    readings::calls::seek(&table[0..long], lo, hi, reserve)
+}
+
+pub fn check(table: &[u8], long: usize) -> u32
+    requires { ⌜ long ≤ length (now table) ⌝ }
+{
+    table::checking::check(&table[0..long])
+}
