@@ -1,7 +1,8 @@
 // The calls on the table, which is the first `long` bytes of a buffer. No other file names the crates that have them.
 ghost use mathlib.Core.Path.{_≡_};
 ghost use Prim.Native.Nat.{_*_, _≤_};
-ghost use lib.ListN.{length};
+ghost use lib.ListN.{length, take};
+ghost use Rattle.table.specs.Calls.{check-number, Look-says, Seek-says};
 use placement::Sizes;
 use placement::header::sizes_allowed;
 use placement::header::table_length;
@@ -21,7 +22,9 @@ fn sizes_of(pieces: [u32; 15]) -> Sizes {
 }
 
 // The bytes of a table of allowed sizes; 0 for sizes that are not allowed.
-pub fn wanted(pieces: [u32; 15]) -> usize {
+pub fn wanted(pieces: [u32; 15]) -> usize
+    ensures { λ r. ⌜ r ≤ 4294967295 ⌝ }
+{
     let s = sizes_of(pieces);
     if sizes_allowed(s) {
         return table_length(s) as usize;
@@ -72,6 +75,7 @@ pub fn cancel(table: &mut [u8], long: usize, key: u32) -> u32
 
 pub fn show(table: &[u8], long: usize, key: u32) -> Reply
     requires { ⌜ long ≤ length (now table) ⌝ }
+    ensures { λ r. ⌜ Look-says (take long (now (table .entry))) key r ⌝ }
 {
     readings::calls::lookup(&table[0..long], key)
 }
@@ -85,12 +89,14 @@ pub fn span(table: &[u8], long: usize, lo: u32, hi: u32, found: &mut [u8]) -> Re
 
 pub fn seek(table: &[u8], long: usize, lo: u32, hi: u32, reserve: u32) -> Reply
     requires { ⌜ long ≤ length (now table) ⌝ }
+    ensures { λ r. ⌜ Seek-says (take long (now (table .entry))) lo hi reserve r ⌝ }
 {
     readings::calls::seek(&table[0..long], lo, hi, reserve)
 }
 
 pub fn check(table: &[u8], long: usize) -> u32
     requires { ⌜ long ≤ length (now table) ⌝ }
+    ensures { λ r. ⌜ r ≡ check-number (take long (now (table .entry))) ⌝ }
 {
     table::checking::check(&table[0..long])
 }

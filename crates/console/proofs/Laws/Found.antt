@@ -1,16 +1,17 @@
 -- What a span found fits the output that it was lent. Assumes nothing.
-use mathlib.Core.Path.{_≡_, refl}
+use mathlib.Core.Path.{_≡_, refl, subst}
 use mathlib.Core.Bool.{Bool, true, false, _&&_, cond}
 use mathlib.Core.List.{List}
-use Prim.Native.Nat.{ℕ, _*_, _≤_}
+use Prim.Native.Nat.{ℕ, _*_, _-_, _≤_}
+use native.Mathlib.Nat.{sub-zero}
 use native.Mathlib.Omega.{arith}
 use lib.Dec.{leb}
-use lib.ListN.{length}
+use lib.ListN.{length, take}
 use borrow.Author.Tests.{leb-true}
 use Rattle.skiplist.specs.Image.{is-image, orders-in}
 use Rattle.skiplist.specs.Questions.{first-no, is-key, between, asks-image, asks-range, asks-span}
 use Rattle.table.specs.declared.Reply.{Reply}
-use Rattle.table.specs.Calls.{says, Span-as, Span-says}
+use Rattle.table.specs.Calls.{says, check-number, Look-says, Span-as, Span-says, Seek-says}
 
 module _ (x : List ℕ) (lo hi : ℕ) (r : Reply) (o z : List ℕ) where
   pub span-room : Span-says x lo hi r o z → 12 * r .total ≤ length o
@@ -35,3 +36,14 @@ module _ (x : List ℕ) (lo hi : ℕ) (r : Reply) (o z : List ℕ) where
       go false b c d e k =
           let t : r .total ≡ 0 = k .0 .2 in
           omega arith
+
+-- a part that starts at 0 is the first bytes
+module _ (n : ℕ) (x : List ℕ) where
+  pub front-check : (r : ℕ) → r ≡ check-number (take (n - 0) x) → r ≡ check-number (take n x)
+  front-check r h = subst (λ (m : ℕ). r ≡ check-number (take m x)) (sub-zero n) h
+
+  pub front-look : (k : ℕ) (r : Reply) → Look-says (take (n - 0) x) k r → Look-says (take n x) k r
+  front-look k r h = subst (λ (m : ℕ). Look-says (take m x) k r) (sub-zero n) h
+
+  pub front-seek : (lo hi l : ℕ) (r : Reply) → Seek-says (take (n - 0) x) lo hi l r → Seek-says (take n x) lo hi l r
+  front-seek lo hi l r h = subst (λ (m : ℕ). Seek-says (take m x) lo hi l r) (sub-zero n) h
