@@ -101,11 +101,21 @@ static void measure_checks(scene *s, int rounds) {
     report_keep(variants, count, take_turns(variants, count, s, CHECK_SECONDS, rounds), 0);
 }
 
+/* What each call takes beyond the check: the two of them alone, in turns, in many more rounds; so nothing else comes between and throws them out of the cache. */
+static void measure_beyond(const variant *check, scene *s, int rounds) {
+    for (const variant *v = check + 1; strcmp(v->who, check->who) == 0; v++) {
+        variant pair[2] = {*check, *v};
+        if (strcmp(v->operation, "span of all") == 0) continue;
+        report_beyond(pair, take_turns(pair, 2, s, 0, rounds));
+    }
+}
+
 static void measure_calls(scene *s, int rounds) {
     variant variants[MOST_VARIANTS];
     int count = add(variants, 0, calls, sizeof calls, s->of.held);
     if (s->of.others) count = add(variants, count, other_calls, sizeof other_calls, s->of.held);
     report_keep(variants, count, take_turns(variants, count, s, s->of.others ? ALL_SECONDS : CALL_SECONDS, rounds), 1);
+    measure_beyond(variants, s, rounds ? rounds : s->of.held > 10000 ? MOST_ROUNDS / 2 : MOST_ROUNDS);
     same_bytes(s);
 }
 

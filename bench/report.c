@@ -49,6 +49,15 @@ void report_keep(const variant *variants, int count, int rounds, int beyond) {
     }
 }
 
+void report_beyond(const variant *pair, int rounds) {
+    for (int i = 0; i < row_count; i++) {
+        row *r = rows + i;
+        if (r->scene != scene_count - 1 || !r->is_beyond || strcmp(r->operation, pair[1].operation) != 0) continue;
+        r->beyond = difference(pair + 1, pair, rounds) / 1000;
+        r->noise = noise(pair + 1, pair, rounds) / 1000;
+    }
+}
+
 static void print_scene(FILE *to, const scene *s) {
     fprintf(to, "\n%s: γ %u, B %u, %u orders, %u chunks in %u blocks, %zu bytes\n", s->of.title, s->of.gamma, s->of.nodes, s->of.held, s->full,
             s->blocks, s->length);

@@ -14,6 +14,9 @@ void report_begin(const scene *s);
  * check, and of the archive's other calls it is kept what they take beyond it. */
 void report_keep(const variant *variants, int count, int rounds, int beyond);
 
+/* What a call takes beyond the check by a finer measure: the check and the call, which took turns alone. */
+void report_beyond(const variant *pair, int rounds);
+
 /* The rows of the last scene; of all scenes. */
 void report_last(FILE *to);
 void report_all(FILE *to);

@@ -44,7 +44,7 @@ int take_turns(variant *variants, int count, void *scene, double seconds, int ro
     double warm = one_round(variants, count, scene, 0);
     if (rounds == 0) {
         double wanted = seconds * 1e9 / warm;
-        rounds = wanted > MOST_ROUNDS ? MOST_ROUNDS : wanted < LEAST_ROUNDS ? LEAST_ROUNDS : (int)wanted | 1;
+        rounds = wanted > USUAL_ROUNDS ? USUAL_ROUNDS : wanted < LEAST_ROUNDS ? LEAST_ROUNDS : (int)wanted | 1;
     }
     for (int r = 0; r < rounds; r++) one_round(variants, count, scene, r);
     return rounds;

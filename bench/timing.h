@@ -2,7 +2,7 @@
 #ifndef TIMING_H
 #define TIMING_H
 
-enum { MOST_ROUNDS = 41, LEAST_ROUNDS = 5 };
+enum { USUAL_ROUNDS = 41, LEAST_ROUNDS = 5, MOST_ROUNDS = 401 };
 
 /* One variant of an operation. Calls get the scene that take_turns was given. */
 typedef struct {
@@ -16,7 +16,7 @@ typedef struct {
     double ns[MOST_ROUNDS];      /* one call's time, the mean of a round */
 } variant;
 
-/* Lets the variants take turns for about so many seconds of CPU time, or for exactly so many rounds if that is not 0. Gives the number of rounds.
+/* Lets the variants take turns for about so many seconds of CPU time, at most the usual rounds; or for exactly so many rounds if that is not 0. Gives their number.
  * The program ends when an answer is wrong. */
 int take_turns(variant *variants, int count, void *scene, double seconds, int rounds);
 
