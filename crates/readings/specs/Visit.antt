@@ -3,7 +3,7 @@
 use mathlib.Core.Path.{_≡_}
 use mathlib.Core.Bool.{Bool, true, false, _&&_, cond}
 use mathlib.Core.List.{List, [], _∷_, _++_, map}
-use Prim.Native.Nat.{ℕ, _+_, _*_}
+use Prim.Native.Nat.{ℕ, zero, suc, _+_, _*_}
 use lib.Dec.{ltb, leb, eqb}
 use lib.ListN.{length}
 use lib.Seq.{sets}
@@ -87,6 +87,11 @@ pub record Row (s : Sizes) (os : List Order) (l : ℕ) (ns : List Order) : Type 
 -- the next node of a chunk does not come after the lowest key
 unfoldable pub passed-in : List ℕ → (at left lo : ℕ) → Bool
 passed-in bs a j lo = leb 2 j && leb (field (a + 12) 4 bs) lo
+
+-- how many nodes at the front of a chunk are such
+unfoldable pub passed-front : List ℕ → (left at lo : ℕ) → ℕ
+passed-front bs zero a lo = 0
+passed-front bs (suc j) a lo = cond (passed-in bs a (suc j) lo) (suc (passed-front bs j (a + 12) lo)) 0
 
 -- WHAT A NODE OPENS, at a level and below: the orders under it; and what some nodes open
 unfoldable pub under : Sizes → List ℕ → (level : ℕ) → Order → List Order

@@ -5,7 +5,7 @@ ghost use lib.ListN.{length, drop};
 ghost use Rattle.placement.specs.Sizes.{beta};
 ghost use Rattle.placement.specs.Decode.{nodes-from};
 ghost use Rattle.skiplist.specs.Image.{orders-in};
-ghost use Rattle.readings.specs.Visit.{scan, next-found, more-found, ended-visit, wanted-by, row-in, step-by, steps, Known, Row, passed-in, under, all-under};
+ghost use Rattle.readings.specs.Visit.{scan, next-found, more-found, ended-visit, wanted-by, row-in, step-by, steps, Known, Row, passed-in, passed-front, under, all-under};
 use crate::Visit;
 use placement::Found;
 use placement::Label;
@@ -141,7 +141,7 @@ pub fn visit_partition(
     w
 }
 
-// The nodes of a chunk: each opens its partition one level down, but for those that end before the range starts.
+// The nodes of a chunk: each opens its partition one level down, but for those at the front that end before the range starts.
 pub fn visit_nodes(
     table: &[u8],
     s: Sizes,
@@ -154,24 +154,26 @@ pub fn visit_nodes(
     requires { ⌜ Known s (now table) × (1 ≤ level) × (level ≤ beta s) × (v .lo ≤ v .hi) × (at + 12 * left ≤ length (now table)) × Row s (orders-in (now table)) level (nodes-from left (drop at (now table))) ⌝ }
     ensures { λ r. ⌜ scan r (now (output .exit)) ≡ steps (all-under s (now (table .entry)) (level - 1) (nodes-from left (drop at (now (table .entry))))) (scan v (now (output .entry))) ⌝ }
 {
-    if left == 0 {
-        return v;
+    let n = skipped(table, at, left, v.lo);
+    let mut w = v;
+    let mut place = at + 12 * (n as usize);
+    let mut k = left - n;
+    while 0 < k {
+        if w.ended {
+            return w;
+        }
+        w = visit_partition(
+            table,
+            s,
+            level - 1,
+            table::walk::node_of(table, place),
+            w,
+            output,
+        );
+        place += 12;
+        k -= 1;
     }
-    if v.ended {
-        return v;
-    }
-    if passed(table, at, left, v.lo) {
-        return visit_nodes(table, s, level, at + 12, left - 1, v, output);
-    }
-    let w = visit_partition(
-        table,
-        s,
-        level - 1,
-        table::walk::node_of(table, at),
-        v,
-        output,
-    );
-    visit_nodes(table, s, level, at + 12, left - 1, w, output)
+    w
 }
 
 // The next node of the chunk does not come after the lowest key: all orders under this one are below it.
@@ -183,4 +185,19 @@ fn passed(table: &[u8], at: usize, left: u32, lo: u32) -> bool
         return false;
     }
     placement::numbers::be4(table, at + 12) <= lo
+}
+
+// How many nodes at the front of a chunk end before the range starts.
+fn skipped(table: &[u8], at: usize, left: u32, lo: u32) -> u32
+    requires { ⌜ at + 12 * left ≤ length (now table) ⌝ }
+    ensures { λ r. ⌜ (r ≡ passed-front (now (table .entry)) left at lo) × (r ≤ left) ⌝ }
+{
+    let mut i: u32 = 0;
+    while i < left {
+        if !passed(table, at + 12 * (i as usize), left - i, lo) {
+            return i;
+        }
+        i += 1;
+    }
+    i
 }

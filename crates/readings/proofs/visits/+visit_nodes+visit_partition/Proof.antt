@@ -1,4 +1,4 @@
--- The visit meets its contract: two functions that call each other, level and remaining nodes falling.
+-- The visit meets its contract: two functions that call each other, the level falling.
 -- Each need, in the order of the code, follows from the laws listed, or from one law at the facts named. Assumes nothing.
 use borrow.Author.Needs.{needs}
 use borrow.Author.Tests.{not-true, not-false}
@@ -8,7 +8,7 @@ use native.Mathlib.Omega.{arith}
 use native.Mathlib.Nat.{pos-of-ne-zero}
 use Rattle.placement.proofs.Laws.Loops.{search-below}
 use Rattle.readings.specs.Visit.{scan}
-use Rattle.readings.proofs.Laws.Tours.{range-kept, length-kept, step-long, row-next, visit-none, visit-ended, visit-more, visit-passed, Going, going-zero, going-start, going-ended, going-none, going-end, chunk-few, chunk-room, chunk-row, going-stop, going-more}
+use Rattle.readings.proofs.Laws.Tours.{length-kept, step-long, Nodding, nodding-begin, nodding-ended, nodding-end, nodding-more, Going, going-zero, going-start, going-ended, going-none, going-end, chunk-room, chunk-row, going-stop, going-more}
 use borrow.Fn.Kinds.{In}
 use borrow.Fn.PlainCycle.{Measures, is, falls, and}
 use Rattle.readings.proofs.visits.visit_nodes.Reads as visit-nodes
@@ -20,19 +20,19 @@ use Rattle.readings.proofs.visits.+visit_nodes+visit_partition.Lts-visi
 use Rattle.placement.proofs.labels.offset.Reads as offset-reads
 use Rattle.placement.proofs.search.count_at.Reads as count-at-reads
 use Rattle.placement.proofs.search.find.Reads as find-reads
-use Rattle.readings.proofs.visits.passed.Reads as passed-reads
+use Rattle.readings.proofs.visits.skipped.Reads as skipped-reads
 use Rattle.readings.proofs.visits.step.Reads as step-reads
 use Rattle.table.proofs.walk.node_of.Reads as node-of-reads
 use Rattle.readings.proofs.visits.+visit_nodes+visit_partition.{statement}
 use Rattle.readings.proofs.visits.+visit_nodes+visit_partition.Tie.{close}
 
 abbrev μ-visit-nodes : Measures 2 visit-nodes-kinds.ps ℕ
-μ-visit-nodes κs a = 64 * a .1 .1 .0 + a .1 .1 .1 .1 .0
+μ-visit-nodes κs a = 2 * a .1 .1 .0
 
 abbrev μ-visit-partition : Measures 2 visit-partition-kinds.ps ℕ
-μ-visit-partition κs a = 64 * a .1 .1 .0 + 63
+μ-visit-partition κs a = 2 * a .1 .1 .0 + 1
 
-ruleset laws = (needs, not-true, not-false, visit-none, visit-ended, search-below)
+ruleset laws = (needs, not-true, not-false, search-below)
 
 abbrev visit-nodes-at : ℕ → In 2 visit-nodes-kinds.ps
 visit-nodes-at t = and 2 visit-nodes-kinds.ps (is 2 visit-nodes-kinds.ps μ-visit-nodes t) visit-nodes.Pre
@@ -52,47 +52,45 @@ visit-partition-Inv-loop table s level o output₀ w₀ number₀ output w numbe
 abbrev visit-partition-μ-loop : visit-partition-lts.MeasureT-loop
 visit-partition-μ-loop table s level o output₀ w₀ number₀ output w number = 65536 - number
 
+abbrev visit-nodes-Inv-loop : visit-nodes-lts.InvT-loop
+visit-nodes-Inv-loop table s level at left output₀ n w₀ place₀ k₀ output w place k = Nodding s table level at left (scan w₀ output₀) k place (scan w output)
+
+abbrev visit-nodes-μ-loop : visit-nodes-lts.MeasureT-loop
+visit-nodes-μ-loop table s level at left output₀ n w₀ place₀ k₀ output w place k = k
+
 pub +visit-nodes+visit-partition-spec : {M : Type 1} → statement M
 +visit-nodes+visit-partition-spec =
     close μ-visit-nodes μ-visit-partition
     (λ t. visit-nodes-lts.spec (
-      passed-reads.Asked,
-      passed-reads.Learnt,
-      visit-nodes-below t,
-      visit-nodes.Post,
+      skipped-reads.Asked,
+      skipped-reads.Learnt,
       node-of-reads.Asked,
       node-of-reads.Learnt,
       visit-partition-below t,
       visit-partition.Post,
     )
-    (visit-nodes-at t) visit-nodes.Post
-    (λ c. search laws)
-    (λ c. search laws)
+    (visit-nodes-at t) visit-nodes.Post visit-nodes-Inv-loop visit-nodes-μ-loop
     (λ c κs. search laws)
     (λ c. search laws)
     (λ c. search laws)
-    (λ c κs.
-    let p = c .before .before .before .before .before .before .before .pre in
-    let h = pos-of-ne-zero (c .before .before .before .before .if1 .left) in
-    (omega (arith, p .0, h), (p .1 .0, p .1 .1, p .1 .2, p .1 .3, omega (arith, p .1 .4, h), row-next _ _ _ (c .before .before .before .before .before .before .before .args .at) (c .before .before .before .before .before .before .before .args .left) (c .before .before .before .before .if1 .left) (p .1 .5))))
-    (λ c. length-kept _ _ _ _ _ (c .before .before .visit-nodes .ensures))
+    (λ c. search laws)
+    (λ c. search laws)
     (λ c.
-    let p = c .before .before .before .before .before .before .before .before .before .before .pre in
-    visit-passed _ _ _ _ _ _ _ (p .1 .0) (p .1 .1) (p .1 .3) (p .1 .5) _ (c .before .before .before .before .before .passed .ensures) (c .before .before .before .before .if3 .taken) _ _ (c .before .before .visit-nodes .ensures))
+    let p = c .before .before .before .pre in
+    nodding-begin _ _ _ _ _ _ _ (p .1 .0) (p .1 .1) (p .1 .4) (p .1 .3) (p .1 .5) _ (c .skipped .ensures .0))
+    (λ c. c .before .before .loop .inv .long)
+    (λ c. nodding-ended _ _ _ _ _ _ _ _ _ _ (c .before .before .loop .inv) (c .if1 .taken))
     (λ c. search laws)
-    (λ c κs. search laws)
+    (λ c κs. omega (arith, c .before .before .loop .inv .room, c .before .loop-test .taken))
     (λ c κs.
     let p = c .before .before .before .before .before .before .before .before .pre in
-    let h = pos-of-ne-zero (c .before .before .before .before .before .if1 .left) in
-    (omega (arith, p .0, p .1 .1, h), (p .1 .0, omega (arith, p .1 .2), p .1 .3)))
+    (omega (arith, p .0, p .1 .1), (p .1 .0, omega (arith, p .1 .2), c .before .before .before .before .loop .inv .range)))
     (λ c. search laws)
     (λ c. search laws)
-    (λ c κs.
-    let p = c .before .before .before .before .before .before .before .before .before .before .before .before .pre in
-    let h = pos-of-ne-zero (c .before .before .before .before .before .before .before .before .before .if1 .left) in
-    (omega (arith, p .0, h), (p .1 .0, p .1 .1, p .1 .2, range-kept _ _ _ _ _ (p .1 .3) (c .before .before .before .visit-partition .ensures), omega (arith, p .1 .4, h), row-next _ _ _ (c .before .before .before .before .before .before .before .before .before .before .before .before .args .at) (c .before .before .before .before .before .before .before .before .before .before .before .before .args .left) (c .before .before .before .before .before .before .before .before .before .if1 .left) (p .1 .5))))
-    (λ c. length-kept _ _ _ _ _ (c .before .before .visit-nodes2 .ensures) ∙ length-kept _ _ _ _ _ (c .before .before .before .before .before .before .visit-partition .ensures))
-    (λ c. visit-more _ _ _ _ _ _ _ (c .before .before .before .before .before .before .before .before .before .before .before .before .if1 .left) _ (c .before .before .before .before .before .before .before .before .node-of .ensures) _ _ (c .before .before .before .before .before .before .visit-partition .ensures) _ _ (c .before .before .visit-nodes2 .ensures)))
+    (λ c. search laws)
+    (λ c. nodding-more _ _ _ _ _ _ _ _ _ _ (c .before .before .before .before .before .before .before .loop .inv) (c .before .before .before .before .before .before .loop-test .taken) _ (c .before .before .before .before .node-of .ensures) _ _ (c .before .before .visit-partition .ensures))
+    (λ c. c .before .loop .inv .long)
+    (λ c. nodding-end _ _ _ _ _ _ _ _ _ _ (c .before .loop .inv) (c .loop-test .left)))
     λ t. visit-partition-lts.spec (
       step-reads.Asked,
       step-reads.Learnt,
@@ -124,8 +122,7 @@ pub +visit-nodes+visit-partition-spec : {M : Type 1} → statement M
     (λ c. search laws)
     (λ c κs.
     let p = c .before .before .before .before .before .before .before .before .before .before .before .before .before .pre in
-    let h = chunk-few _ _ _ _ _ _ _ _ _ (c .before .before .before .before .before .before .before .before .before .loop .inv) (c .before .before .before .before .before .before .before .before .before .before .before .before .before .pre .1 .0) (c .before .before .before .before .before .before .before .before .before .before .before .before .before .pre .1 .1) _ (c .before .before .before .before .before .before .find .ensures) _ (c .before .before .before .before .i .given .1) _ _ (c .before .before .offset .ensures .0) (c .before .count-at .ensures .0) in
-    (omega (arith, p .0, h), (p .1 .0, pos-of-ne-zero (c .before .before .before .before .before .before .before .before .before .before .if1 .left), p .1 .1, c .before .before .before .before .before .before .before .before .before .loop .inv .range, chunk-room _ _ _ _ _ _ _ _ _ (c .before .before .before .before .before .before .before .before .before .loop .inv) (c .before .before .before .before .before .before .before .before .before .before .before .before .before .pre .1 .0) (c .before .before .before .before .before .before .before .before .before .before .before .before .before .pre .1 .1) _ (c .before .before .before .before .before .before .find .ensures) _ (c .before .before .before .before .i .given .1) _ _ (c .before .before .offset .ensures .0) (c .before .count-at .ensures .0) (c .before .before .offset .ensures .1), chunk-row _ _ _ _ _ _ _ _ _ (c .before .before .before .before .before .before .before .before .before .loop .inv) (c .before .before .before .before .before .before .before .before .before .before .before .before .before .pre .1 .0) (c .before .before .before .before .before .before .before .before .before .before .before .before .before .pre .1 .1) _ (c .before .before .before .before .before .before .find .ensures) _ (c .before .before .before .before .i .given .1) _ _ (c .before .before .offset .ensures .0) (c .before .count-at .ensures .0))))
+    (omega (arith, p .0), (p .1 .0, pos-of-ne-zero (c .before .before .before .before .before .before .before .before .before .before .if1 .left), p .1 .1, c .before .before .before .before .before .before .before .before .before .loop .inv .range, chunk-room _ _ _ _ _ _ _ _ _ (c .before .before .before .before .before .before .before .before .before .loop .inv) (c .before .before .before .before .before .before .before .before .before .before .before .before .before .pre .1 .0) (c .before .before .before .before .before .before .before .before .before .before .before .before .before .pre .1 .1) _ (c .before .before .before .before .before .before .find .ensures) _ (c .before .before .before .before .i .given .1) _ _ (c .before .before .offset .ensures .0) (c .before .count-at .ensures .0) (c .before .before .offset .ensures .1), chunk-row _ _ _ _ _ _ _ _ _ (c .before .before .before .before .before .before .before .before .before .loop .inv) (c .before .before .before .before .before .before .before .before .before .before .before .before .before .pre .1 .0) (c .before .before .before .before .before .before .before .before .before .before .before .before .before .pre .1 .1) _ (c .before .before .before .before .before .before .find .ensures) _ (c .before .before .before .before .i .given .1) _ _ (c .before .before .offset .ensures .0) (c .before .count-at .ensures .0))))
     (λ c. length-kept _ _ _ _ _ (c .before .before .before .before .visit-nodes .ensures) ∙ c .before .before .before .before .before .before .before .before .before .before .before .before .before .before .loop .inv .long)
     (λ c. going-stop _ _ _ _ _ _ _ _ _ (c .before .before .before .before .before .before .before .before .before .before .before .before .before .before .loop .inv) (c .before .before .before .before .before .before .before .before .before .before .before .before .before .before .before .before .before .before .pre .1 .0) (c .before .before .before .before .before .before .before .before .before .before .before .before .before .before .before .before .before .before .pre .1 .1) _ (c .before .before .before .before .before .before .before .before .before .before .before .find .ensures) _ (c .before .before .before .before .before .before .before .before .before .i .given .1) _ _ (c .before .before .before .before .before .before .before .offset .ensures .0) (c .before .before .before .before .before .before .count-at .ensures .0) _ _ (c .before .before .before .before .visit-nodes .ensures) (c .if3 .taken))
     (λ c. search laws)
