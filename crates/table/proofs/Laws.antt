@@ -1,6 +1,7 @@
 -- Laws by subject: the code's steps (Steps, Turns, Passes); that the check decides question 4 (Came to Decides); runs of calls (Makes to Wrong); make.
 pub mod Steps
 pub mod Turns
+pub mod Lowest
 pub mod Passes
 pub mod Came
 pub mod Counted

@@ -73,6 +73,22 @@ nodes-by d s bs l f zero a o x = x
 nodes-by d s bs l f (suc j) a o x =
     cond (node-good s l f o (node-of bs a) x) (nodes-by d s bs l f j (a + 12) false (d (node-of bs a .key) x)) wrong-seen
 
+-- THE NODES OF LEVEL 1 by their keys: the first of a partition, the front or an order; and any other, an order
+unfoldable pub heads-ok : (first low : ℕ) → Order → Bool
+heads-ok f y n = eqb (n .key) f && (leb y (n .key) && (ltb (n .key) prime && quantities-ok 1 n))
+
+unfoldable pub follows-ok : Sizes → (low : ℕ) → Order → Bool
+follows-ok s y n = leb y (n .key) && (ltb (n .key) prime && (eqb (level s (n .key)) 1 && (leb 1 (n .total) && leb (n .displayed) (n .total))))
+
+-- what the next key is at least after some of those others, from a place on; 0 if one may not come by
+unfoldable pub orders-by : Sizes → List ℕ → (left at low : ℕ) → ℕ
+orders-by s bs zero a y = y
+orders-by s bs (suc j) a y = cond (follows-ok s y (node-of bs a)) (orders-by s bs j (a + 12) (node-of bs a .key + 1)) 0
+
+-- n nodes of level 1 have come by; where low is 0, one may not
+unfoldable pub passed-by : (n low : ℕ) → Seen → Seen
+passed-by n y x = cond (eqb y 0) wrong-seen (record { ok = true; low = y; orders = x .orders - n; chunks = x .chunks })
+
 -- THE CHUNKS of a partition, from a number on
 unfoldable pub spot : Found → ℕ
 spot (At i) = i

@@ -25,7 +25,7 @@ pub record Noding (d : (key : ℕ) → Seen → Seen) (s : Sizes) (bs : List ℕ
   pub rest : nodes-by d s bs l f j₀ a₀ o₀ x₀ ≡ nodes-by d s bs l f j a o x
 
 -- nothing comes after a wrong node
-nodes-wrong : (d : (key : ℕ) → Seen → Seen) (s : Sizes) (bs : List ℕ) (l f j a : ℕ) (o : Bool) → nodes-by d s bs l f j a o wrong-seen ≡ wrong-seen
+pub nodes-wrong : (d : (key : ℕ) → Seen → Seen) (s : Sizes) (bs : List ℕ) (l f j a : ℕ) (o : Bool) → nodes-by d s bs l f j a o wrong-seen ≡ wrong-seen
 unfolding nodes-by node-good wrong-seen
 nodes-wrong d s bs l f zero a o = refl
 nodes-wrong d s bs l f (suc j) a o = refl
