@@ -147,3 +147,139 @@ module _ (s : Sizes) (bs : List ℕ) (f : ℕ) where
           let c = counts-more (node-of bs a .key) x (and-eq-true-iff (node-good s 1 f o (node-of bs a) x) (counts (node-of bs a .key) x) .0 q .1) in
           turn j a o x true q ∙ ih (omega arith)
       go false q ih = turn j a o x false q
+
+  module _ (n : Order) (x : Seen) (ok : x .ok ≡ true) (some : 1 ≤ x .orders) where
+    heads-is : (node-good s 1 f true n x && counts (n .key) x) ≡ heads-ok f (x .low) n
+    unfolding node-good counts belongs-in heads-ok
+    heads-is = rw (ok, le-leb 1 (x .orders) some) (go (eqb (n .key) f) (leb (x .low) (n .key)) (ltb (n .key) prime) (quantities-ok 1 n))
+      where
+        go : (a b c q : Bool) → ((a && q) && (b && (c && true))) ≡ (a && (b && (c && q)))
+        go false b c q = refl
+        go true false c true = refl
+        go true false c false = refl
+        go true true false true = refl
+        go true true false false = refl
+        go true true true true = refl
+        go true true true false = refl
+
+    -- no key but the front's is 0, so that a key is at least 1 says nothing more
+    follows-is : (y : ℕ) → 1 ≤ y → ((k : ℕ) → 0 < k → leb y k ≡ leb (x .low) k) → (node-good s 1 f false n x && counts (n .key) x) ≡ follows-ok s y n
+    unfolding node-good counts belongs-in quantities-ok follows-ok
+    follows-is y pos same = go (n .key) refl
+      where
+        turned : (a b c : Bool) → (c && (a && (b && true))) ≡ (a && (b && c))
+        turned true true true = refl
+        turned true true false = refl
+        turned true false true = refl
+        turned true false false = refl
+        turned false b true = refl
+        turned false b false = refl
+
+        go : (k : ℕ) → n .key ≡ k → (node-good s 1 f false n x && counts (n .key) x) ≡ follows-ok s y n
+        go zero e = rw (e, ok, lt-leb y 0 pos)
+        go (suc k) e =
+            let z = ne-eqb (n .key) 0 (λ h. omega arith) in
+            rw (ok, z, le-leb 1 (x .orders) some, ← same (n .key) (omega arith)) (turned (leb y (n .key)) (ltb (n .key) prime) (eqb (level s (n .key)) 1 && (leb 1 (n .total) && leb (n .displayed) (n .total))))
+
+  -- one node more, from what comes after it
+  one-more : (j a y : ℕ) (x : Seen) → x .ok ≡ true → 1 ≤ x .orders → 1 ≤ y → ((k : ℕ) → 0 < k → leb y k ≡ leb (x .low) k)
+      → nodes-by (opens-of s bs 0) s bs 1 f j (a + 12) false (came (node-of bs a .key) x) ≡ passed-by j (orders-by s bs j (a + 12) (node-of bs a .key + 1)) (came (node-of bs a .key) x)
+      → nodes-by (opens-of s bs 0) s bs 1 f (suc j) a false x ≡ passed-by (suc j) (orders-by s bs (suc j) a y) x
+  unfolding orders-by
+  one-more j a y x ok some pos same ih = go (follows-ok s y (node-of bs a)) refl
+    where
+      go : (t : Bool) → follows-ok s y (node-of bs a) ≡ t
+          → nodes-by (opens-of s bs 0) s bs 1 f (suc j) a false x ≡ passed-by (suc j) (cond (follows-ok s y (node-of bs a)) (orders-by s bs j (a + 12) (node-of bs a .key + 1)) 0) x
+      go true q =
+          turn j a false x true (follows-is (node-of bs a) x ok some y pos same ∙ q)
+          ∙ ih
+          ∙ passed-one j (orders-by s bs j (a + 12) (node-of bs a .key + 1)) (node-of bs a .key) x
+          ∙ sym (rw q)
+      go false q = turn j a false x false (follows-is (node-of bs a) x ok some y pos same ∙ q) ∙ sym (rw q (passed-none (suc j) x))
+
+  -- nodes that do not open
+  orders-pass : (j a y : ℕ) (x : Seen) → x .ok ≡ true → y ≡ x .low → 1 ≤ y → j ≤ x .orders
+      → nodes-by (opens-of s bs 0) s bs 1 f j a false x ≡ passed-by j (orders-by s bs j a y) x
+  unfolding nodes-by orders-by passed-by
+  orders-pass zero a y x ok e pos h =
+      let z = ne-eqb y 0 (λ q. omega arith) in
+      let n = sym (sub-zero (x .orders)) in
+      let l = sym e in
+      rw z (λ i. record { ok = ok i; low = l i; orders = n i; chunks = x .chunks })
+  orders-pass (suc j) a y x ok e pos h =
+      one-more j a y x ok (omega arith) pos (λ k p. ap (λ (m : ℕ). leb m k) e)
+      (orders-pass j (a + 12) (node-of bs a .key + 1) (came (node-of bs a .key) x) refl refl (omega arith) (omega arith))
+
+-- WHERE THE CODE STANDS past the first node if that opens: k nodes are left from a on, each of a key of at least y and not 0
+pub record Headed (s : Sizes) (bs : List ℕ) (f j₀ a₀ : ℕ) (o : Bool) (x : Seen) (k a y : ℕ) : Type 0 where
+  pub room : a + 12 * k ≤ length bs
+  pub rest : nodes-by (opens-of s bs 0) s bs 1 f j₀ a₀ o (entered-seen x) ≡ passed-by j₀ (orders-by s bs k a (cond (eqb y 0) 1 y)) (entered-seen x)
+
+-- what it says at the end
+pub record Lowest (s : Sizes) (bs : List ℕ) (f j a : ℕ) (o : Bool) (x : Seen) (r : ℕ) : Type 0 where
+  pub is : nodes-by (opens-of s bs 0) s bs 1 f j a o (entered-seen x) ≡ passed-by j r (entered-seen x)
+  pub few : 1 ≤ r → j ≤ x .orders
+
+module _ (s : Sizes) (bs : List ℕ) (f j a : ℕ) (o : Bool) (x : Seen) where
+  nothing-passed : nodes-by (opens-of s bs 0) s bs 1 f j a o (entered-seen x) ≡ wrong-seen → Lowest s bs f j a o x 0
+  nothing-passed e = record { is = e ∙ sym (passed-none j (entered-seen x)); few = λ h. absurd (omega arith) }
+
+  pub lowest-many : x .orders < j → Lowest s bs f j a o x 0
+  unfolding entered-seen
+  lowest-many h = nothing-passed (too-many s bs f j a o (entered-seen x) h)
+
+  module _ (ok : x .ok ≡ true) (some : 1 ≤ j) (few : j ≤ x .orders) where
+    module _ (e : o ≡ true) (n : Order) (en : n ≡ node-of bs a) (t : Bool) (et : t ≡ heads-ok f (x .low) n) where
+      first : (u : Bool) → t ≡ u
+          → nodes-by (opens-of s bs 0) s bs 1 f j a o (entered-seen x) ≡ cond u (nodes-by (opens-of s bs 0) s bs 1 f (j - 1) (a + 12) false (came (n .key) (entered-seen x))) wrong-seen
+      unfolding entered-seen
+      first u q =
+          let z : j ≡ suc (j - 1) = omega arith in
+          (λ i. nodes-by (opens-of s bs 0) s bs 1 f (z i) a (e i) (entered-seen x))
+          ∙ turn s bs f (j - 1) a true (entered-seen x) u (heads-is s bs f (node-of bs a) (entered-seen x) ok (omega arith) ∙ rw (← en) (sym et ∙ q))
+          ∙ rw (← en)
+
+      pub lowest-first : t ≡ false → Lowest s bs f j a o x 0
+      lowest-first q = nothing-passed (first false q)
+
+      pub headed-first : t ≡ true → a + 12 * j ≤ length bs → Headed s bs f j a o x (j - 1) (a + 12) (n .key + 1)
+      unfolding entered-seen
+      headed-first q room =
+          let z : j ≡ suc (j - 1) = omega arith in
+          let y : cond (eqb (n .key + 1) 0) 1 (n .key + 1) ≡ n .key + 1 = rw (ne-eqb (n .key + 1) 0 (λ h. omega arith)) in
+          record {
+            room = omega arith;
+            rest =
+                first true q
+                ∙ orders-pass s bs f (j - 1) (a + 12) (n .key + 1) (came (n .key) (entered-seen x)) refl refl (omega arith) (omega arith)
+                ∙ passed-one (j - 1) (orders-by s bs (j - 1) (a + 12) (n .key + 1)) (n .key) (entered-seen x)
+                ∙ (λ i. passed-by (sym z i) (orders-by s bs (j - 1) (a + 12) (sym y i)) (entered-seen x));
+          }
+
+    pub headed-other : o ≡ false → a + 12 * j ≤ length bs → Headed s bs f j a o x j a (x .low)
+    unfolding entered-seen
+    headed-other e room = record { room = room; rest = ap (λ (b : Bool). nodes-by (opens-of s bs 0) s bs 1 f j a b (entered-seen x)) e ∙ go (x .low) refl }
+      where
+        go : (y : ℕ) → x .low ≡ y → nodes-by (opens-of s bs 0) s bs 1 f j a false (entered-seen x) ≡ passed-by j (orders-by s bs j a (cond (eqb (x .low) 0) 1 (x .low))) (entered-seen x)
+        go zero q =
+            let z : j ≡ suc (j - 1) = omega arith in
+            let y : cond (eqb (x .low) 0) 1 (x .low) ≡ 1 = rw (eq-eqb (x .low) 0 q) in
+            ap (λ (i : ℕ). nodes-by (opens-of s bs 0) s bs 1 f i a false (entered-seen x)) z
+            ∙ one-more s bs f (j - 1) a 1 (entered-seen x) ok (omega arith) (omega arith)
+            (λ k p. le-leb 1 k p ∙ sym (le-leb (x .low) k (omega arith)))
+            (orders-pass s bs f (j - 1) (a + 12) (node-of bs a .key + 1) (came (node-of bs a .key) (entered-seen x)) refl refl (omega arith) (omega arith))
+            ∙ (λ i. passed-by (sym z i) (orders-by s bs (sym z i) a (sym y i)) (entered-seen x))
+        go (suc m) q =
+            let y : cond (eqb (x .low) 0) 1 (x .low) ≡ x .low = rw (ne-eqb (x .low) 0 (λ h. omega arith)) in
+            rw y (orders-pass s bs f j a (x .low) (entered-seen x) ok refl (omega arith) few)
+
+    module _ (k b y : ℕ) (h : Headed s bs f j a o x k b y) (z r : ℕ) (er : r ≡ orders-by s bs k b z) where
+      pub lowest-is : z ≡ cond (eqb y 0) 1 y → Lowest s bs f j a o x r
+      lowest-is ez = record { is = h .rest ∙ ap (λ (i : ℕ). passed-by j i (entered-seen x)) (sym (er ∙ ap (orders-by s bs k b) ez)); few = λ p. few }
+
+-- 1 where a key may be at least 0
+pub least-one : (y : ℕ) → y ≡ 0 → 1 ≡ cond (eqb y 0) 1 y
+least-one y e = sym (rw (eq-eqb y 0 e))
+
+pub least-same : (y : ℕ) → (y ≡ 0 → ⊥) → y ≡ cond (eqb y 0) 1 y
+least-same y ne = sym (rw (ne-eqb y 0 ne))
