@@ -23,7 +23,6 @@ pub mod Meeting
 pub mod Reached
 pub mod Demands
 pub mod Wrong
-pub mod Powers
 pub mod Checking
 pub mod Decided
 pub mod Seeds

@@ -117,3 +117,8 @@ chunks-by d s bs l f (suc j) i x =
 unfoldable pub opens-of : Sizes → List ℕ → (level key : ℕ) → Seen → Seen
 opens-of s bs zero key x = counted key x
 opens-of s bs (suc l) f x = chunks-by (opens-of s bs l) s bs (suc l) f (s .blocks) 0 x
+
+-- what the nodes of a level 1 chunk come to where the chunk is entered: r is what the next key is at least, or 0 if one may not come by
+pub record Lowest (s : Sizes) (bs : List ℕ) (first left at : ℕ) (opens : Bool) (x : Seen) (r : ℕ) : Type 0 where
+  pub is : nodes-by (opens-of s bs 0) s bs 1 first left at opens (entered-seen x) ≡ passed-by left r (entered-seen x)
+  pub few : 1 ≤ r → left ≤ x .orders

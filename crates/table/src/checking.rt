@@ -1,7 +1,5 @@
 // The check: question 4.
 ghost use mathlib.Core.Path.{_≡_};
-ghost use Prim.Native.Nat.{_/_, _^_, _≤_};
-ghost use Rattle.placement.specs.Sizes.{beta};
 ghost use Rattle.table.specs.Check.{Passed, Examined};
 ghost use Rattle.table.specs.Calls.{check-number};
 use crate::Seen;
@@ -9,7 +7,6 @@ use crate::Tally;
 use crate::sweep::finished;
 use crate::sweep::sweep;
 use crate::walk::walk_partition;
-use placement::Sizes;
 use placement::hash::highest;
 use placement::header::Header;
 use placement::header::rule_one;
@@ -45,8 +42,8 @@ fn passes(table: &[u8]) -> Tally
         over(s.blocks),
         top,
         top,
-        power(s, top),
         0,
+        placement::hash::hash(s, 5, 0),
         x,
     ));
     Tally {
@@ -70,18 +67,4 @@ pub fn check(table: &[u8]) -> u32
         return 0;
     }
     4
-}
-
-// gamma^top / gamma. It fits: top is 2, or gamma^(top - 3) is below the number of orders.
-fn power(s: Sizes, top: u32) -> u32
-    requires { ⌜ (2 ≤ s .gamma) × (s .gamma ≤ 64) × (s .orders ≤ 65535) × (top ≡ beta s) ⌝ }
-    ensures { λ r. ⌜ r ≡ s .gamma ^ top / s .gamma ⌝ }
-{
-    let mut p: u32 = 1;
-    let mut i: u32 = 1;
-    while i < top {
-        p = p * s.gamma;
-        i += 1;
-    }
-    p
 }

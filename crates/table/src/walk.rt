@@ -1,11 +1,12 @@
 // The walk of a check: a partition opens its nodes, and each node opens its partition one level down.
 ghost use mathlib.Core.Path.{_≡_};
 ghost use mathlib.Core.Bool.{Bool, true};
-ghost use Prim.Native.Nat.{ℕ, _+_, _*_, _-_, _/_, _^_, _<_, _≤_};
+ghost use Prim.Native.Nat.{ℕ, _+_, _*_, _-_, _<_, _≤_};
 ghost use lib.ListN.{length};
 ghost use Rattle.placement.specs.Sizes.{beta, seed-good};
+ghost use Rattle.placement.specs.Hash.{hash-from};
 ghost use Rattle.placement.specs.Numbers.{over};
-ghost use Rattle.table.specs.Walk.{Walkable, node-of, wrong-seen, nothing-in, quantities-ok, belongs-in, counts, counted, enters-ok, entered-seen, ended-seen, stops-at, nodes-by, opens-of};
+ghost use Rattle.table.specs.Walk.{Walkable, node-of, wrong-seen, nothing-in, quantities-ok, belongs-in, enters-ok, entered-seen, ended-seen, stops-at, nodes-by, heads-ok, follows-ok, orders-by, passed-by, Lowest, chunk-spot, opens-of};
 use crate::Seen;
 use placement::Found;
 use placement::Label;
@@ -64,9 +65,9 @@ fn quantities(level: u32, n: Order) -> bool
     n.displayed <= n.total
 }
 
-// A node's key: the first of a partition is known, any other has exactly the level of its list. `power` is gamma^(level - 1).
-fn belongs(s: Sizes, top: u32, level: u32, power: u32, first: u32, opens: bool, key: u32) -> bool
-    requires { ⌜ (seed-good (s .seed) ≡ true) × (0 < s .gamma) × (top ≡ beta s) × (1 ≤ level) × (level ≤ top) × (power ≡ s .gamma ^ (level - 1)) ⌝ }
+// A node's key: the first of a partition is known, any other has exactly the level of its list. `ratio` is 2^32 over gamma, rounded up.
+fn belongs(s: Sizes, ratio: u64, top: u32, level: u32, first: u32, opens: bool, key: u32) -> bool
+    requires { ⌜ (seed-good (s .seed) ≡ true) × (0 < s .gamma) × (ratio ≡ over (s .gamma)) × (top ≡ beta s) × (1 ≤ level) × (level ≤ top) ⌝ }
     ensures { λ r. ⌜ r ≡ belongs-in s level first opens key ⌝ }
 {
     if opens {
@@ -75,46 +76,7 @@ fn belongs(s: Sizes, top: u32, level: u32, power: u32, first: u32, opens: bool, 
     if key == 0 {
         return false;
     }
-    placement::hash::has_level(s, top, level, power, key)
-}
-
-// May a node of level 1 come by, the front or an order?
-fn comes(key: u32, x: Seen) -> bool
-    ensures { λ r. ⌜ r ≡ counts key x ⌝ }
-{
-    if !x.ok {
-        return false;
-    }
-    if key < x.low {
-        return false;
-    }
-    if 2147483647 <= key {
-        return false;
-    }
-    1 <= x.orders
-}
-
-// It comes by.
-fn came(key: u32, x: Seen) -> Seen
-    requires { ⌜ counts key x ≡ true ⌝ }
-    ensures { λ r. ⌜ r ≡ counted key x ⌝ }
-{
-    Seen {
-        ok: true,
-        low: key + 1,
-        orders: x.orders - 1,
-        chunks: x.chunks,
-    }
-}
-
-// It comes by if it may.
-fn count(key: u32, x: Seen) -> Seen
-    ensures { λ r. ⌜ r ≡ counted key x ⌝ }
-{
-    if !comes(key, x) {
-        return wrong();
-    }
-    came(key, x)
+    placement::hash::has_level(s, ratio, top, level, key)
 }
 
 // A chunk of so many nodes may come next.
@@ -166,59 +128,120 @@ fn stops(nodes: u32, n: u32, x: Seen) -> bool
     n < nodes
 }
 
-// Whether a node of a level 1 chunk has its key: as `belongs` at level 1.
-fn belongs_lowest(s: Sizes, ratio: u64, first: u32, opens: bool, key: u32) -> bool
-    requires { ⌜ (seed-good (s .seed) ≡ true) × (0 < s .gamma) × (ratio ≡ over (s .gamma)) ⌝ }
-    ensures { λ r. ⌜ r ≡ belongs-in s 1 first opens key ⌝ }
+// May the first node of a level 1 partition come by, the front or an order?
+fn heads(first: u32, low: u32, n: Order) -> bool
+    ensures { λ r. ⌜ r ≡ heads-ok first low n ⌝ }
 {
-    if opens {
-        return key == first;
-    }
-    if key == 0 {
+    if n.key != first {
         return false;
     }
-    placement::hash::is_lowest(s, ratio, key)
+    if n.key < low {
+        return false;
+    }
+    if 2147483647 <= n.key {
+        return false;
+    }
+    quantities(1, n)
 }
 
-// The nodes of a level 1 chunk: each stands for itself. `ratio` is 2^32 over gamma, rounded up.
-fn walk_lowest(
-    table: &[u8],
-    s: Sizes,
-    ratio: u64,
-    first: u32,
-    opens: bool,
-    at: usize,
-    left: u32,
-    x: Seen,
-) -> Seen
-    requires { ⌜ Walkable s (now table) × (ratio ≡ over (s .gamma)) × (at + 12 * left ≤ length (now table)) ⌝ }
-    ensures { λ r. ⌜ r ≡ nodes-by (opens-of s (now (table .entry)) 0) s (now (table .entry)) 1 first left at opens x ⌝ }
+// May another node come by, an order of level 1?
+fn follows(s: Sizes, ratio: u64, low: u32, n: Order) -> bool
+    requires { ⌜ (seed-good (s .seed) ≡ true) × (0 < s .gamma) × (ratio ≡ over (s .gamma)) × (1 ≤ low) ⌝ }
+    ensures { λ r. ⌜ r ≡ follows-ok s low n ⌝ }
 {
-    let mut y = x;
-    let mut o = opens;
+    if n.key < low {
+        return false;
+    }
+    if 2147483647 <= n.key {
+        return false;
+    }
+    if !placement::hash::is_lowest(s, ratio, n.key) {
+        return false;
+    }
+    if n.total < 1 {
+        return false;
+    }
+    n.displayed <= n.total
+}
+
+// The nodes of a level 1 chunk but the first of its partition: what the next key is at least, or 0 if one may not come by.
+fn walk_orders(table: &[u8], s: Sizes, ratio: u64, at: usize, left: u32, low: u32) -> u32
+    requires { ⌜ Walkable s (now table) × (ratio ≡ over (s .gamma)) × (at + 12 * left ≤ length (now table)) × (1 ≤ low) ⌝ }
+    ensures { λ r. ⌜ r ≡ orders-by s (now (table .entry)) left at low ⌝ }
+{
+    let mut y = low;
     let mut place = at;
     let mut k = left;
     while 0 < k {
         let n = node_of(table, place);
-        if !comes(n.key, y) {
-            return wrong();
+        if !follows(s, ratio, y, n) {
+            return 0;
         }
-        if !belongs_lowest(s, ratio, first, o, n.key) {
-            return wrong();
-        }
-        if !quantities(1, n) {
-            return wrong();
-        }
-        y = came(n.key, y);
-        o = false;
+        y = n.key + 1;
         place += 12;
         k -= 1;
     }
     y
 }
 
-// A partition: its chunks, one after the other, a next one only behind a full one. At level 0 a node stands for itself.
-// `power` is gamma^level / gamma, which is gamma^(level - 1) above level 0.
+// The nodes of a level 1 chunk, likewise.
+fn walk_lowest(table: &[u8], s: Sizes, ratio: u64, first: u32, opens: bool, at: usize, left: u32, x: Seen) -> u32
+    requires { ⌜ Walkable s (now table) × (ratio ≡ over (s .gamma)) × (at + 12 * left ≤ length (now table)) × (1 ≤ left) × (x .ok ≡ true) ⌝ }
+    ensures { λ r. ⌜ Lowest s (now (table .entry)) first left at opens x r ⌝ }
+{
+    if x.orders < left {
+        return 0;
+    }
+    let mut low = x.low;
+    let mut place = at;
+    let mut k = left;
+    if opens {
+        let n = node_of(table, at);
+        if !heads(first, low, n) {
+            return 0;
+        }
+        low = n.key + 1;
+        place = at + 12;
+        k = left - 1;
+    }
+    if low == 0 {
+        low = 1;
+    }
+    walk_orders(table, s, ratio, place, k, low)
+}
+
+// A level 1 chunk has come by.
+fn passed(n: u32, low: u32, x: Seen) -> Seen
+    requires { ⌜ (n ≤ x .orders) × (1 ≤ x .chunks) × (1 ≤ low) ⌝ }
+    ensures { λ r. ⌜ r ≡ passed-by n low (entered-seen x) ⌝ }
+{
+    Seen {
+        ok: true,
+        low: low,
+        orders: x.orders - n,
+        chunks: x.chunks - 1,
+    }
+}
+
+// The block of a chunk; `g` is the hash g of its first key.
+fn chunk(table: &[u8], s: Sizes, round: u64, level: u32, first: u32, g: u32, number: u32) -> Found
+    requires { ⌜ Walkable s (now table) × (round ≡ over (s .blocks)) × (level ≤ 19) × (g ≡ hash-from 5 5 (s .seed) first) × (number ≤ 65535) ⌝ }
+    ensures { λ r. ⌜ r ≡ chunk-spot s (now (table .entry)) level first number ⌝ }
+{
+    placement::search::find_over(
+        table,
+        s,
+        round,
+        g,
+        Label {
+            level: level,
+            first: first,
+            number: number,
+        },
+    )
+}
+
+// A partition: its chunks, one after the other, a next one only behind a full one. `g` is the hash g of its first key.
 pub fn walk_partition(
     table: &[u8],
     s: Sizes,
@@ -226,30 +249,17 @@ pub fn walk_partition(
     round: u64,
     top: u32,
     level: u32,
-    power: u32,
     first: u32,
+    g: u32,
     x: Seen,
 ) -> Seen
-    requires { ⌜ Walkable s (now table) × (ratio ≡ over (s .gamma)) × (round ≡ over (s .blocks)) × (top ≡ beta s) × (level ≤ top) × (power ≡ s .gamma ^ level / s .gamma) ⌝ }
+    requires { ⌜ Walkable s (now table) × (ratio ≡ over (s .gamma)) × (round ≡ over (s .blocks)) × (top ≡ beta s) × (1 ≤ level) × (level ≤ top) × (g ≡ hash-from 5 5 (s .seed) first) ⌝ }
     ensures { λ r. ⌜ r ≡ opens-of s (now (table .entry)) level first x ⌝ }
 {
-    if level == 0 {
-        return count(first, x);
-    }
-    let below = power / s.gamma;
     let mut seen = x;
     let mut number: u32 = 0;
     while number < s.blocks {
-        let Found::At(i) = placement::search::find_over(
-            table,
-            s,
-            round,
-            Label {
-                level: level,
-                first: first,
-                number: number,
-            },
-        ) else {
+        let Found::At(i) = chunk(table, s, round, level, first, g, number) else {
             return ended(number, seen);
         };
         let at = placement::labels::offset(s, i);
@@ -257,21 +267,27 @@ pub fn walk_partition(
         if !enters(s.nodes, n, seen) {
             return wrong();
         }
-        seen = walk_nodes(
-            table,
-            s,
-            ratio,
-            round,
-            top,
-            level,
-            power,
-            below,
-            first,
-            number == 0,
-            at + 8,
-            n,
-            entered(seen),
-        );
+        if level == 1 {
+            let low = walk_lowest(table, s, ratio, first, number == 0, at + 8, n, seen);
+            if low == 0 {
+                return wrong();
+            }
+            seen = passed(n, low, seen);
+        } else {
+            seen = walk_nodes(
+                table,
+                s,
+                ratio,
+                round,
+                top,
+                level,
+                first,
+                number == 0,
+                at + 8,
+                n,
+                entered(seen),
+            );
+        }
         if stops(s.nodes, n, seen) {
             return seen;
         }
@@ -280,7 +296,8 @@ pub fn walk_partition(
     seen
 }
 
-// The nodes of a chunk: each opens its partition one level down. `below` is the power of that level.
+// The nodes of a chunk above level 1: each opens its partition one level down. The next partition's block is looked at while there is other
+// work to do: it comes from afar.
 pub fn walk_nodes(
     table: &[u8],
     s: Sizes,
@@ -288,36 +305,51 @@ pub fn walk_nodes(
     round: u64,
     top: u32,
     level: u32,
-    power: u32,
-    below: u32,
     first: u32,
     opens: bool,
     at: usize,
     left: u32,
     x: Seen,
 ) -> Seen
-    requires { ⌜ Walkable s (now table) × (ratio ≡ over (s .gamma)) × (round ≡ over (s .blocks)) × (top ≡ beta s) × (1 ≤ level) × (level ≤ top) × (power ≡ s .gamma ^ level / s .gamma) × (below ≡ power / s .gamma) × (at + 12 * left ≤ length (now table)) ⌝ }
+    requires { ⌜ Walkable s (now table) × (ratio ≡ over (s .gamma)) × (round ≡ over (s .blocks)) × (top ≡ beta s) × (2 ≤ level) × (level ≤ top) × (1 ≤ left) × (at + 12 * left ≤ length (now table)) ⌝ }
     ensures { λ r. ⌜ r ≡ nodes-by (opens-of s (now (table .entry)) (level - 1)) s (now (table .entry)) level first left at opens x ⌝ }
 {
-    if level == 1 {
-        return walk_lowest(table, s, ratio, first, opens, at, left, x);
-    }
     let mut y = x;
     let mut o = opens;
     let mut place = at;
     let mut k = left;
+    let mut g = placement::hash::hash(s, 5, placement::numbers::be4(table, at));
     while 0 < k {
         if !y.ok {
             return wrong();
         }
         let n = node_of(table, place);
-        if !belongs(s, top, level, power, first, o, n.key) {
+        if !belongs(s, ratio, top, level, first, o, n.key) {
             return wrong();
         }
         if !quantities(level, n) {
             return wrong();
         }
-        y = walk_partition(table, s, ratio, round, top, level - 1, below, n.key, y);
+        let mut next: u32 = 0;
+        if 1 < k {
+            let key = placement::numbers::be4(table, place + 12);
+            next = placement::hash::hash(s, 5, key);
+            if placement::search::ends_at_once(
+                table,
+                s,
+                round,
+                next,
+                Label {
+                    level: level - 1,
+                    first: key,
+                    number: 0,
+                },
+            ) {
+                return wrong();
+            }
+        }
+        y = walk_partition(table, s, ratio, round, top, level - 1, n.key, g, y);
+        g = next;
         o = false;
         place += 12;
         k -= 1;

@@ -15,7 +15,7 @@ use Rattle.placement.specs.Hash.{level}
 use Rattle.placement.specs.declared.Sizes.{Sizes}
 use Rattle.placement.specs.declared.Order.{Order}
 use Rattle.table.specs.declared.Seen.{Seen}
-use Rattle.table.specs.Walk.{node-of, wrong-seen, quantities-ok, belongs-in, counts, counted, entered-seen, node-good, nodes-by, opens-of, heads-ok, follows-ok, orders-by, passed-by}
+use Rattle.table.specs.Walk.{node-of, wrong-seen, quantities-ok, belongs-in, counts, counted, entered-seen, node-good, nodes-by, opens-of, heads-ok, follows-ok, orders-by, passed-by, Lowest}
 use Rattle.table.proofs.Laws.Turns.{nodes-wrong}
 
 -- THE FIRST NODE of a partition
@@ -109,6 +109,10 @@ unfolding passed-by
 passed-one j y key x =
     let e : x .orders - 1 - j ≡ x .orders - suc j = omega arith in
     ap (λ (m : ℕ). cond (eqb y 0) wrong-seen (record { ok = true; low = y; orders = m; chunks = x .chunks })) e
+
+pub passed-made : (n y : ℕ) (x : Seen) → 1 ≤ y → _≡_ {A = Seen} (record { ok = true; low = y; orders = x .orders - n; chunks = x .chunks - 1 }) (passed-by n y (entered-seen x))
+unfolding passed-by entered-seen
+passed-made n y x h = sym (rw (ne-eqb y 0 (λ q. omega arith)))
 
 passed-none : (j : ℕ) (x : Seen) → passed-by j 0 x ≡ wrong-seen
 unfolding passed-by
@@ -215,11 +219,6 @@ pub record Headed (s : Sizes) (bs : List ℕ) (f j₀ a₀ : ℕ) (o : Bool) (x 
   pub room : a + 12 * k ≤ length bs
   pub rest : nodes-by (opens-of s bs 0) s bs 1 f j₀ a₀ o (entered-seen x) ≡ passed-by j₀ (orders-by s bs k a (cond (eqb y 0) 1 y)) (entered-seen x)
 
--- what it says at the end
-pub record Lowest (s : Sizes) (bs : List ℕ) (f j a : ℕ) (o : Bool) (x : Seen) (r : ℕ) : Type 0 where
-  pub is : nodes-by (opens-of s bs 0) s bs 1 f j a o (entered-seen x) ≡ passed-by j r (entered-seen x)
-  pub few : 1 ≤ r → j ≤ x .orders
-
 module _ (s : Sizes) (bs : List ℕ) (f j a : ℕ) (o : Bool) (x : Seen) where
   nothing-passed : nodes-by (opens-of s bs 0) s bs 1 f j a o (entered-seen x) ≡ wrong-seen → Lowest s bs f j a o x 0
   nothing-passed e = record { is = e ∙ sym (passed-none j (entered-seen x)); few = λ h. absurd (omega arith) }
@@ -283,3 +282,11 @@ least-one y e = sym (rw (eq-eqb y 0 e))
 
 pub least-same : (y : ℕ) → (y ≡ 0 → ⊥) → y ≡ cond (eqb y 0) 1 y
 least-same y ne = sym (rw (ne-eqb y 0 ne))
+
+-- the chunk is walked so where the level is 1
+module _ (s : Sizes) (bs : List ℕ) (l f n a : ℕ) (o : Bool) (y : Seen) (e : l ≡ 1) (r : ℕ) (w : Lowest s bs f n a o y r) where
+  pub lowest-nodes : (z : Seen) → z ≡ passed-by n r (entered-seen y) → z ≡ nodes-by (opens-of s bs (l - 1)) s bs l f n a o (entered-seen y)
+  lowest-nodes z ez = ez ∙ sym (w .is) ∙ ap (λ (i : ℕ). nodes-by (opens-of s bs (i - 1)) s bs i f n a o (entered-seen y)) (sym e)
+
+  pub lowest-none : r ≡ 0 → (z : Seen) → z ≡ wrong-seen → z ≡ nodes-by (opens-of s bs (l - 1)) s bs l f n a o (entered-seen y)
+  lowest-none q z ez = lowest-nodes z (ez ∙ sym (ap (λ (i : ℕ). passed-by n i (entered-seen y)) q ∙ passed-none n (entered-seen y)))

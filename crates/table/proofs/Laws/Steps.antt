@@ -1,14 +1,11 @@
 -- Laws of what the walk's small functions give. Assumes nothing.
 use mathlib.Core.Path.{_≡_, refl, sym, _∙_}
-use mathlib.Core.Bool.{Bool, true, false, _&&_, and-false, and-eq-true-iff}
+use mathlib.Core.Bool.{Bool, true, false, and-false}
 use mathlib.Core.List.{List}
 use Prim.Native.Nat.{ℕ, _+_, _-_, _≤_, _<_}
 use lib.Dec.{ltb, leb, eqb}
-use borrow.Author.Tests.{eq-eqb, ne-eqb, le-leb, lt-leb, le-ltb, lt-ltb, ltb-true, leb-true}
-use mir.Val.{Fits}
-use mir.Syntax.{w32}
+use borrow.Author.Tests.{eq-eqb, ne-eqb, le-leb, lt-leb}
 use native.Mathlib.Nat.{add-zero}
-use native.Mathlib.Omega.{arith}
 use Rattle.placement.specs.Numbers.{field}
 use Rattle.placement.specs.Hash.{level}
 use Rattle.placement.specs.Decode.{node-in}
@@ -16,7 +13,7 @@ use Rattle.placement.specs.declared.Sizes.{Sizes}
 use Rattle.placement.specs.declared.Order.{Order}
 use Rattle.placement.proofs.Laws.Numbers.{field-drop}
 use Rattle.table.specs.declared.Seen.{Seen}
-use Rattle.table.specs.Walk.{node-of, wrong-seen, nothing-in, quantities-ok, belongs-in, counts, counted, enters-ok, entered-seen, ended-seen, stops-at}
+use Rattle.table.specs.Walk.{node-of, wrong-seen, nothing-in, quantities-ok, belongs-in, enters-ok, entered-seen, ended-seen, stops-at}
 
 pub wrong-made : _≡_ {A = Seen} (record { ok = false; low = 0; orders = 0; chunks = 0 }) wrong-seen
 unfolding wrong-seen
@@ -26,6 +23,10 @@ pub node-made : (bs : List ℕ) (a k t d : ℕ) → k ≡ field a 4 bs → t ≡
     → _≡_ {A = Order} (record { key = k; total = t; displayed = d }) (node-of bs a)
 unfolding node-of node-in
 node-made bs a k t d ek et ed = rw (ek, et, ed, field-drop 0 4 a bs, field-drop 4 4 a bs, field-drop 8 4 a bs, add-zero)
+
+pub node-key : (bs : List ℕ) (a k : ℕ) → k ≡ field a 4 bs → k ≡ node-of bs a .key
+unfolding node-of node-in
+node-key bs a k e = rw (e, field-drop 0 4 a bs, add-zero)
 
 module _ (l : ℕ) (n : Order) where
   pub order-last : l ≡ 1 → (n .key ≡ 0 → ⊥) → 1 ≤ n .total → leb (n .displayed) (n .total) ≡ quantities-ok l n
@@ -64,54 +65,6 @@ module _ (s : Sizes) (l f : ℕ) (o : Bool) (x : ℕ) where
   pub belongs-level : (v : Bool) → o ≡ false → (x ≡ 0 → ⊥) → v ≡ eqb (level s x) l → v ≡ belongs-in s l f o x
   unfolding belongs-in
   belongs-level v e z q = rw (e, ne-eqb _ _ z) q
-
-module _ (key : ℕ) (x : Seen) where
-  pub comes-bad : x .ok ≡ false → false ≡ counts key x
-  unfolding counts
-  comes-bad h = sym (rw h)
-
-  pub comes-low : key < x .low → false ≡ counts key x
-  unfolding counts
-  comes-low h = sym (rw (lt-leb (x .low) key h, and-false))
-
-  pub comes-high : 2147483647 ≤ key → false ≡ counts key x
-  unfolding counts
-  comes-high h = sym (rw (le-ltb key 2147483647 h, and-false, and-false))
-
-  pub comes-last : x .ok ≡ true → x .low ≤ key → key < 2147483647 → leb 1 (x .orders) ≡ counts key x
-  unfolding counts
-  comes-last e l h = rw (e, le-leb (x .low) key l, lt-ltb key 2147483647 h)
-
-  pub comes-so : (t : Bool) → t ≡ counts key x → t ≡ true → counts key x ≡ true
-  comes-so t et e = sym et ∙ e
-
-  pub count-none : (t : Bool) (w : Seen) → t ≡ counts key x → t ≡ false → w ≡ wrong-seen → w ≡ counted key x
-  unfolding counted
-  count-none t w et f e =
-      let z : counts key x ≡ false = sym et ∙ f in
-      e ∙ sym (rw z)
-
-  module _ (c : counts key x ≡ true) where
-    parts : (x .ok ≡ true) × (ltb key 2147483647 ≡ true) × (leb 1 (x .orders) ≡ true)
-    unfolding counts
-    parts =
-        let a = and-eq-true-iff (x .ok) (leb (x .low) key && (ltb key 2147483647 && leb 1 (x .orders))) .0 c in
-        let b = and-eq-true-iff (leb (x .low) key) (ltb key 2147483647 && leb 1 (x .orders)) .0 (a .1) in
-        let d = and-eq-true-iff (ltb key 2147483647) (leb 1 (x .orders)) .0 (b .1) in
-        (a .0, d .0, d .1)
-
-    pub came-ok : x .ok ≡ true
-    came-ok = parts .0
-
-    pub came-key : Fits w32 (key + 1)
-    came-key = record { fits = omega (arith, ltb-true key 2147483647 (parts .1)) }
-
-    pub came-order : 1 ≤ x .orders
-    came-order = leb-true 1 (x .orders) (parts .2)
-
-    pub came-made : _≡_ {A = Seen} (record { ok = true; low = key + 1; orders = x .orders - 1; chunks = x .chunks }) (counted key x)
-    unfolding counted
-    came-made = sym (rw c)
 
 module _ (b n : ℕ) (x : Seen) where
   pub enters-last : x .ok ≡ true → 1 ≤ n → n ≤ b → leb 1 (x .chunks) ≡ enters-ok b n x

@@ -2,22 +2,27 @@
 use mathlib.Core.Path.{_≡_, refl, ap, sym, _∙_}
 use mathlib.Core.Bool.{Bool, true, false, _&&_, cond, and-false, and-eq-true-iff}
 use mathlib.Core.List.{List}
-use Prim.Native.Nat.{ℕ, zero, suc, _+_, _*_, _-_, _/_, _^_, _≤_, _<_}
+use Prim.Native.Nat.{ℕ, zero, suc, _+_, _*_, _-_, _%_, _^_, _≤_, _<_}
 use lib.Dec.{leb, eqb}
-use borrow.Author.Tests.{leb-true}
+use borrow.Author.Tests.{ne-eqb, eqb-true, leb-true}
 use native.Mathlib.Omega.{arith}
-use native.Mathlib.Nat.{sub-zero, pow-succ', mul-div-cancel-left}
+use native.Mathlib.Nat.{sub-zero, mod-lt, mod-eq-of-lt}
 use native.Mathlib.Numerals.{add-one}
 use lib.ListN.{length, getD}
 use Rattle.placement.specs.Sizes.{least-power, beta}
+use Rattle.placement.specs.Numbers.{field}
+use Rattle.placement.specs.Hash.{hash-from}
 use Rattle.placement.specs.Header.{block-long}
-use Rattle.placement.specs.Place.{search-in, found-at}
+use Rattle.placement.specs.Place.{Shaped, label-in, passes-label, same-label, home-of, probe, search-in, found-at}
 use Rattle.placement.specs.declared.Sizes.{Sizes}
+use Rattle.placement.specs.declared.Label.{Label}
 use Rattle.placement.specs.declared.Order.{Order}
 use Rattle.placement.specs.declared.Found.{Found}
 use Rattle.placement.specs.declared.Found.the-variants.{At, Nothing}
+use Rattle.placement.proofs.Laws.Loops.{search-below}
 use Rattle.table.specs.declared.Seen.{Seen}
-use Rattle.table.specs.Walk.{Walkable, node-of, wrong-seen, quantities-ok, belongs-in, counts, counted, enters-ok, entered-seen, ended-seen, stops-at, node-good, nodes-by, spot, chunk-spot, count-in, chunk-by, chunks-by, opens-of}
+use Rattle.table.specs.Walk.{Walkable, node-of, wrong-seen, quantities-ok, belongs-in, enters-ok, entered-seen, ended-seen, stops-at, node-good, nodes-by, spot, chunk-spot, count-in, chunk-by, chunks-by, opens-of}
+use Rattle.table.proofs.Laws.Steps.{node-key}
 
 -- NODES: what the loop over the nodes of a chunk keeps
 pub record Noding (d : (key : ℕ) → Seen → Seen) (s : Sizes) (bs : List ℕ) (l f j₀ a₀ : ℕ) (o₀ : Bool) (x₀ : Seen) (j a : ℕ) (o : Bool) (x : Seen) : Type 0 where
@@ -95,21 +100,6 @@ module _ (d : (key : ℕ) → Seen → Seen) (s : Sizes) (bs : List ℕ) (l f j�
                     ∙ ap (nodes-by d s bs l f (j - 1) (a + 12) false) (sym (ey ∙ ap (λ (m : Order). d (m .key) x) en));
               }
 
--- at level 1 a node stands for itself
-pub stands : (s : Sizes) (bs : List ℕ) (key : ℕ) (x y : Seen) → y ≡ counted key x → y ≡ opens-of s bs 0 key x
-unfolding opens-of
-stands s bs key x y e = e
-
-pub stands-gone : (s : Sizes) (bs : List ℕ) (key : ℕ) (x : Seen) (t : Bool) → t ≡ counts key x → t ≡ false → opens-of s bs 0 key x ≡ wrong-seen
-unfolding opens-of counted
-stands-gone s bs key x t et e =
-    let z : counts key x ≡ false = sym et ∙ e in
-    rw z
-
-pub nodes-lowest : (s : Sizes) (bs : List ℕ) (l f j a : ℕ) (o : Bool) (x r : Seen) → l ≡ 1 → r ≡ nodes-by (opens-of s bs 0) s bs 1 f j a o x
-    → r ≡ nodes-by (opens-of s bs (l - 1)) s bs l f j a o x
-nodes-lowest s bs l f j a o x r e h = h ∙ ap (λ (i : ℕ). nodes-by (opens-of s bs (i - 1)) s bs i f j a o x) (sym e)
-
 -- A LABEL of the walk: its level is at most β, which is at most 19
 least-most : (k e g n : ℕ) → least-power k e g n ≤ k + e
 unfolding least-power
@@ -134,10 +124,6 @@ pub record Chunking (s : Sizes) (bs : List ℕ) (l f : ℕ) (x : Seen) (i : ℕ)
   pub rest : opens-of s bs l f x ≡ chunks-by (opens-of s bs (l - 1)) s bs l f (s .blocks - i) i y
 
 module _ (s : Sizes) (bs : List ℕ) (l f : ℕ) (x : Seen) where
-  pub opens-zero : (r : Seen) → l ≡ 0 → r ≡ counted f x → r ≡ opens-of s bs l f x
-  unfolding opens-of
-  opens-zero r e h = h ∙ ap (λ (i : ℕ). opens-of s bs i f x) (sym e)
-
   pub chunking-start : (l ≡ 0 → ⊥) → Chunking s bs l f x 0 x
   unfolding opens-of
   chunking-start ne =
@@ -161,14 +147,14 @@ module _ (s : Sizes) (bs : List ℕ) (l f : ℕ) (x : Seen) where
         let e : s .blocks - i ≡ 0 = omega arith in
         sym (c .rest ∙ ap (λ (j : ℕ). chunks-by (opens-of s bs (l - 1)) s bs l f j i y) e)
 
-    module _ (lt : i < s .blocks) (r : Found) (er : r ≡ search-in s bs (record { level = l; first = f; number = i })) where
+    module _ (lt : i < s .blocks) (r : Found) (er : r ≡ chunk-spot s bs l f i) where
       turn : opens-of s bs l f x
           ≡ cond (found-at r)
           (cond (stops-at (s .nodes) (count-in (block-long s) bs (spot r)) (chunk-by (opens-of s bs (l - 1)) s bs l f i (spot r) y))
           (chunk-by (opens-of s bs (l - 1)) s bs l f i (spot r) y)
           (chunks-by (opens-of s bs (l - 1)) s bs l f (s .blocks - (i + 1)) (i + 1) (chunk-by (opens-of s bs (l - 1)) s bs l f i (spot r) y)))
           (ended-seen i y)
-      unfolding chunks-by chunk-spot
+      unfolding chunks-by
       turn =
           let e : s .blocks - i ≡ suc (s .blocks - (i + 1)) = omega arith in
           c .rest ∙ ap (λ (j : ℕ). chunks-by (opens-of s bs (l - 1)) s bs l f j i y) e ∙ rw (← er, add-one)
@@ -198,41 +184,84 @@ module _ (s : Sizes) (bs : List ℕ) (l f : ℕ) (x : Seen) where
           unfolding wrong-seen stops-at
           chunking-wrong w ew e = ew ∙ sym (here ∙ rw (inside false e))
 
-          module _ (e : t ≡ true) (y′ z : Seen) (ey : y′ ≡ entered-seen y) (ez : z ≡ nodes-by (opens-of s bs (l - 1)) s bs l f n (at + 8) (eqb i 0) y′) (u : Bool) (es : u ≡ stops-at (s .nodes) n z) where
+          module _ (e : t ≡ true) (z : Seen) (ez : z ≡ nodes-by (opens-of s bs (l - 1)) s bs l f n (at + 8) (eqb i 0) (entered-seen y)) where
             whole : chunk-by (opens-of s bs (l - 1)) s bs l f i b y ≡ z
-            whole = inside true e ∙ sym (ez ∙ ap (nodes-by (opens-of s bs (l - 1)) s bs l f n (at + 8) (eqb i 0)) ey)
+            whole = inside true e ∙ sym ez
 
-            pub chunking-stop : u ≡ true → z ≡ opens-of s bs l f x
-            chunking-stop q = sym (here ∙ rw (whole, ← es, q))
+            pub chunking-gone : z ≡ wrong-seen → z ≡ opens-of s bs l f x
+            unfolding wrong-seen stops-at
+            chunking-gone q = q ∙ sym (here ∙ rw (whole, q))
 
-            pub chunking-more : u ≡ false → Chunking s bs l f x (i + 1) z
-            chunking-more q = record { above = c .above; within = omega arith; rest = here ∙ rw (whole, ← es, q) }
+            module _ (u : Bool) (es : u ≡ stops-at (s .nodes) n z) where
+              pub chunking-stop : u ≡ true → z ≡ opens-of s bs l f x
+              chunking-stop q = sym (here ∙ rw (whole, ← es, q))
+
+              pub chunking-more : u ≡ false → Chunking s bs l f x (i + 1) z
+              chunking-more q = record { above = c .above; within = omega arith; rest = here ∙ rw (whole, ← es, q) }
+
+-- a partition whose search starts at an empty block has no chunk
+home-inside : (s : Sizes) (w : Label) → 0 < s .blocks → home-of s w < s .blocks
+unfolding home-of
+home-inside s w some = mod-lt _ some
+
+search-empty : (s : Sizes) (bs : List ℕ) (w : Label) → 0 < s .blocks → 0 < w .level → label-in (block-long s) bs (home-of s w) .level ≡ 0 → search-in s bs w ≡ Nothing
+unfolding search-in probe passes-label same-label
+search-empty s bs w some lo e =
+    let m : s .blocks ≡ suc (s .blocks - 1) = omega arith in
+    let h : home-of s w % s .blocks ≡ home-of s w = mod-eq-of-lt (home-inside s w some) in
+    ap (λ (k : ℕ). probe (label-in (block-long s) bs) (s .blocks) w k (home-of s w)) m ∙ rw (h, e, ne-eqb 0 (w .level) (λ q. omega arith))
+
+pub opens-empty : (s : Sizes) (bs : List ℕ) (l f : ℕ) (x : Seen) → 0 < s .blocks → 0 < l → (t : Bool)
+    → t ≡ eqb (label-in (block-long s) bs (home-of s (record { level = l; first = f; number = 0 })) .level) 0 → t ≡ true → opens-of s bs l f x ≡ wrong-seen
+unfolding chunk-spot ended-seen
+opens-empty s bs l f x some lo t et e =
+    let none = search-empty s bs (record { level = l; first = f; number = 0 }) some lo (eqb-true _ 0 (sym et ∙ e)) in
+    sym (chunking-none s bs l f x 0 x (chunking-start s bs l f x (λ q. omega arith)) some Nothing (sym none) wrong-seen refl refl)
+
+-- THE HASH of the next node's key, which the loop over nodes has at hand
+pub record Keyed (s : Sizes) (bs : List ℕ) (j a g : ℕ) : Type 0 where
+  pub is : 0 < j → g ≡ hash-from 5 5 (s .seed) (node-of bs a .key)
+
+module _ (s : Sizes) (bs : List ℕ) (j a g : ℕ) where
+  pub keyed-made : (k : ℕ) → k ≡ field a 4 bs → g ≡ hash-from 5 5 (s .seed) k → Keyed s bs j a g
+  keyed-made k ek e = record { is = λ p. e ∙ ap (hash-from 5 5 (s .seed)) (node-key bs a k ek) }
+
+  pub keyed-none : j ≤ 0 → Keyed s bs j a g
+  keyed-none h = record { is = λ p. absurd (omega arith) }
+
+  pub keyed-is : Keyed s bs j a g → 0 < j → (n : Order) → n ≡ node-of bs a → g ≡ hash-from 5 5 (s .seed) (n .key)
+  keyed-is i p n en = i .is p ∙ ap (λ (m : Order). hash-from 5 5 (s .seed) (m .key)) (sym en)
 
 -- WHAT THE CALLS ASK
+pub chunk-found : (s : Sizes) (bs : List ℕ) (l f i : ℕ) (r : Found) → r ≡ search-in s bs (record { level = l; first = f; number = i }) → r ≡ chunk-spot s bs l f i
+unfolding chunk-spot
+chunk-found s bs l f i r e = e
+
+pub chunk-below : (s : Sizes) (bs : List ℕ) (l f i : ℕ) (r : Found) (b : ℕ) → r ≡ At b → r ≡ chunk-spot s bs l f i → Shaped s bs → b < s .blocks
+unfolding chunk-spot
+chunk-below s bs l f i r b e er h = search-below s bs _ r b e er h
+
 module _ (b n : ℕ) (y : Seen) (t : Bool) (et : t ≡ enters-ok b n y) (e : t ≡ true) where
-  last-two : (leb n b ≡ true) × (leb 1 (y .chunks) ≡ true)
+  tests : (y .ok ≡ true) × (leb 1 n ≡ true) × (leb n b ≡ true) × (leb 1 (y .chunks) ≡ true)
   unfolding enters-ok
-  last-two =
-      and-eq-true-iff (leb n b) (leb 1 (y .chunks))
-      .0 (and-eq-true-iff (leb 1 n) (leb n b && leb 1 (y .chunks)) .0 (and-eq-true-iff (y .ok) (leb 1 n && (leb n b && leb 1 (y .chunks))) .0 (sym et ∙ e) .1) .1)
+  tests =
+      let p = and-eq-true-iff (y .ok) (leb 1 n && (leb n b && leb 1 (y .chunks))) .0 (sym et ∙ e) in
+      let q = and-eq-true-iff (leb 1 n) (leb n b && leb 1 (y .chunks)) .0 (p .1) in
+      let r = and-eq-true-iff (leb n b) (leb 1 (y .chunks)) .0 (q .1) in
+      (p .0, q .0, r .0, r .1)
+
+  pub enters-good : y .ok ≡ true
+  enters-good = tests .0
+
+  pub enters-some : 1 ≤ n
+  enters-some = leb-true 1 n (tests .1)
 
   pub enters-most : n ≤ b
-  enters-most = leb-true n b (last-two .0)
+  enters-most = leb-true n b (tests .2)
 
   pub enters-chunks : 1 ≤ y .chunks
-  enters-chunks = leb-true 1 (y .chunks) (last-two .1)
+  enters-chunks = leb-true 1 (y .chunks) (tests .3)
 
 module _ (s : Sizes) (bs : List ℕ) (w : Walkable s bs) (n : ℕ) (y : Seen) (t : Bool) (et : t ≡ enters-ok (s .nodes) n y) (e : t ≡ true) where
   pub chunk-room : (at : ℕ) → at + block-long s ≤ 53 + s .blocks * block-long s → at + 8 + 12 * n ≤ length bs
   chunk-room at h = omega (arith, w .shaped .long, w .shaped .width, enters-most (s .nodes) n y t et e)
-
--- POWERS: one division steps a level down
-module _ (c l p : ℕ) (base : 2 ≤ c) (lo : 1 ≤ l) (ep : p ≡ c ^ l / c) where
-  pub power-here : p ≡ c ^ (l - 1)
-  power-here =
-      let e : l ≡ suc (l - 1) = omega arith in
-      let pos : 0 < c = omega arith in
-      ep ∙ ap (λ (i : ℕ). c ^ i / c) e ∙ rw pow-succ' (mul-div-cancel-left _ pos)
-
-  pub power-below : (q : ℕ) → q ≡ p / c → q ≡ c ^ (l - 1) / c
-  power-below q e = e ∙ ap (λ (i : ℕ). i / c) power-here
