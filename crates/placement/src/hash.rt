@@ -7,6 +7,9 @@ ghost use Rattle.placement.specs.Numbers.{over};
 ghost use Rattle.placement.specs.Sizes.{least-power, beta, made, seed-good};
 ghost use Rattle.placement.specs.Hash.{hash-from, divides-from, level};
 use crate::Sizes;
+use crate::numbers::divisible;
+use crate::numbers::over;
+use crate::numbers::quotient;
 
 // Nearer to a number mod 2^31 - 1: 2^31 is 1 there, so what stands above 31 bits is added below them.
 fn fold(t: u64) -> u64
@@ -51,18 +54,18 @@ pub fn hash(s: Sizes, at: usize, x: u32) -> u32
     reduce(r)
 }
 
-// The largest j up to most such that gamma^j divides h.
-fn divides(h: u32, gamma: u32, most: u32) -> u32
-    requires { ⌜ 0 < gamma ⌝ }
+// The largest j up to most such that gamma^j divides h, without a division: `ratio` is 2^32 over gamma, rounded up.
+fn divides(h: u32, gamma: u32, ratio: u64, most: u32) -> u32
+    requires { ⌜ (0 < gamma) × (ratio ≡ over gamma) ⌝ }
     ensures { λ r. ⌜ (r ≡ divides-from most 0 gamma h) × (r ≤ most) ⌝ }
 {
     let mut j: u32 = 0;
     let mut v: u32 = h;
     while j < most {
-        if v % gamma != 0 {
+        if !divisible(v, gamma, ratio) {
             return j;
         }
-        v = v / gamma;
+        v = quotient(v, gamma, ratio) as u32;
         j += 1;
     }
     j
@@ -101,22 +104,19 @@ pub fn level_of(s: Sizes, top: u32, key: u32) -> u32
     if key == 0 {
         return top;
     }
-    1 + divides(hash(s, 0, key), s.gamma, top - 1)
+    1 + divides(hash(s, 0, key), s.gamma, over(s.gamma), top - 1)
 }
 
-// Is the level of a key, which is not the front's, exactly l? `power` is gamma^(l - 1). At most two remainders are taken.
-pub fn has_level(s: Sizes, top: u32, l: u32, power: u32, key: u32) -> bool
-    requires { ⌜ (seed-good (s .seed) ≡ true) × (0 < s .gamma) × (top ≡ beta s) × (1 ≤ l) × (l ≤ top) × (power ≡ s .gamma ^ (l - 1)) × (0 < key) ⌝ }
+// Is the level of a key, which is not the front's, exactly l? No more powers of gamma are tried than that takes.
+pub fn has_level(s: Sizes, ratio: u64, top: u32, l: u32, key: u32) -> bool
+    requires { ⌜ (seed-good (s .seed) ≡ true) × (0 < s .gamma) × (ratio ≡ over (s .gamma)) × (top ≡ beta s) × (1 ≤ l) × (l ≤ top) × (0 < key) ⌝ }
     ensures { λ r. ⌜ r ≡ eqb (level s key) l ⌝ }
 {
     let h = hash(s, 0, key);
-    if h % power != 0 {
-        return false;
-    }
     if l == top {
-        return true;
+        return 1 + divides(h, s.gamma, ratio, top - 1) == l;
     }
-    h / power % s.gamma != 0
+    1 + divides(h, s.gamma, ratio, l) == l
 }
 
 // Is the level of a key, which is not the front's, 1? `ratio` is 2^32 over gamma, rounded up.
@@ -124,5 +124,5 @@ pub fn is_lowest(s: Sizes, ratio: u64, key: u32) -> bool
     requires { ⌜ (seed-good (s .seed) ≡ true) × (0 < s .gamma) × (ratio ≡ over (s .gamma)) × (0 < key) ⌝ }
     ensures { λ r. ⌜ r ≡ eqb (level s key) 1 ⌝ }
 {
-    !crate::numbers::divisible(hash(s, 0, key), s.gamma, ratio)
+    !divisible(hash(s, 0, key), s.gamma, ratio)
 }

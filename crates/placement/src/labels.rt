@@ -5,6 +5,7 @@ ghost use Rattle.placement.specs.Header.{block-long};
 ghost use mathlib.Core.Bool.{true};
 ghost use Rattle.placement.specs.Numbers.{over};
 ghost use Rattle.placement.specs.Sizes.{seed-good};
+ghost use Rattle.placement.specs.Hash.{hash-from};
 ghost use Rattle.placement.specs.Place.{Shaped, label-in, before-label, same-label, passes-label, home-of};
 use crate::Label;
 use crate::Sizes;
@@ -69,6 +70,18 @@ pub fn passes(l: Label, want: Label) -> bool
     before(l, want)
 }
 
+// The same of the label in a block. Most often its level decides, so no more is read then.
+pub fn passes_at(table: &[u8], s: Sizes, i: u32, want: Label) -> bool
+    requires { ⌜ Shaped s (now table) × (i < s .blocks) ⌝ }
+    ensures { λ r. ⌜ r ≡ passes-label (label-in (block-long s) (now (table .entry)) i) want ⌝ }
+{
+    let level = crate::numbers::wide(table[offset(s, i)]);
+    if level != want.level {
+        return 0 < level && level < want.level;
+    }
+    passes(label_at(table, s, i), want)
+}
+
 // The block where the search for a label starts: mod p before mod M.
 pub fn home(s: Sizes, want: Label) -> u32
     requires { ⌜ (seed-good (s .seed) ≡ true) × (0 < s .blocks) × (s .blocks ≤ 65535) ⌝ }
@@ -79,13 +92,12 @@ pub fn home(s: Sizes, want: Label) -> u32
     (t % (s.blocks as u64)) as u32
 }
 
-// The same without a division: `round` is 2^32 over the number of blocks, rounded up.
-pub fn home_over(s: Sizes, round: u64, want: Label) -> u32
-    requires { ⌜ (seed-good (s .seed) ≡ true) × (0 < s .blocks) × (s .blocks ≤ 65535) × (round ≡ over (s .blocks)) × (want .level ≤ 19) × (want .number ≤ 65535) ⌝ }
+// The same from the hash g of the first key, without a division: `round` is 2^32 over the number of blocks, rounded up.
+pub fn home_over(s: Sizes, round: u64, g: u32, want: Label) -> u32
+    requires { ⌜ (0 < s .blocks) × (s .blocks ≤ 65535) × (round ≡ over (s .blocks)) × (g ≡ hash-from 5 5 (s .seed) (want .first)) × (g < 2147483647) × (want .level ≤ 19) × (want .number ≤ 65535) ⌝ }
     ensures { λ r. ⌜ (r ≡ home-of s want) × (r < s .blocks) ⌝ }
 {
-    let h = crate::hash::hash(s, 5, want.first);
-    let t = h + 65536 * want.level + want.number;
+    let t = g + 65536 * want.level + want.number;
     if t < 2147483647 {
         return crate::numbers::remainder(t, s.blocks, round);
     }

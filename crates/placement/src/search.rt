@@ -1,8 +1,10 @@
 // The search for a label, and what stands in the block that it finds.
 ghost use mathlib.Core.Path.{_≡_};
 ghost use Prim.Native.Nat.{ℕ, _+_, _*_, _%_, _<_, _≤_};
+ghost use lib.Dec.{eqb};
 ghost use lib.ListN.{getD};
 ghost use Rattle.placement.specs.Numbers.{field, over};
+ghost use Rattle.placement.specs.Hash.{hash-from};
 ghost use Rattle.placement.specs.Header.{block-long};
 ghost use Rattle.placement.specs.Place.{Shaped, label-in, home-of, search-in, free-in};
 use crate::Found;
@@ -12,7 +14,7 @@ use crate::labels::home;
 use crate::labels::home_over;
 use crate::labels::label_at;
 use crate::labels::offset;
-use crate::labels::passes;
+use crate::labels::passes_at;
 use crate::labels::same;
 
 // The block after one, going round.
@@ -38,9 +40,8 @@ fn find_from(table: &[u8], s: Sizes, start: u32, want: Label) -> Found
         if m <= k {
             break Found::Nothing;
         }
-        let l = label_at(table, s, i);
-        if !passes(l, want) {
-            if same(l, want) {
+        if !passes_at(table, s, i, want) {
+            if same(label_at(table, s, i), want) {
                 break Found::At(i);
             }
             break Found::Nothing;
@@ -58,12 +59,20 @@ pub fn find(table: &[u8], s: Sizes, want: Label) -> Found
     find_from(table, s, home(s, want), want)
 }
 
-// The same without a division: `round` is 2^32 over the number of blocks, rounded up.
-pub fn find_over(table: &[u8], s: Sizes, round: u64, want: Label) -> Found
-    requires { ⌜ Shaped s (now table) × (round ≡ over (s .blocks)) × (want .level ≤ 19) × (want .number ≤ 65535) ⌝ }
+// The same from the hash g of the first key, without a division: `round` is 2^32 over the number of blocks, rounded up.
+pub fn find_over(table: &[u8], s: Sizes, round: u64, g: u32, want: Label) -> Found
+    requires { ⌜ Shaped s (now table) × (round ≡ over (s .blocks)) × (g ≡ hash-from 5 5 (s .seed) (want .first)) × (want .level ≤ 19) × (want .number ≤ 65535) ⌝ }
     ensures { λ r. ⌜ r ≡ search-in s (now (table .entry)) want ⌝ }
 {
-    find_from(table, s, home_over(s, round, want), want)
+    find_from(table, s, home_over(s, round, g, want), want)
+}
+
+// Does the search for a label start at an empty block, and end there?
+pub fn ends_at_once(table: &[u8], s: Sizes, round: u64, g: u32, want: Label) -> bool
+    requires { ⌜ Shaped s (now table) × (round ≡ over (s .blocks)) × (g ≡ hash-from 5 5 (s .seed) (want .first)) × (want .level ≤ 19) × (want .number ≤ 65535) ⌝ }
+    ensures { λ r. ⌜ r ≡ eqb (label-in (block-long s) (now (table .entry)) (home-of s want) .level) 0 ⌝ }
+{
+    table[offset(s, home_over(s, round, g, want))] == 0
 }
 
 // The first empty block from one on, going round.

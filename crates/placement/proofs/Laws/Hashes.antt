@@ -5,7 +5,7 @@ use mathlib.Core.Bool.{Bool, true, false, not, cond}
 use Prim.Native.Nat.{ℕ, zero, suc, _+_, _*_, _-_, _/_, _%_, _^_, _≤_, _<_}
 use native.Mathlib.Omega.{arith}
 use native.Mathlib.Numerals.{add-one, one-add, unary-clauses}
-use native.Mathlib.Nat.{add-zero, add-mul, mul-assoc, mul-add-mod-self-left, div-add-mod, add-mod, mod-mod, pow-succ', one-le-pow, mul-comm, div-div-eq-div-mul, div-one, mod-one, sub-zero, zero-mul, mul-le-mul, le-refl}
+use native.Mathlib.Nat.{zero-add, pow-zero, mul-one, mod-lt, add-zero, add-mul, mul-assoc, mul-add-mod-self-left, div-add-mod, add-mod, mod-mod, pow-succ', one-le-pow, mul-comm, div-div-eq-div-mul, div-one, mod-one, sub-zero, zero-mul, mul-le-mul, le-refl}
 use lib.Arith.{mod-mul}
 use lib.Dec.{leb, ltb, eqb}
 use lib.ListN.{getD}
@@ -16,6 +16,8 @@ use Rattle.placement.specs.declared.Sizes.{Sizes}
 use Rattle.placement.specs.Sizes.{prime, least-power, beta, seed-good}
 use Rattle.placement.specs.Hash.{hash-from, divides-from, level}
 use Rattle.placement.specs.Hash as hashes
+use Rattle.placement.specs.Numbers.{over}
+use Rattle.placement.proofs.Laws.Over.{exact}
 use Rattle.placement.proofs.Laws.Sizes.{and-parts}
 
 -- NUMBERS MOD m: a factor may be replaced by one that is equal mod m
@@ -63,6 +65,10 @@ unfolding hash-from
 hash-mod zero i ss x = refl
 hash-mod (suc k) i ss x = mod-mod _ prime
 
+pub hash-below : (s : Sizes) (i x v : ℕ) → v ≡ hash-from 5 i (s .seed) x → v < 2147483647
+unfolding hash-from
+hash-below s i x v e = rw e (mod-lt _ (omega arith))
+
 module _ (s : Sizes) (at x : ℕ) where
   pub hashing-start : Hashing s at x 0 0
   unfolding hash-from
@@ -105,14 +111,14 @@ module _ (h c most j v : ℕ) (pos : 0 < c) (i : Dividing h c most j v) where
   next : h % c ^ suc j ≡ v % c * c ^ j
   next = rw (i .quotient) (power-next c j h pos (i .divides))
 
-  pub dividing-stop : j < most → (v % c ≡ 0 → ⊥) → j ≡ divides-from most 0 c h
+  dividing-stop : j < most → (v % c ≡ 0 → ⊥) → j ≡ divides-from most 0 c h
   unfolding divides-from
   dividing-stop l ne =
       let e : h % c ^ suc j ≡ 0 → ⊥ = λ z. ne (times-zero _ _ (one-le-pow j c pos) (sym next ∙ z)) in
       let f : most - j ≡ suc (most - suc j) = omega arith in
       rw (i .rest, f, ne-eqb _ _ e)
 
-  pub dividing-more : j < most → v % c ≡ 0 → Dividing h c most (j + 1) (v / c)
+  dividing-more : j < most → v % c ≡ 0 → Dividing h c most (j + 1) (v / c)
   unfolding divides-from
   dividing-more l z =
       let e : h % c ^ suc j ≡ 0 = next ∙ rw z (zero-mul _) in
@@ -123,6 +129,15 @@ module _ (h c most j v : ℕ) (pos : 0 < c) (i : Dividing h c most j v) where
         divides = rw add-one e;
         rest = i .rest ∙ rw (f, eq-eqb _ _ e, add-one);
       }
+
+  module _ (t : Bool) (l : j < most) (et : t ≡ eqb (v % c) 0) where
+    pub dividing-less : t ≡ false → j ≡ divides-from most 0 c h
+    dividing-less e = dividing-stop l (eqb-false _ _ (sym et ∙ e))
+
+    pub dividing-on : (u q : ℕ) → t ≡ true → u ≡ over c → q ≡ v * u / 4294967296 → v ≤ 4294967295 → Dividing h c most (j + 1) q
+    dividing-on u q e eu eq b =
+        let z = eqb-true _ _ (sym et ∙ e) in
+        rw (exact v c u pos eu q eq b z) (dividing-more l z)
 
   pub dividing-end : most ≤ j → j ≡ divides-from most 0 c h
   unfolding divides-from
@@ -185,7 +200,7 @@ beta-some s b e = omega arith
 pub level-small : (s : Sizes) (b d : ℕ) → b ≡ beta s → d ≤ b - 1 → 1 + d ≤ b
 level-small s b d e h = omega (arith, beta-some s b e)
 
--- the search for powers ends at a power that divides, and not before where it began
+-- A LEVEL BY NO MORE POWERS THAN IT TAKES: a longer search ends at j + k exactly when one of k + 1 powers does
 divides-least : (m j c v : ℕ) → j ≤ divides-from m j c v
 unfolding divides-from
 divides-least zero j c v = omega arith
@@ -195,73 +210,58 @@ divides-least (suc m) j c v = go (divides-least m (suc j) c v) (eqb (v % c ^ suc
     go ih true = omega arith
     go ih false = omega arith
 
-divides-divides : (m j c v : ℕ) → v % c ^ j ≡ 0 → v % c ^ divides-from m j c v ≡ 0
+divides-capped : (k m j c v : ℕ) → k ≤ m → eqb (divides-from (suc m) j c v) (j + k) ≡ eqb (divides-from (suc k) j c v) (j + k)
 unfolding divides-from
-divides-divides zero j c v e = e
-divides-divides (suc m) j c v e = go (divides-divides m (suc j) c v) (eqb (v % c ^ suc j) 0) refl
+divides-capped zero m j c v l = go (eqb (v % c ^ suc j) 0)
   where
-    go : (v % c ^ suc j ≡ 0 → v % c ^ divides-from m (suc j) c v ≡ 0) → (t : Bool) → eqb (v % c ^ suc j) 0 ≡ t → v % c ^ cond t (divides-from m (suc j) c v) j ≡ 0
-    go ih true q = ih (eqb-true _ _ q)
-    go ih false q = e
+    go : (t : Bool) → eqb (cond t (divides-from m (suc j) c v) j) (j + 0) ≡ eqb (cond t (suc j) j) (j + 0)
+    go true = ne-eqb (divides-from m (suc j) c v) (j + 0) (λ q. omega (arith, divides-least m (suc j) c v)) ∙ sym (ne-eqb (suc j) (j + 0) (λ q. omega arith))
+    go false = refl
+divides-capped (suc k) zero j c v l = absurd (omega arith)
+divides-capped (suc k) (suc m) j c v l = go (divides-capped k m (suc j) c v (omega arith)) (eqb (v % c ^ suc j) 0)
+  where
+    go : eqb (divides-from (suc m) (suc j) c v) (suc j + k) ≡ eqb (divides-from (suc k) (suc j) c v) (suc j + k)
+        → (t : Bool) → eqb (cond t (divides-from (suc m) (suc j) c v) j) (j + suc k) ≡ eqb (cond t (divides-from (suc k) (suc j) c v) j) (j + suc k)
+    go ih true = let e : j + suc k ≡ suc j + k = omega arith in rw e ih
+    go ih false = refl
 
--- where c^j divides h, the search passes j
-power-back : (c j v : ℕ) → 0 < c → v % c ^ suc j ≡ 0 → v % c ^ j ≡ 0
-power-back c j v pos e =
-    let f : (v / c ^ j % c) * c ^ j + v % c ^ j ≡ 0 = sym (mod-mul v pos (one-le-pow j c pos)) ∙ (rw pow-succ' at e) in
-    omega arith
+one-less : (a l : ℕ) → 1 ≤ l → eqb (suc a) l ≡ eqb a (l - 1)
+one-less a l h = go (eqb a (l - 1)) refl
+  where
+    go : (t : Bool) → eqb a (l - 1) ≡ t → eqb (suc a) l ≡ t
+    go true e = eq-eqb (suc a) l (omega (arith, eqb-true a (l - 1) e))
+    go false e = ne-eqb (suc a) l (λ q. eqb-false a (l - 1) e (omega arith))
 
-dividing-at : (h c most j : ℕ) → 0 < c → j ≤ most → h % c ^ j ≡ 0 → Dividing h c most j (h / c ^ j)
-dividing-at h c most zero pos l e = simp (unary-clauses, div-one) (dividing-start h c most)
-dividing-at h c most (suc j) pos l e =
-    let i = dividing-at h c most j pos (omega arith) (power-back c j h pos e) in
-    let z : h / c ^ j % c ≡ 0 = times-zero _ _ (one-le-pow j c pos) (sym (power-next c j h pos (i .divides)) ∙ e) in
-    let r = dividing-more h c most j (h / c ^ j) pos i (omega arith) z in
-    record { within = l; quotient = refl; divides = e; rest = rw add-one at (r .rest) }
+module _ (s : Sizes) (b l v x d : ℕ) (nz : 0 < x) (eb : b ≡ beta s) (ev : v ≡ hash-from 5 0 (s .seed) x) where
+  is : level s x ≡ suc (divides-from (b - 1) 0 (s .gamma) v)
+  is = level-is s x b v (omega arith) eb ev
 
--- A LEVEL BY TWO REMAINDERS: with j = l - 1, c^j divides v, and c does not divide v / c^j unless l is the highest level
-module _ (s : Sizes) (b l p v x : ℕ) (pos : 0 < s .gamma) (lo : 1 ≤ l) (hi : l ≤ b) (ep : p ≡ s .gamma ^ (l - 1)) where
-  abbrev found : ℕ
-  found = divides-from (b - 1) 0 (s .gamma) v
+  pub level-top : l ≡ b → d ≡ divides-from (b - 1) 0 (s .gamma) v → eqb (1 + d) l ≡ eqb (level s x) l
+  level-top e f = rw (is, one-add, f)
 
-  pub power-some : 0 < p
-  power-some = rw ep (one-le-pow (l - 1) (s .gamma) pos)
-
-  power-at : v % p ≡ 0 → Dividing v (s .gamma) (b - 1) (l - 1) (v / p)
-  power-at e = rw ep (dividing-at v (s .gamma) (b - 1) (l - 1) pos (omega arith) (rw ep at e))
-
-  module _ (nz : 0 < x) (eb : b ≡ beta s) (ev : v ≡ hash-from 5 0 (s .seed) x) where
-    is : level s x ≡ suc found
-    is = level-is s x b v (omega arith) eb ev
-
-    same : l - 1 ≡ found → true ≡ eqb (level s x) l
-    same e = sym (rw is (eq-eqb (suc found) l (omega arith)))
-
-    other : (l - 1 ≡ found → ⊥) → false ≡ eqb (level s x) l
-    other ne = sym (rw is (ne-eqb (suc found) l (λ q. ne (omega arith))))
-
-    pub level-no : (v % p ≡ 0 → ⊥) → false ≡ eqb (level s x) l
-    level-no ne = other (λ q. ne (rw (ep, q) (divides-divides (b - 1) 0 (s .gamma) v (simp unary-clauses (mod-one v)))))
-
-    pub level-top : v % p ≡ 0 → l ≡ b → true ≡ eqb (level s x) l
-    level-top e f = same (dividing-end v (s .gamma) (b - 1) (l - 1) (v / p) pos (power-at e) (omega arith))
-
-    pub level-next : v % p ≡ 0 → (l ≡ b → ⊥) → not (eqb (v / p % s .gamma) 0) ≡ eqb (level s x) l
-    level-next e ne = go (eqb (v / p % s .gamma) 0) refl
-      where
-        go : (t : Bool) → eqb (v / p % s .gamma) 0 ≡ t → not t ≡ eqb (level s x) l
-        go true q =
-            let r = dividing-more v (s .gamma) (b - 1) (l - 1) (v / p) pos (power-at e) (omega (arith, ne)) (eqb-true _ _ q) in
-            let m = divides-least (b - 1 - (l - 1 + 1)) (l - 1 + 1) (s .gamma) v in
-            other (λ z. omega (arith, r .rest, m))
-        go false q = same (dividing-stop v (s .gamma) (b - 1) (l - 1) (v / p) pos (power-at e) (omega (arith, ne)) (eqb-false _ _ q))
+  pub level-below : 1 ≤ l → l ≤ b → (l ≡ b → ⊥) → d ≡ divides-from l 0 (s .gamma) v → eqb (1 + d) l ≡ eqb (level s x) l
+  level-below lo hi ne f =
+      let e : b - 1 ≡ suc (b - 2) = omega (arith, ne) in
+      let k : l ≡ suc (l - 1) = omega arith in
+      let r : eqb (divides-from (suc (b - 2)) 0 (s .gamma) v) (l - 1) ≡ eqb (divides-from (suc (l - 1)) 0 (s .gamma) v) (l - 1) =
+      rw zero-add at (divides-capped (l - 1) (b - 2) 0 (s .gamma) v (omega (arith, ne))) in
+      let q : d ≡ divides-from (suc (l - 1)) 0 (s .gamma) v = f ∙ ap (λ (z : ℕ). divides-from z 0 (s .gamma) v) k in
+      rw (one-add, is, e) (one-less d l lo ∙ rw q (sym r) ∙ sym (one-less _ l lo))
 
 -- THE LOWEST LEVEL by one remainder: there is always a higher one
 beta-two : (s : Sizes) → 2 ≤ beta s
 unfolding beta
 beta-two s = omega arith
 
+power-one : (c v : ℕ) (t : Bool) → t ≡ eqb (v % c) 0 → divides-from 1 0 c v ≡ cond t 1 0
+unfolding divides-from
+power-one c v t e = rw (pow-succ', pow-zero, mul-one, ← e)
+
 pub lowest-says : (s : Sizes) (v x : ℕ) (t : Bool) → 0 < s .gamma → 0 < x → v ≡ hash-from 5 0 (s .seed) x → t ≡ eqb (v % s .gamma) 0 → not t ≡ eqb (level s x) 1
 lowest-says s v x t pos nz ev et =
     let b = beta-two s in
-    let r = level-next s (beta s) 1 1 v x pos (omega arith) (omega arith) (simp unary-clauses) nz refl ev (mod-one v) (λ e. omega arith) in
-    ap not et ∙ (rw div-one at r)
+    go t ∙ level-below s (beta s) 1 v x (cond t 1 0) nz refl ev (omega arith) (omega arith) (λ e. omega arith) (sym (power-one (s .gamma) v t et))
+  where
+    go : (t : Bool) → not t ≡ eqb (1 + cond t 1 0) 1
+    go true = refl
+    go false = refl

@@ -1,15 +1,15 @@
 -- What the loops of this crate keep, and their turns. Assumes nothing.
 use mathlib.Core.Path.{_≡_, refl, sym, ap, _∙_}
 use mathlib.Core.List.{List, [], _∷_, _++_}
-use mathlib.Core.Bool.{Bool, true, false, cond}
+use mathlib.Core.Bool.{Bool, true, false, _||_, cond}
 use Prim.Native.Nat.{ℕ, zero, suc, _+_, _*_, _-_, _/_, _%_, _≤_, _<_}
 use native.Mathlib.Nat.{le-refl, add-zero, sub-zero, pos-of-ne-zero, mod-lt, mod-eq-of-lt, mod-eq-sub-mod, mod-self, mod-add-mod, lt-of-lt-of-le}
 use native.Mathlib.Omega.{arith}
 use native.Mathlib.Numerals.{towards-suc}
-use lib.Dec.{leb, eqb}
+use lib.Dec.{ltb, leb, eqb}
 use lib.ListN.{length, getD, replicate, length-append}
 use lib.Seq.{sets}
-use borrow.Author.Tests.{eq-eqb, ne-eqb, le-ltb, lt-ltb}
+use borrow.Author.Tests.{eq-eqb, ne-eqb, le-ltb, lt-ltb, eqb-true}
 use mir.Val.{Fits}
 use mir.Syntax.{w32}
 use Rattle.placement.specs.Numbers.{field, big}
@@ -40,21 +40,21 @@ module _ (look : ℕ → Label) (m : ℕ) (w : Label) (home start : ℕ) where
         let f : m - k ≡ 0 = omega arith in
         rw (i .rest, f)
 
-    module _ (p : ℕ) (ep : p ≡ (start + k) % m) (l : Label) (s : Bool) (at : l ≡ look p) (es : s ≡ passes-label l w) (lt : k < m) where
+    module _ (p : ℕ) (ep : p ≡ (start + k) % m) (s : Bool) (es : s ≡ passes-label (look p) w) (lt : k < m) where
       pub probing-more : s ≡ true → Probing look m w home start (k + 1)
       unfolding probe
       probing-more e =
           let f : m - k ≡ suc (m - (k + 1)) = omega arith in
           let n : start + (k + 1) ≡ suc (start + k) = omega arith in
-          let q : passes-label (look ((start + k) % m)) w ≡ true = rw (← ep, ← at, ← es, e) in
+          let q : passes-label (look ((start + k) % m)) w ≡ true = rw (← ep, ← es, e) in
           record { within = omega arith; rest = i .rest ∙ rw (f, q, n) }
 
-      module _ (e : s ≡ false) (t : Bool) (et : t ≡ same-label l w) where
+      module _ (e : s ≡ false) (l : Label) (t : Bool) (at : l ≡ look p) (et : t ≡ same-label l w) where
         stopped : probe look m w m home ≡ cond t (At p) Nothing
         unfolding probe
         stopped =
             let f : m - k ≡ suc (m - (k + 1)) = omega arith in
-            let q : passes-label (look ((start + k) % m)) w ≡ false = rw (← ep, ← at, ← es, e) in
+            let q : passes-label (look ((start + k) % m)) w ≡ false = rw (← ep, ← es, e) in
             i .rest ∙ rw (f, q, et, at, ← ep)
 
         pub probing-same : t ≡ true → At p ≡ probe look m w m home
@@ -121,6 +121,25 @@ search-below g bs w r i e q s = rw (sym q ∙ e) at (probe-below (label-in (bloc
 pub passes-empty : (l w : Label) → l .level ≡ 0 → false ≡ passes-label l w
 unfolding passes-label
 passes-empty l w e = rw e
+
+-- the level of the label in block i decides, where it is not the one that is looked for
+module _ (w : ℕ) (bs : List ℕ) (i a v : ℕ) (want : Label) (ea : a ≡ 53 + i * w) (ev : v ≡ getD bs a 0) where
+  pub passes-none : v ≤ 0 → ltb 0 v ≡ passes-label (label-in w bs i) want
+  unfolding label-in
+  passes-none h =
+      let z : v ≡ 0 = omega arith in
+      rw z (passes-empty (label-in w bs i) want (sym (rw ea at ev) ∙ z))
+
+  pub passes-level : 0 < v → (v ≡ want .level → ⊥) → ltb v (want .level) ≡ passes-label (label-in w bs i) want
+  unfolding passes-label before-label label-in
+  passes-level h ne = rw (← ea, ← ev, lt-ltb 0 v h, ne-eqb v (want .level) ne) (or-none (ltb v (want .level)))
+    where
+      or-none : (t : Bool) → t ≡ (t || false)
+      or-none true = refl
+      or-none false = refl
+
+pub passes-there : (l l′ w : Label) (t : Bool) → l ≡ l′ → t ≡ passes-label l w → t ≡ passes-label l′ w
+passes-there l l′ w t e q = q ∙ ap (λ (z : Label). passes-label z w) e
 
 pub passes-held : (l w : Label) (t : Bool) → t ≡ before-label l w → (l .level ≡ 0 → ⊥) → t ≡ passes-label l w
 unfolding passes-label
@@ -199,9 +218,30 @@ pub label-made : (w : ℕ) (bs : List ℕ) (i a l n f : ℕ) → a ≡ 53 + i * 
 unfolding label-in
 label-made w bs i a l n f ea el en ef = rw (el, en, ef, ea)
 
+home-less : (s : Sizes) (w : Label) → 0 < s .blocks → home-of s w < s .blocks
+unfolding home-of
+home-less s w pos = mod-lt _ pos
+
 pub home-made : (s : Sizes) (w : Label) (h : ℕ) → h ≡ hash-from 5 5 (s .seed) (w .first) → (h + 65536 * w .level + w .number) % 2147483647 % s .blocks ≡ home-of s w
 unfolding home-of g
 home-made s w h e = rw e
+
+-- an empty block where the search for a label starts
+pub empty-says : (s : Sizes) (bs : List ℕ) (want : Label) (i a v : ℕ) → i ≡ home-of s want → a ≡ 53 + i * block-long s → v ≡ getD bs a 0
+    → eqb v 0 ≡ eqb (label-in (block-long s) bs (home-of s want) .level) 0
+unfolding label-in
+empty-says s bs want i a v ei ea ev = rw (ev, ea, ei)
+
+-- ends the search
+probe-none : (look : ℕ → Label) (m : ℕ) (want : Label) (k i : ℕ) → i < m → 1 ≤ want .level → look i .level ≡ 0 → probe look m want k i ≡ Nothing
+unfolding probe same-label
+probe-none look m want zero i h lo z = refl
+probe-none look m want (suc k) i h lo z = rw (mod-eq-of-lt h, ← passes-empty (look i) want z, z, ne-eqb 0 (want .level) (λ q. omega arith))
+
+pub search-none : (s : Sizes) (bs : List ℕ) (want : Label) → Shaped s bs → 1 ≤ want .level → eqb (label-in (block-long s) bs (home-of s want) .level) 0 ≡ true
+    → search-in s bs want ≡ Nothing
+unfolding search-in
+search-none s bs want h lo e = probe-none (label-in (block-long s) bs) (s .blocks) want (s .blocks) (home-of s want) (home-less s want (h .some)) lo (eqb-true _ _ e)
 
 -- a sum below p, and one that is less than p past it
 pub home-below : (s : Sizes) (w : Label) (h r : ℕ) → h ≡ hash-from 5 5 (s .seed) (w .first) → h + 65536 * w .level + w .number < 2147483647

@@ -1,13 +1,10 @@
 -- `placement::hash::has_level` meets its contract: each need follows from the laws listed. Assumes nothing.
 use borrow.Author.Needs.{needs}
-use Rattle.placement.proofs.Laws.Hashes.{power-some, level-no, level-top, level-next}
+use Rattle.placement.proofs.Laws.Hashes.{level-top, level-below}
 use Rattle.placement.proofs.hash.has_level.Statement.{statement}
 use Rattle.placement.proofs.hash.has_level.Tie as tie
 
-ruleset laws = (needs, power-some, level-no, level-top, level-next)
+ruleset laws = (needs, level-top, level-below)
 
 pub has-level-spec : {M : Type 1} → statement M
-has-level-spec =
-    tie.close
-    (tie.spec (λ c κs. search laws) (λ c. search laws) (λ c. search laws) (λ c. search laws) (λ c. search laws)
-    (λ c. search laws) (λ c. search laws))
+has-level-spec = tie.close (tie.spec (λ c κs. search laws) (λ c. search laws) (λ c κs. search laws) (λ c. search laws) (λ c. search laws) (λ c κs. search laws) (λ c. search laws) (λ c. search laws))

@@ -9,5 +9,5 @@ ruleset laws = (needs, level-front, level-key, beta-some, level-small)
 pub level-of-spec : {M : Type 1} → statement M
 level-of-spec =
     tie.close
-    (tie.spec (λ c. search laws) (λ c κs. search laws) (λ c. search laws) (λ c κs. search laws) (λ c. search laws)
+    (tie.spec (λ c. search laws) (λ c κs. search laws) (λ c κs. search laws) (λ c. search laws) (λ c κs. search laws) (λ c. search laws)
     (λ c. search laws))

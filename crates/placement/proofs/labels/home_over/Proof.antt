@@ -9,5 +9,5 @@ ruleset laws = (needs, home-below, home-past)
 pub home-over-spec : {M : Type 1} → statement M
 home-over-spec =
     tie.close
-    (tie.spec (λ c κs. search laws) (λ c. search laws) (λ c. search laws) (λ c. search laws) (λ c κs. search laws) (λ c. search laws)
-    (λ c κs. search laws) (λ c. search laws))
+    (tie.spec (λ c. search laws) (λ c. search laws) (λ c. search laws) (λ c κs. search laws) (λ c. search laws) (λ c κs. search laws)
+    (λ c. search laws))
