@@ -36,6 +36,13 @@ module _ (f y : ℕ) (n : Order) where
   unfolding heads-ok
   heads-last q e l h eq = eq ∙ sym (rw (eq-eqb (n .key) f e, le-leb y (n .key) l, lt-ltb (n .key) 2147483647 h))
 
+  pub heads-fits : (t : Bool) → t ≡ heads-ok f y n → t ≡ true → Fits w32 (n .key + 1)
+  unfolding heads-ok
+  heads-fits t et e =
+      let a = and-eq-true-iff (eqb (n .key) f) (leb y (n .key) && (ltb (n .key) prime && quantities-ok 1 n)) .0 (sym et ∙ e) in
+      let b = and-eq-true-iff (leb y (n .key)) (ltb (n .key) prime && quantities-ok 1 n) .0 (a .1) in
+      record { fits = omega (arith, ltb-true (n .key) prime (and-eq-true-iff (ltb (n .key) prime) (quantities-ok 1 n) .0 (b .1) .0)) }
+
 -- ANY OTHER
 module _ (s : Sizes) (y : ℕ) (n : Order) where
   pub follows-low : n .key < y → false ≡ follows-ok s y n
@@ -58,13 +65,12 @@ module _ (s : Sizes) (y : ℕ) (n : Order) where
   unfolding follows-ok
   follows-last v l h e z t = sym (rw (le-leb y (n .key) l, lt-ltb (n .key) 2147483647 h, sym e ∙ z, le-leb 1 (n .total) t))
 
-  module _ (t : Bool) (et : t ≡ follows-ok s y n) (e : t ≡ true) where
-    pub follows-fits : Fits w32 (n .key + 1)
-    unfolding follows-ok
-    follows-fits =
-        let w : Bool = eqb (level s (n .key)) 1 && (leb 1 (n .total) && leb (n .displayed) (n .total)) in
-        let a = and-eq-true-iff (leb y (n .key)) (ltb (n .key) prime && w) .0 (sym et ∙ e) in
-        record { fits = omega (arith, ltb-true (n .key) prime (and-eq-true-iff (ltb (n .key) prime) w .0 (a .1) .0)) }
+  pub follows-fits : (t : Bool) → t ≡ follows-ok s y n → t ≡ true → Fits w32 (n .key + 1)
+  unfolding follows-ok
+  follows-fits t et e =
+      let w : Bool = eqb (level s (n .key)) 1 && (leb 1 (n .total) && leb (n .displayed) (n .total)) in
+      let a = and-eq-true-iff (leb y (n .key)) (ltb (n .key) prime && w) .0 (sym et ∙ e) in
+      record { fits = omega (arith, ltb-true (n .key) prime (and-eq-true-iff (ltb (n .key) prime) w .0 (a .1) .0)) }
 
 -- THE LOOP over those others: what it keeps
 pub record Ordering (s : Sizes) (bs : List ℕ) (j₀ a₀ y₀ j a y : ℕ) : Type 0 where
@@ -241,23 +247,23 @@ module _ (s : Sizes) (bs : List ℕ) (f j a : ℕ) (o : Bool) (x : Seen) where
       pub lowest-first : t ≡ false → Lowest s bs f j a o x 0
       lowest-first q = nothing-passed (first false q)
 
-      pub headed-first : t ≡ true → a + 12 * j ≤ length bs → Headed s bs f j a o x (j - 1) (a + 12) (n .key + 1)
+      pub headed-first : t ≡ true → a + 12 * j ≤ length bs → (y b k : ℕ) → y ≡ n .key + 1 → b ≡ a + 12 → k ≡ j - 1 → Headed s bs f j a o x k b y
       unfolding entered-seen
-      headed-first q room =
+      headed-first q room y b k ey eb ek =
           let z : j ≡ suc (j - 1) = omega arith in
-          let y : cond (eqb (n .key + 1) 0) 1 (n .key + 1) ≡ n .key + 1 = rw (ne-eqb (n .key + 1) 0 (λ h. omega arith)) in
-          record {
+          let least : cond (eqb (n .key + 1) 0) 1 (n .key + 1) ≡ n .key + 1 = rw (ne-eqb (n .key + 1) 0 (λ h. omega arith)) in
+          rw (ey, eb, ek) record {
             room = omega arith;
             rest =
                 first true q
                 ∙ orders-pass s bs f (j - 1) (a + 12) (n .key + 1) (came (n .key) (entered-seen x)) refl refl (omega arith) (omega arith)
                 ∙ passed-one (j - 1) (orders-by s bs (j - 1) (a + 12) (n .key + 1)) (n .key) (entered-seen x)
-                ∙ (λ i. passed-by (sym z i) (orders-by s bs (j - 1) (a + 12) (sym y i)) (entered-seen x));
+                ∙ (λ i. passed-by (sym z i) (orders-by s bs (j - 1) (a + 12) (sym least i)) (entered-seen x));
           }
 
-    pub headed-other : o ≡ false → a + 12 * j ≤ length bs → Headed s bs f j a o x j a (x .low)
+    pub headed-other : o ≡ false → a + 12 * j ≤ length bs → (y b k : ℕ) → y ≡ x .low → b ≡ a → k ≡ j → Headed s bs f j a o x k b y
     unfolding entered-seen
-    headed-other e room = record { room = room; rest = ap (λ (b : Bool). nodes-by (opens-of s bs 0) s bs 1 f j a b (entered-seen x)) e ∙ go (x .low) refl }
+    headed-other e room y b k ey eb ek = rw (ey, eb, ek) record { room = room; rest = ap (λ (b : Bool). nodes-by (opens-of s bs 0) s bs 1 f j a b (entered-seen x)) e ∙ go (x .low) refl }
       where
         go : (y : ℕ) → x .low ≡ y → nodes-by (opens-of s bs 0) s bs 1 f j a false (entered-seen x) ≡ passed-by j (orders-by s bs j a (cond (eqb (x .low) 0) 1 (x .low))) (entered-seen x)
         go zero q =
@@ -276,12 +282,19 @@ module _ (s : Sizes) (bs : List ℕ) (f j a : ℕ) (o : Bool) (x : Seen) where
       pub lowest-is : z ≡ cond (eqb y 0) 1 y → Lowest s bs f j a o x r
       lowest-is ez = record { is = h .rest ∙ ap (λ (i : ℕ). passed-by j i (entered-seen x)) (sym (er ∙ ap (orders-by s bs k b) ez)); few = λ p. few }
 
--- 1 where a key may be at least 0
-pub least-one : (y : ℕ) → y ≡ 0 → 1 ≡ cond (eqb y 0) 1 y
-least-one y e = sym (rw (eq-eqb y 0 e))
+-- what such a key is at least: 1 where y is 0
+pub least-one : (y z : ℕ) → y ≡ 0 → z ≡ 1 → z ≡ cond (eqb y 0) 1 y
+least-one y z e q = rw (eq-eqb y 0 e) q
 
-pub least-same : (y : ℕ) → (y ≡ 0 → ⊥) → y ≡ cond (eqb y 0) 1 y
-least-same y ne = sym (rw (ne-eqb y 0 ne))
+pub least-same : (y z : ℕ) → (y ≡ 0 → ⊥) → z ≡ y → z ≡ cond (eqb y 0) 1 y
+least-same y z ne q = rw (ne-eqb y 0 ne) q
+
+pub least-some : (y z : ℕ) → z ≡ cond (eqb y 0) 1 y → 1 ≤ z
+least-some zero z e = omega arith
+least-some (suc y) z e =
+    let n = ne-eqb (suc y) 0 (λ q. omega arith) in
+    let h : z ≡ suc y = e ∙ rw n in
+    omega arith
 
 -- the chunk is walked so where the level is 1
 module _ (s : Sizes) (bs : List ℕ) (l f n a : ℕ) (o : Bool) (y : Seen) (e : l ≡ 1) (r : ℕ) (w : Lowest s bs f n a o y r) where

@@ -2,24 +2,23 @@
 use mathlib.Core.Path.{_≡_, refl, ap, sym, _∙_}
 use mathlib.Core.Bool.{Bool, true, false, _&&_, cond, and-false, and-eq-true-iff}
 use mathlib.Core.List.{List}
-use Prim.Native.Nat.{ℕ, zero, suc, _+_, _*_, _-_, _%_, _^_, _≤_, _<_}
+use Prim.Native.Nat.{ℕ, zero, suc, _+_, _*_, _-_, _^_, _≤_, _<_}
 use lib.Dec.{leb, eqb}
-use borrow.Author.Tests.{ne-eqb, eqb-true, leb-true}
+use borrow.Author.Tests.{leb-true}
 use native.Mathlib.Omega.{arith}
-use native.Mathlib.Nat.{sub-zero, mod-lt, mod-eq-of-lt}
+use native.Mathlib.Nat.{sub-zero}
 use native.Mathlib.Numerals.{add-one}
 use lib.ListN.{length, getD}
 use Rattle.placement.specs.Sizes.{least-power, beta}
 use Rattle.placement.specs.Numbers.{field}
 use Rattle.placement.specs.Hash.{hash-from}
 use Rattle.placement.specs.Header.{block-long}
-use Rattle.placement.specs.Place.{Shaped, label-in, passes-label, same-label, home-of, probe, search-in, found-at}
+use Rattle.placement.specs.Place.{Shaped, label-in, home-of, search-in, found-at}
 use Rattle.placement.specs.declared.Sizes.{Sizes}
-use Rattle.placement.specs.declared.Label.{Label}
 use Rattle.placement.specs.declared.Order.{Order}
 use Rattle.placement.specs.declared.Found.{Found}
 use Rattle.placement.specs.declared.Found.the-variants.{At, Nothing}
-use Rattle.placement.proofs.Laws.Loops.{search-below}
+use Rattle.placement.proofs.Laws.Loops.{search-below, search-none}
 use Rattle.table.specs.declared.Seen.{Seen}
 use Rattle.table.specs.Walk.{Walkable, node-of, wrong-seen, quantities-ok, belongs-in, enters-ok, entered-seen, ended-seen, stops-at, node-good, nodes-by, spot, chunk-spot, count-in, chunk-by, chunks-by, opens-of}
 use Rattle.table.proofs.Laws.Steps.{node-key}
@@ -200,23 +199,12 @@ module _ (s : Sizes) (bs : List ℕ) (l f : ℕ) (x : Seen) where
               chunking-more q = record { above = c .above; within = omega arith; rest = here ∙ rw (whole, ← es, q) }
 
 -- a partition whose search starts at an empty block has no chunk
-home-inside : (s : Sizes) (w : Label) → 0 < s .blocks → home-of s w < s .blocks
-unfolding home-of
-home-inside s w some = mod-lt _ some
-
-search-empty : (s : Sizes) (bs : List ℕ) (w : Label) → 0 < s .blocks → 0 < w .level → label-in (block-long s) bs (home-of s w) .level ≡ 0 → search-in s bs w ≡ Nothing
-unfolding search-in probe passes-label same-label
-search-empty s bs w some lo e =
-    let m : s .blocks ≡ suc (s .blocks - 1) = omega arith in
-    let h : home-of s w % s .blocks ≡ home-of s w = mod-eq-of-lt (home-inside s w some) in
-    ap (λ (k : ℕ). probe (label-in (block-long s) bs) (s .blocks) w k (home-of s w)) m ∙ rw (h, e, ne-eqb 0 (w .level) (λ q. omega arith))
-
-pub opens-empty : (s : Sizes) (bs : List ℕ) (l f : ℕ) (x : Seen) → 0 < s .blocks → 0 < l → (t : Bool)
+pub opens-empty : (s : Sizes) (bs : List ℕ) (l f : ℕ) (x : Seen) → Shaped s bs → 1 ≤ l → (t : Bool)
     → t ≡ eqb (label-in (block-long s) bs (home-of s (record { level = l; first = f; number = 0 })) .level) 0 → t ≡ true → opens-of s bs l f x ≡ wrong-seen
 unfolding chunk-spot ended-seen
-opens-empty s bs l f x some lo t et e =
-    let none = search-empty s bs (record { level = l; first = f; number = 0 }) some lo (eqb-true _ 0 (sym et ∙ e)) in
-    sym (chunking-none s bs l f x 0 x (chunking-start s bs l f x (λ q. omega arith)) some Nothing (sym none) wrong-seen refl refl)
+opens-empty s bs l f x h lo t et e =
+    let none = search-none s bs (record { level = l; first = f; number = 0 }) h lo (sym et ∙ e) in
+    sym (chunking-none s bs l f x 0 x (chunking-start s bs l f x (λ q. omega arith)) (h .some) Nothing (sym none) wrong-seen refl refl)
 
 -- THE HASH of the next node's key, which the loop over nodes has at hand
 pub record Keyed (s : Sizes) (bs : List ℕ) (j a g : ℕ) : Type 0 where
