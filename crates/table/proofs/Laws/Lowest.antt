@@ -298,8 +298,8 @@ least-some (suc y) z e =
 
 -- the chunk is walked so where the level is 1
 module _ (s : Sizes) (bs : List ℕ) (l f n a : ℕ) (o : Bool) (y : Seen) (e : l ≡ 1) (r : ℕ) (w : Lowest s bs f n a o y r) where
-  pub lowest-nodes : (z : Seen) → z ≡ passed-by n r (entered-seen y) → z ≡ nodes-by (opens-of s bs (l - 1)) s bs l f n a o (entered-seen y)
-  lowest-nodes z ez = ez ∙ sym (w .is) ∙ ap (λ (i : ℕ). nodes-by (opens-of s bs (i - 1)) s bs i f n a o (entered-seen y)) (sym e)
+  pub lowest-nodes : (v z : Seen) → z ≡ v → v ≡ passed-by n r (entered-seen y) → z ≡ nodes-by (opens-of s bs (l - 1)) s bs l f n a o (entered-seen y)
+  lowest-nodes v z ez ev = ez ∙ ev ∙ sym (w .is) ∙ ap (λ (i : ℕ). nodes-by (opens-of s bs (i - 1)) s bs i f n a o (entered-seen y)) (sym e)
 
   pub lowest-none : r ≡ 0 → (z : Seen) → z ≡ wrong-seen → z ≡ nodes-by (opens-of s bs (l - 1)) s bs l f n a o (entered-seen y)
-  lowest-none q z ez = lowest-nodes z (ez ∙ sym (ap (λ (i : ℕ). passed-by n i (entered-seen y)) q ∙ passed-none n (entered-seen y)))
+  lowest-none q z ez = lowest-nodes wrong-seen z ez (sym (ap (λ (i : ℕ). passed-by n i (entered-seen y)) q ∙ passed-none n (entered-seen y)))

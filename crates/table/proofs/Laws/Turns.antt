@@ -113,22 +113,25 @@ pub level-most : (s : Sizes) (l top : ℕ) → l ≤ top → top ≡ beta s → 
 unfolding beta
 level-most s l top h e = omega (arith, least-most 17 0 (s .gamma) (s .orders))
 
+pub below-most : (s : Sizes) (l top : ℕ) → l ≤ top → top ≡ beta s → l - 1 ≤ 19
+below-most s l top h e = omega (arith, level-most s l top h e)
+
 pub number-most : (i m : ℕ) → i < m → m ≤ 65535 → i ≤ 65535
 number-most i m h k = omega arith
 
 -- CHUNKS
 pub record Chunking (s : Sizes) (bs : List ℕ) (l f : ℕ) (x : Seen) (i : ℕ) (y : Seen) : Type 0 where
-  pub above : l ≡ 0 → ⊥
+  pub above : 1 ≤ l
   pub within : i ≤ s .blocks
   pub rest : opens-of s bs l f x ≡ chunks-by (opens-of s bs (l - 1)) s bs l f (s .blocks - i) i y
 
 module _ (s : Sizes) (bs : List ℕ) (l f : ℕ) (x : Seen) where
-  pub chunking-start : (l ≡ 0 → ⊥) → Chunking s bs l f x 0 x
+  pub chunking-start : 1 ≤ l → Chunking s bs l f x 0 x
   unfolding opens-of
-  chunking-start ne =
+  chunking-start lo =
       let e : l ≡ suc (l - 1) = omega arith in
       record {
-        above = ne;
+        above = lo;
         within = omega arith;
         rest =
             ap (λ (i : ℕ). opens-of s bs i f x) e
@@ -198,13 +201,23 @@ module _ (s : Sizes) (bs : List ℕ) (l f : ℕ) (x : Seen) where
               pub chunking-more : u ≡ false → Chunking s bs l f x (i + 1) z
               chunking-more q = record { above = c .above; within = omega arith; rest = here ∙ rw (whole, ← es, q) }
 
+-- the nodes of a chunk above level 1, as they are called for
+pub higher-nodes : (s : Sizes) (bs : List ℕ) (l f n a : ℕ) (o : Bool) (y y′ v z : Seen) → z ≡ v → v ≡ nodes-by (opens-of s bs (l - 1)) s bs l f n a o y′ → y′ ≡ entered-seen y
+    → z ≡ nodes-by (opens-of s bs (l - 1)) s bs l f n a o (entered-seen y)
+higher-nodes s bs l f n a o y y′ v z e ev ey = e ∙ ev ∙ ap (nodes-by (opens-of s bs (l - 1)) s bs l f n a o) ey
+
 -- a partition whose search starts at an empty block has no chunk
-pub opens-empty : (s : Sizes) (bs : List ℕ) (l f : ℕ) (x : Seen) → Shaped s bs → 1 ≤ l → (t : Bool)
+opens-empty : (s : Sizes) (bs : List ℕ) (l f : ℕ) (x : Seen) → Shaped s bs → 1 ≤ l → (t : Bool)
     → t ≡ eqb (label-in (block-long s) bs (home-of s (record { level = l; first = f; number = 0 })) .level) 0 → t ≡ true → opens-of s bs l f x ≡ wrong-seen
 unfolding chunk-spot ended-seen
 opens-empty s bs l f x h lo t et e =
     let none = search-none s bs (record { level = l; first = f; number = 0 }) h lo (sym et ∙ e) in
-    sym (chunking-none s bs l f x 0 x (chunking-start s bs l f x (λ q. omega arith)) (h .some) Nothing (sym none) wrong-seen refl refl)
+    sym (chunking-none s bs l f x 0 x (chunking-start s bs l f x lo) (h .some) Nothing (sym none) wrong-seen refl refl)
+
+-- .. so the walk that comes to it ends wrong; k is the key of the node that opens it
+pub ahead : (s : Sizes) (bs : List ℕ) (l a : ℕ) (x : Seen) → Shaped s bs → 1 ≤ l → (k : ℕ) → k ≡ field a 4 bs → (t : Bool)
+    → t ≡ eqb (label-in (block-long s) bs (home-of s (record { level = l; first = k; number = 0 })) .level) 0 → t ≡ true → opens-of s bs l (node-of bs a .key) x ≡ wrong-seen
+ahead s bs l a x h lo k ek t et e = ap (λ (i : ℕ). opens-of s bs l i x) (sym (node-key bs a k ek)) ∙ opens-empty s bs l k x h lo t et e
 
 -- THE HASH of the next node's key, which the loop over nodes has at hand
 pub record Keyed (s : Sizes) (bs : List ℕ) (j a g : ℕ) : Type 0 where

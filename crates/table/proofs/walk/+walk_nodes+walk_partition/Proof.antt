@@ -1,0 +1,212 @@
+-- The walk meets its contract: two functions that call each other, the level falling.
+-- Each need, in the order of the code, follows from the laws listed, or from one law at the facts named. Assumes nothing.
+use borrow.Author.Needs.{needs}
+use borrow.Author.Tests.{not-true, not-false}
+use Prim.Native.Nat.{ℕ, _<_, _+_, _*_, _-_}
+use mathlib.Core.Path.{refl, _∙_}
+use mathlib.Core.Logic.{⊎-elim}
+use native.Mathlib.Omega.{arith}
+use native.Mathlib.Nat.{pos-of-ne-zero}
+use Rattle.table.specs.Walk.{opens-of}
+use Rattle.table.proofs.Laws.Turns.{Noding, noding-start, noding-room, noding-end, noding-bad, noding-gone, noding-strange, noding-unfit, noding-more, Keyed, keyed-made, keyed-none, keyed-is, level-most, below-most, number-most, Chunking, chunking-start, chunking-end, chunking-none, chunking-wrong, chunking-gone, chunking-stop, chunking-more, higher-nodes, ahead, chunk-below, enters-good, enters-some, enters-chunks, chunk-room}
+use Rattle.table.proofs.Laws.Lowest.{lowest-nodes, lowest-none}
+use borrow.Fn.Kinds.{In}
+use borrow.Fn.PlainCycle.{Measures, is, falls, and}
+use Rattle.table.proofs.walk.walk_nodes.Reads as walk-nodes
+use Rattle.table.proofs.walk.walk_nodes.Kinds as walk-nodes-kinds
+use Rattle.table.proofs.walk.+walk_nodes+walk_partition.Lts-walk_nodes as walk-nodes-lts
+use Rattle.table.proofs.walk.walk_partition.Reads as walk-partition
+use Rattle.table.proofs.walk.walk_partition.Kinds as walk-partition-kinds
+use Rattle.table.proofs.walk.+walk_nodes+walk_partition.Lts-walk_partition as walk-partition-lts
+use Rattle.placement.proofs.hash.hash.Reads as hash-reads
+use Rattle.placement.proofs.labels.offset.Reads as offset-reads
+use Rattle.placement.proofs.numbers.be4.Reads as be4-reads
+use Rattle.placement.proofs.numbers.wide.Reads as wide-reads
+use Rattle.placement.proofs.search.ends_at_once.Reads as ends-at-once-reads
+use Rattle.table.proofs.walk.belongs.Reads as belongs-reads
+use Rattle.table.proofs.walk.chunk.Reads as chunk-reads
+use Rattle.table.proofs.walk.ended.Reads as ended-reads
+use Rattle.table.proofs.walk.entered.Reads as entered-reads
+use Rattle.table.proofs.walk.enters.Reads as enters-reads
+use Rattle.table.proofs.walk.node_of.Reads as node-of-reads
+use Rattle.table.proofs.walk.passed.Reads as passed-reads
+use Rattle.table.proofs.walk.quantities.Reads as quantities-reads
+use Rattle.table.proofs.walk.stops.Reads as stops-reads
+use Rattle.table.proofs.walk.walk_lowest.Reads as walk-lowest-reads
+use Rattle.table.proofs.walk.wrong.Reads as wrong-reads
+use Rattle.table.proofs.walk.+walk_nodes+walk_partition.{statement}
+use Rattle.table.proofs.walk.+walk_nodes+walk_partition.Tie.{close}
+
+abbrev μ-walk-nodes : Measures 1 walk-nodes-kinds.ps ℕ
+μ-walk-nodes κs a = 2 * a .1 .1 .1 .1 .1 .0
+
+abbrev μ-walk-partition : Measures 1 walk-partition-kinds.ps ℕ
+μ-walk-partition κs a = 2 * a .1 .1 .1 .1 .1 .0 + 1
+
+ruleset laws = (needs, not-true, not-false, noding-start, noding-room, noding-end, keyed-made, level-most, number-most, chunking-start, chunking-end, chunking-none, chunking-wrong, chunk-below)
+
+abbrev walk-nodes-at : ℕ → In 1 walk-nodes-kinds.ps
+walk-nodes-at t = and 1 walk-nodes-kinds.ps (is 1 walk-nodes-kinds.ps μ-walk-nodes t) walk-nodes.Pre
+
+abbrev walk-nodes-below : ℕ → In 1 walk-nodes-kinds.ps
+walk-nodes-below t = and 1 walk-nodes-kinds.ps (falls 1 walk-nodes-kinds.ps _<_ μ-walk-nodes t) walk-nodes.Pre
+
+abbrev walk-partition-at : ℕ → In 1 walk-partition-kinds.ps
+walk-partition-at t = and 1 walk-partition-kinds.ps (is 1 walk-partition-kinds.ps μ-walk-partition t) walk-partition.Pre
+
+abbrev walk-partition-below : ℕ → In 1 walk-partition-kinds.ps
+walk-partition-below t = and 1 walk-partition-kinds.ps (falls 1 walk-partition-kinds.ps _<_ μ-walk-partition t) walk-partition.Pre
+
+abbrev walk-nodes-Inv-loop : walk-nodes-lts.InvT-loop
+walk-nodes-Inv-loop table s ratio round top level first opens at left y₀ o₀ place₀ k₀ g₀ y o place k g =
+    Noding (opens-of s table (level - 1)) s table level first left at opens y₀ k place o y × Keyed s table k place g
+
+abbrev walk-nodes-μ-loop : walk-nodes-lts.MeasureT-loop
+walk-nodes-μ-loop table s ratio round top level first opens at left y₀ o₀ place₀ k₀ g₀ y o place k g = k
+
+abbrev walk-partition-Inv-loop : walk-partition-lts.InvT-loop
+walk-partition-Inv-loop table s ratio round top level first g seen₀ number₀ seen number = Chunking s table level first seen₀ number seen
+
+abbrev walk-partition-μ-loop : walk-partition-lts.MeasureT-loop
+walk-partition-μ-loop table s ratio round top level first g seen₀ number₀ seen number = s .blocks - number
+
+pub +walk-nodes+walk-partition-spec : {M : Type 1} → statement M
++walk-nodes+walk-partition-spec =
+    close μ-walk-nodes μ-walk-partition
+    (λ t. walk-nodes-lts.spec (
+      be4-reads.Asked,
+      be4-reads.Learnt,
+      hash-reads.Asked,
+      hash-reads.Learnt,
+      wrong-reads.Asked,
+      wrong-reads.Learnt,
+      node-of-reads.Asked,
+      node-of-reads.Learnt,
+      belongs-reads.Asked,
+      belongs-reads.Learnt,
+      quantities-reads.Asked,
+      quantities-reads.Learnt,
+      ends-at-once-reads.Asked,
+      ends-at-once-reads.Learnt,
+      walk-partition-below t,
+      walk-partition.Post,
+    )
+    (walk-nodes-at t) walk-nodes.Post walk-nodes-Inv-loop walk-nodes-μ-loop
+    (λ c κs. search laws) (λ c κs. search laws) (λ c. search laws) (λ c κs. search laws)
+    (λ c. noding-bad _ _ _ _ _ _ _ _ _ _ _ _ _ (c .before .before .before .before .loop .inv .0) _ (c .wrong .ensures) (c .before .before .before .loop-test .taken)
+    (not-true _ (c .before .if1 .taken)))
+    (λ c κs. search laws) (λ c κs. search laws) (λ c κs. search laws)
+    (λ c.
+    let a = c .before .before .before in
+    noding-strange _ _ _ _ _ _ _ _ _ _ _ _ _ (a .before .before .before .before .loop .inv .0) _ (a .node-of .ensures) _ (c .before .before .belongs .ensures) _ (c .wrong2 .ensures)
+    (a .before .before .before .loop-test .taken) (not-true _ (c .before .if2 .taken)))
+    (λ c κs. search laws) (λ c κs. search laws)
+    (λ c.
+    let a = c .before .before .before .before .before in
+    noding-unfit _ _ _ _ _ _ _ _ _ _ _ _ _ (a .before .before .before .before .loop .inv .0) _ (a .node-of .ensures) _ (c .before .before .before .before .belongs .ensures) _
+    (c .before .before .quantities .ensures) _ (c .wrong3 .ensures) (a .before .before .before .loop-test .taken) (not-true _ (c .before .if3 .taken)))
+    (λ c. search laws) (λ c κs. search laws) (λ c κs. search laws) (λ c. search laws)
+    (λ c κs.
+    let p = c .before .before .before .before .before .before .before .before .before .before .before .before .before .before .before .pre .1 in
+    (p .0 .shaped, p .2, c .hash2 .ensures .0, below-most _ _ _ (p .5) (p .3), omega arith))
+    (λ c κs. search laws)
+    (λ c.
+    let b = c .before .before .before .before .before .before in
+    let a = b .before .before .before .before in
+    let p = a .before .before .before .before .before .before .before .before .pre in
+    noding-gone _ _ _ _ _ _ _ _ _ _ _ _ _
+    (noding-more _ _ _ _ _ _ _ _ _ _ _ _ _ (a .before .before .before .before .loop .inv .0) _ (a .node-of .ensures) _ (b .before .before .before .belongs .ensures) _
+    (b .before .quantities .ensures) _ (a .before .before .before .loop-test .taken) (not-false _ (a .before .if1 .left))
+    (not-false _ (b .before .before .if2 .left)) (not-false _ (b .if3 .left)) refl) _ refl _ (c .wrong4 .ensures) (omega (arith, c .before .before .before .before .before .if4 .taken))
+    (ahead _ _ _ _ _ (p .1 .0 .shaped) (omega (arith, p .1 .4)) _ (c .before .before .before .before .be42 .ensures) _ (c .before .before .ends-at-once .ensures) (c .before .if5 .taken)))
+    (λ c. search laws)
+    (λ c κs.
+    let b = c .before in
+    let a = b .before .before .before .before in
+    let p = a .before .before .before .before .before .before .before .before .pre in (
+      omega (arith, p .0, p .1 .4),
+      (p .1 .0, p .1 .1, p .1 .2, p .1 .3, omega (arith, p .1 .4), omega (arith, p .1 .5), keyed-is _ _ _ _ _ (a .before .before .before .before .loop .inv .1) (a .before .before .before .loop-test .taken) _ (a .node-of .ensures)),
+    ))
+    (λ c.
+    let a = c .before .before .before .before .before .before in
+    record { fits = omega (arith, a .before .before .before .before .loop .inv .0 .room, a .before .before .before .loop-test .taken, a .before .before .before .before .before .before .before .before .good .0) }) (λ c. search laws) (λ c. search laws)
+    (λ c.
+    let b = c .before .before in
+    let a = b .before .before .before .before in (
+      noding-more _ _ _ _ _ _ _ _ _ _ _ _ _ (a .before .before .before .before .loop .inv .0) _ (a .node-of .ensures) _ (b .before .before .before .belongs .ensures) _
+    (b .before .quantities .ensures) _ (a .before .before .before .loop-test .taken) (not-false _ (a .before .if1 .left))
+    (not-false _ (b .before .before .if2 .left)) (not-false _ (b .if3 .left)) (c .walk-partition .ensures),
+      ⊎-elim (λ w. keyed-made _ _ _ _ _ _ (w .1 .ensures) (w .5 ∙ w .2 .ensures .0)) (λ w. keyed-none _ _ _ _ _ (omega (arith, w .0 .left))) (c .before .if4 .came),
+    ))
+    (λ c. search laws))
+    λ t. walk-partition-lts.spec (
+      chunk-reads.Asked,
+      chunk-reads.Learnt,
+      ended-reads.Asked,
+      ended-reads.Learnt,
+      offset-reads.Asked,
+      offset-reads.Learnt,
+      wide-reads.Asked,
+      wide-reads.Learnt,
+      enters-reads.Asked,
+      enters-reads.Learnt,
+      wrong-reads.Asked,
+      wrong-reads.Learnt,
+      walk-lowest-reads.Asked,
+      walk-lowest-reads.Learnt,
+      passed-reads.Asked,
+      passed-reads.Learnt,
+      entered-reads.Asked,
+      entered-reads.Learnt,
+      walk-nodes-below t,
+      walk-nodes.Post,
+      stops-reads.Asked,
+      stops-reads.Learnt,
+    )
+    (walk-partition-at t) walk-partition.Post walk-partition-Inv-loop walk-partition-μ-loop
+    (λ c. search laws) (λ c κs. search laws) (λ c. search laws) (λ c. search laws) (λ c κs. search laws) (λ c. search laws)
+    (λ c κs. search laws) (λ c. search laws) (λ c. search laws) (λ c κs. search laws) (λ c κs. search laws) (λ c κs. search laws)
+    (λ c. search laws) (λ c. search laws)
+    (λ c κs.
+    let b = c .before in
+    let p = b .before .before .before .before .before .before .before .before .before .before .before .before .before .pre .1 in
+    let e = b .before .enters .ensures in
+    let h = not-false _ (b .if2 .left) in
+    (p .0, p .1, chunk-room _ _ (p .0) _ _ _ e h _ (b .before .before .before .before .offset .ensures .1), enters-some _ _ _ _ e h, enters-good _ _ _ _ e h))
+    (λ c κs. search laws)
+    (λ c.
+    let b = c .before .before .before .before in
+    chunking-gone _ _ _ _ _ _ _ (b .before .before .before .before .before .before .before .before .before .before .before .loop .inv) (b .before .before .before .before .before .before .before .before .before .if1 .taken) _ (b .before .before .before .before .before .before .before .before .chunk .ensures) _
+    (b .before .before .before .before .before .before .i .given .1) _ _ (b .before .before .before .before .offset .ensures .0) (b .before .before .wide .ensures .0) _ (b .before .enters .ensures) (not-false _ (b .if2 .left)) _
+    (lowest-none _ _ _ _ _ _ _ _ (c .before .before .before .if3 .taken) _ (c .before .before .walk-lowest .ensures) (c .before .if4 .taken) _ (c .wrong2 .ensures)) (c .wrong2 .ensures))
+    (λ c κs.
+    let b = c .before .before .before in
+    let low = pos-of-ne-zero (c .if4 .left) in
+    (c .before .walk-lowest .ensures .few low, enters-chunks _ _ _ _ (b .before .enters .ensures) (not-false _ (b .if2 .left)), low))
+    (λ c. search laws) (λ c κs. enters-chunks _ _ _ _ (c .before .before .enters .ensures) (not-false _ (c .before .if2 .left)))
+    (λ c κs.
+    let b = c .before .before in
+    let p = b .before .before .before .before .before .before .before .before .before .before .before .before .before .pre in
+    let e = b .before .enters .ensures in
+    let h = not-false _ (b .if2 .left) in (
+      omega (arith, p .0),
+      (p .1 .0, p .1 .1, p .1 .2, p .1 .3, omega (arith, c .before .if3 .left, p .1 .4), p .1 .5, enters-some _ _ _ _ e h, chunk-room _ _ (p .1 .0) _ _ _ e h _ (b .before .before .before .before .offset .ensures .1)),
+    ))
+    (λ c κs. search laws)
+    (λ c.
+    let b = c .before .before .before in
+    chunking-stop _ _ _ _ _ _ _ (b .before .before .before .before .before .before .before .before .before .before .before .loop .inv) (b .before .before .before .before .before .before .before .before .before .if1 .taken) _ (b .before .before .before .before .before .before .before .before .chunk .ensures) _
+    (b .before .before .before .before .before .before .i .given .1) _ _ (b .before .before .before .before .offset .ensures .0) (b .before .before .wide .ensures .0) _ (b .before .enters .ensures) (not-false _ (b .if2 .left)) _
+    (⊎-elim (λ w. lowest-nodes _ _ _ _ _ _ _ _ (w .0 .taken) _ (w .1 .ensures) _ _ (w .4) (w .3 .ensures))
+    (λ w. higher-nodes _ _ _ _ _ _ _ _ _ _ _ (w .3) (w .2 .ensures) (w .1 .ensures)) (c .before .before .if3 .came)) _ (c .before .stops .ensures) (c .if5 .taken))
+    (λ c.
+    let b = c .before .before .before in
+    record { fits = omega (arith, b .before .before .before .before .before .before .before .before .before .if1 .taken, b .before .before .before .before .before .before .before .before .before .before .before .before .before .pre .1 .0 .shaped .most) })
+    (λ c. search laws)
+    (λ c.
+    let b = c .before .before .before in
+    chunking-more _ _ _ _ _ _ _ (b .before .before .before .before .before .before .before .before .before .before .before .loop .inv) (b .before .before .before .before .before .before .before .before .before .if1 .taken) _ (b .before .before .before .before .before .before .before .before .chunk .ensures) _
+    (b .before .before .before .before .before .before .i .given .1) _ _ (b .before .before .before .before .offset .ensures .0) (b .before .before .wide .ensures .0) _ (b .before .enters .ensures) (not-false _ (b .if2 .left)) _
+    (⊎-elim (λ w. lowest-nodes _ _ _ _ _ _ _ _ (w .0 .taken) _ (w .1 .ensures) _ _ (w .4) (w .3 .ensures))
+    (λ w. higher-nodes _ _ _ _ _ _ _ _ _ _ _ (w .3) (w .2 .ensures) (w .1 .ensures)) (c .before .before .if3 .came)) _ (c .before .stops .ensures) (c .if5 .left))
+    (λ c. search laws)
