@@ -7,7 +7,7 @@ use native.Mathlib.Omega.{arith}
 use mir.Val.{Fits}
 use mir.Syntax.{w32}
 use lib.ListN.{length}
-use Rattle.placement.specs.Sizes.{beta, made}
+use Rattle.placement.specs.Sizes.{beta, made, seed-good}
 use Rattle.placement.specs.Header.{block-long, table-long, sizes-in, held-in, rule-1}
 use Rattle.placement.specs.Place.{Shaped}
 use Rattle.placement.specs.declared.Sizes.{Sizes}
@@ -48,8 +48,8 @@ module _ (bs : List ℕ) (t : Bool) (et : t ≡ rule-1 bs) where
       pub ruled-shaped : Shaped s bs
       ruled-shaped = ruled-walkable .shaped
 
-      pub ruled-base : 2 ≤ s .gamma
-      ruled-base = ruled-walkable .base
+      pub ruled-seeds : seed-good (s .seed) ≡ true
+      ruled-seeds = ruled-walkable .shaped .seeds
 
       pub ruled-gamma : 0 < s .gamma
       ruled-gamma = omega (arith, ruled-walkable .base)
