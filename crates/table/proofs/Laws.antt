@@ -1,4 +1,4 @@
--- Laws by subject: the code's steps (Steps, Turns, Passes); that the check decides question 4 (Came to Decides); runs of calls (Makes to Wrong); make.
+-- Laws by subject: the code's steps (Steps, Turns, Lowest, Passes); that the check decides question 4 (Came to Decides); runs of calls (Makes to Wrong); make.
 pub mod Steps
 pub mod Turns
 pub mod Lowest

@@ -5,8 +5,8 @@ use mathlib.Core.Bool.{Bool, true, false, _&&_, not, cond}
 use mathlib.Core.List.{List}
 use Prim.Native.Nat.{ℕ, zero, suc, _+_, _*_, _-_, _≤_}
 use lib.Dec.{ltb, leb, eqb}
-use lib.ListN.{length, getD, drop}
-use Rattle.placement.specs.Sizes.{prime, beta}
+use lib.ListN.{getD, drop}
+use Rattle.placement.specs.Sizes.{prime}
 use Rattle.placement.specs.Hash.{level}
 use Rattle.placement.specs.Header.{block-long}
 use Rattle.placement.specs.Decode.{node-in}

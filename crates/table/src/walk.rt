@@ -185,7 +185,16 @@ fn walk_orders(table: &[u8], s: Sizes, ratio: u64, at: usize, left: u32, low: u3
 }
 
 // The nodes of a level 1 chunk, likewise.
-fn walk_lowest(table: &[u8], s: Sizes, ratio: u64, first: u32, opens: bool, at: usize, left: u32, x: Seen) -> u32
+fn walk_lowest(
+    table: &[u8],
+    s: Sizes,
+    ratio: u64,
+    first: u32,
+    opens: bool,
+    at: usize,
+    left: u32,
+    x: Seen,
+) -> u32
     requires { ⌜ Walkable s (now table) × (ratio ≡ over (s .gamma)) × (at + 12 * left ≤ length (now table)) × (1 ≤ left) × (x .ok ≡ true) ⌝ }
     ensures { λ r. ⌜ Lowest s (now (table .entry)) first left at opens x r ⌝ }
 {

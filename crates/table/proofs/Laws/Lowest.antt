@@ -1,6 +1,6 @@
 -- The nodes of a level 1 chunk: what the walk of them gives follows from their number and what the next key is at least. Assumes nothing.
 use mathlib.Core.Path.{_≡_, refl, ap, sym, _∙_}
-use mathlib.Core.Bool.{Bool, true, false, _&&_, cond, not, and-false, and-true, and-eq-true-iff, true≢false}
+use mathlib.Core.Bool.{Bool, true, false, _&&_, cond, and-false, and-true, and-comm, and-assoc, and-eq-true-iff}
 use mathlib.Core.List.{List}
 use Prim.Native.Nat.{ℕ, zero, suc, _+_, _*_, _-_, _≤_, _<_}
 use lib.Dec.{ltb, leb, eqb}
@@ -17,6 +17,10 @@ use Rattle.placement.specs.declared.Order.{Order}
 use Rattle.table.specs.declared.Seen.{Seen}
 use Rattle.table.specs.Walk.{node-of, wrong-seen, quantities-ok, belongs-in, counts, counted, entered-seen, node-good, nodes-by, opens-of, heads-ok, follows-ok, orders-by, passed-by, Lowest}
 use Rattle.table.proofs.Laws.Turns.{nodes-wrong}
+
+-- the walk of the nodes of a level 1 chunk
+abbrev lowest : Sizes → List ℕ → (first left at : ℕ) → (opens : Bool) → Seen → Seen
+lowest s bs f j a o x = nodes-by (opens-of s bs 0) s bs 1 f j a o x
 
 -- THE FIRST NODE of a partition
 module _ (f y : ℕ) (n : Order) where
@@ -131,28 +135,31 @@ counts-more key x c =
     let b = and-eq-true-iff (leb (x .low) key) (ltb key prime && leb 1 (x .orders)) .0 (a .1) in
     leb-true 1 (x .orders) (and-eq-true-iff (ltb key prime) (leb 1 (x .orders)) .0 (b .1) .1)
 
+turned : (a b c : Bool) → (c && (a && (b && true))) ≡ (a && (b && c))
+turned a b c = rw (and-true, and-comm c (a && b), and-assoc)
+
 module _ (s : Sizes) (bs : List ℕ) (f : ℕ) where
   -- one node
   turn : (j a : ℕ) (o : Bool) (x : Seen) (t : Bool) → (node-good s 1 f o (node-of bs a) x && counts (node-of bs a .key) x) ≡ t
-      → nodes-by (opens-of s bs 0) s bs 1 f (suc j) a o x ≡ cond t (nodes-by (opens-of s bs 0) s bs 1 f j (a + 12) false (came (node-of bs a .key) x)) wrong-seen
+      → lowest s bs f (suc j) a o x ≡ cond t (lowest s bs f j (a + 12) false (came (node-of bs a .key) x)) wrong-seen
   unfolding nodes-by opens-of counted
   turn j a o x t e = go (node-good s 1 f o (node-of bs a) x) (counts (node-of bs a .key) x) refl refl
-      ∙ ap (λ (b : Bool). cond b (nodes-by (opens-of s bs 0) s bs 1 f j (a + 12) false (came (node-of bs a .key) x)) wrong-seen) e
+      ∙ ap (λ (b : Bool). cond b (lowest s bs f j (a + 12) false (came (node-of bs a .key) x)) wrong-seen) e
     where
       go : (u v : Bool) → node-good s 1 f o (node-of bs a) x ≡ u → counts (node-of bs a .key) x ≡ v
-          → nodes-by (opens-of s bs 0) s bs 1 f (suc j) a o x ≡ cond (u && v) (nodes-by (opens-of s bs 0) s bs 1 f j (a + 12) false (came (node-of bs a .key) x)) wrong-seen
+          → lowest s bs f (suc j) a o x ≡ cond (u && v) (lowest s bs f j (a + 12) false (came (node-of bs a .key) x)) wrong-seen
       go true true p q = rw (p, q)
       go true false p q = rw (p, q) (nodes-wrong (opens-of s bs 0) s bs 1 f j (a + 12) false)
       go false v p q = rw p
 
   -- more nodes than orders are to come
-  pub too-many : (j a : ℕ) (o : Bool) (x : Seen) → x .orders < j → nodes-by (opens-of s bs 0) s bs 1 f j a o x ≡ wrong-seen
+  too-many : (j a : ℕ) (o : Bool) (x : Seen) → x .orders < j → lowest s bs f j a o x ≡ wrong-seen
   too-many zero a o x h = absurd (omega arith)
   too-many (suc j) a o x h = go (node-good s 1 f o (node-of bs a) x && counts (node-of bs a .key) x) refl (too-many j (a + 12) false (came (node-of bs a .key) x))
     where
       go : (t : Bool) → (node-good s 1 f o (node-of bs a) x && counts (node-of bs a .key) x) ≡ t
-          → (x .orders - 1 < j → nodes-by (opens-of s bs 0) s bs 1 f j (a + 12) false (came (node-of bs a .key) x) ≡ wrong-seen)
-          → nodes-by (opens-of s bs 0) s bs 1 f (suc j) a o x ≡ wrong-seen
+          → (x .orders - 1 < j → lowest s bs f j (a + 12) false (came (node-of bs a .key) x) ≡ wrong-seen)
+          → lowest s bs f (suc j) a o x ≡ wrong-seen
       go true q ih =
           let c = counts-more (node-of bs a .key) x (and-eq-true-iff (node-good s 1 f o (node-of bs a) x) (counts (node-of bs a .key) x) .0 q .1) in
           turn j a o x true q ∙ ih (omega arith)
@@ -161,45 +168,34 @@ module _ (s : Sizes) (bs : List ℕ) (f : ℕ) where
   module _ (n : Order) (x : Seen) (ok : x .ok ≡ true) (some : 1 ≤ x .orders) where
     heads-is : (node-good s 1 f true n x && counts (n .key) x) ≡ heads-ok f (x .low) n
     unfolding node-good counts belongs-in heads-ok
-    heads-is = rw (ok, le-leb 1 (x .orders) some) (go (eqb (n .key) f) (leb (x .low) (n .key)) (ltb (n .key) prime) (quantities-ok 1 n))
-      where
-        go : (a b c q : Bool) → ((a && q) && (b && (c && true))) ≡ (a && (b && (c && q)))
-        go false b c q = refl
-        go true false c true = refl
-        go true false c false = refl
-        go true true false true = refl
-        go true true false false = refl
-        go true true true true = refl
-        go true true true false = refl
+    heads-is =
+        let e = eqb (n .key) f in
+        let a = leb (x .low) (n .key) in
+        let b = ltb (n .key) prime in
+        let q = quantities-ok 1 n in
+        rw (ok, le-leb 1 (x .orders) some) (and-assoc e q (a && (b && true)) ∙ ap (λ (t : Bool). e && t) (turned a b q))
 
     -- no key but the front's is 0, so that a key is at least 1 says nothing more
     follows-is : (y : ℕ) → 1 ≤ y → ((k : ℕ) → 0 < k → leb y k ≡ leb (x .low) k) → (node-good s 1 f false n x && counts (n .key) x) ≡ follows-ok s y n
     unfolding node-good counts belongs-in quantities-ok follows-ok
     follows-is y pos same = go (n .key) refl
       where
-        turned : (a b c : Bool) → (c && (a && (b && true))) ≡ (a && (b && c))
-        turned true true true = refl
-        turned true true false = refl
-        turned true false true = refl
-        turned true false false = refl
-        turned false b true = refl
-        turned false b false = refl
-
         go : (k : ℕ) → n .key ≡ k → (node-good s 1 f false n x && counts (n .key) x) ≡ follows-ok s y n
         go zero e = rw (e, ok, lt-leb y 0 pos)
         go (suc k) e =
             let z = ne-eqb (n .key) 0 (λ h. omega arith) in
-            rw (ok, z, le-leb 1 (x .orders) some, ← same (n .key) (omega arith)) (turned (leb y (n .key)) (ltb (n .key) prime) (eqb (level s (n .key)) 1 && (leb 1 (n .total) && leb (n .displayed) (n .total))))
+            rw (ok, z, le-leb 1 (x .orders) some, ← same (n .key) (omega arith))
+            (turned (leb y (n .key)) (ltb (n .key) prime) (eqb (level s (n .key)) 1 && (leb 1 (n .total) && leb (n .displayed) (n .total))))
 
   -- one node more, from what comes after it
   one-more : (j a y : ℕ) (x : Seen) → x .ok ≡ true → 1 ≤ x .orders → 1 ≤ y → ((k : ℕ) → 0 < k → leb y k ≡ leb (x .low) k)
-      → nodes-by (opens-of s bs 0) s bs 1 f j (a + 12) false (came (node-of bs a .key) x) ≡ passed-by j (orders-by s bs j (a + 12) (node-of bs a .key + 1)) (came (node-of bs a .key) x)
-      → nodes-by (opens-of s bs 0) s bs 1 f (suc j) a false x ≡ passed-by (suc j) (orders-by s bs (suc j) a y) x
+      → lowest s bs f j (a + 12) false (came (node-of bs a .key) x) ≡ passed-by j (orders-by s bs j (a + 12) (node-of bs a .key + 1)) (came (node-of bs a .key) x)
+      → lowest s bs f (suc j) a false x ≡ passed-by (suc j) (orders-by s bs (suc j) a y) x
   unfolding orders-by
   one-more j a y x ok some pos same ih = go (follows-ok s y (node-of bs a)) refl
     where
       go : (t : Bool) → follows-ok s y (node-of bs a) ≡ t
-          → nodes-by (opens-of s bs 0) s bs 1 f (suc j) a false x ≡ passed-by (suc j) (cond (follows-ok s y (node-of bs a)) (orders-by s bs j (a + 12) (node-of bs a .key + 1)) 0) x
+          → lowest s bs f (suc j) a false x ≡ passed-by (suc j) (cond (follows-ok s y (node-of bs a)) (orders-by s bs j (a + 12) (node-of bs a .key + 1)) 0) x
       go true q =
           turn j a false x true (follows-is (node-of bs a) x ok some y pos same ∙ q)
           ∙ ih
@@ -209,7 +205,7 @@ module _ (s : Sizes) (bs : List ℕ) (f : ℕ) where
 
   -- nodes that do not open
   orders-pass : (j a y : ℕ) (x : Seen) → x .ok ≡ true → y ≡ x .low → 1 ≤ y → j ≤ x .orders
-      → nodes-by (opens-of s bs 0) s bs 1 f j a false x ≡ passed-by j (orders-by s bs j a y) x
+      → lowest s bs f j a false x ≡ passed-by j (orders-by s bs j a y) x
   unfolding nodes-by orders-by passed-by
   orders-pass zero a y x ok e pos h =
       let z = ne-eqb y 0 (λ q. omega arith) in
@@ -223,10 +219,10 @@ module _ (s : Sizes) (bs : List ℕ) (f : ℕ) where
 -- WHERE THE CODE STANDS past the first node if that opens: k nodes are left from a on, each of a key of at least y and not 0
 pub record Headed (s : Sizes) (bs : List ℕ) (f j₀ a₀ : ℕ) (o : Bool) (x : Seen) (k a y : ℕ) : Type 0 where
   pub room : a + 12 * k ≤ length bs
-  pub rest : nodes-by (opens-of s bs 0) s bs 1 f j₀ a₀ o (entered-seen x) ≡ passed-by j₀ (orders-by s bs k a (cond (eqb y 0) 1 y)) (entered-seen x)
+  pub rest : lowest s bs f j₀ a₀ o (entered-seen x) ≡ passed-by j₀ (orders-by s bs k a (cond (eqb y 0) 1 y)) (entered-seen x)
 
 module _ (s : Sizes) (bs : List ℕ) (f j a : ℕ) (o : Bool) (x : Seen) where
-  nothing-passed : nodes-by (opens-of s bs 0) s bs 1 f j a o (entered-seen x) ≡ wrong-seen → Lowest s bs f j a o x 0
+  nothing-passed : lowest s bs f j a o (entered-seen x) ≡ wrong-seen → Lowest s bs f j a o x 0
   nothing-passed e = record { is = e ∙ sym (passed-none j (entered-seen x)); few = λ h. absurd (omega arith) }
 
   pub lowest-many : x .orders < j → Lowest s bs f j a o x 0
@@ -236,11 +232,11 @@ module _ (s : Sizes) (bs : List ℕ) (f j a : ℕ) (o : Bool) (x : Seen) where
   module _ (ok : x .ok ≡ true) (some : 1 ≤ j) (few : j ≤ x .orders) where
     module _ (e : o ≡ true) (n : Order) (en : n ≡ node-of bs a) (t : Bool) (et : t ≡ heads-ok f (x .low) n) where
       first : (u : Bool) → t ≡ u
-          → nodes-by (opens-of s bs 0) s bs 1 f j a o (entered-seen x) ≡ cond u (nodes-by (opens-of s bs 0) s bs 1 f (j - 1) (a + 12) false (came (n .key) (entered-seen x))) wrong-seen
+          → lowest s bs f j a o (entered-seen x) ≡ cond u (lowest s bs f (j - 1) (a + 12) false (came (n .key) (entered-seen x))) wrong-seen
       unfolding entered-seen
       first u q =
           let z : j ≡ suc (j - 1) = omega arith in
-          (λ i. nodes-by (opens-of s bs 0) s bs 1 f (z i) a (e i) (entered-seen x))
+          (λ i. lowest s bs f (z i) a (e i) (entered-seen x))
           ∙ turn s bs f (j - 1) a true (entered-seen x) u (heads-is s bs f (node-of bs a) (entered-seen x) ok (omega arith) ∙ rw (← en) (sym et ∙ q))
           ∙ rw (← en)
 
@@ -263,13 +259,13 @@ module _ (s : Sizes) (bs : List ℕ) (f j a : ℕ) (o : Bool) (x : Seen) where
 
     pub headed-other : o ≡ false → a + 12 * j ≤ length bs → (y b k : ℕ) → y ≡ x .low → b ≡ a → k ≡ j → Headed s bs f j a o x k b y
     unfolding entered-seen
-    headed-other e room y b k ey eb ek = rw (ey, eb, ek) record { room = room; rest = ap (λ (b : Bool). nodes-by (opens-of s bs 0) s bs 1 f j a b (entered-seen x)) e ∙ go (x .low) refl }
+    headed-other e room y b k ey eb ek = rw (ey, eb, ek) record { room = room; rest = ap (λ (b : Bool). lowest s bs f j a b (entered-seen x)) e ∙ go (x .low) refl }
       where
-        go : (y : ℕ) → x .low ≡ y → nodes-by (opens-of s bs 0) s bs 1 f j a false (entered-seen x) ≡ passed-by j (orders-by s bs j a (cond (eqb (x .low) 0) 1 (x .low))) (entered-seen x)
+        go : (y : ℕ) → x .low ≡ y → lowest s bs f j a false (entered-seen x) ≡ passed-by j (orders-by s bs j a (cond (eqb (x .low) 0) 1 (x .low))) (entered-seen x)
         go zero q =
             let z : j ≡ suc (j - 1) = omega arith in
             let y : cond (eqb (x .low) 0) 1 (x .low) ≡ 1 = rw (eq-eqb (x .low) 0 q) in
-            ap (λ (i : ℕ). nodes-by (opens-of s bs 0) s bs 1 f i a false (entered-seen x)) z
+            ap (λ (i : ℕ). lowest s bs f i a false (entered-seen x)) z
             ∙ one-more s bs f (j - 1) a 1 (entered-seen x) ok (omega arith) (omega arith)
             (λ k p. le-leb 1 k p ∙ sym (le-leb (x .low) k (omega arith)))
             (orders-pass s bs f (j - 1) (a + 12) (node-of bs a .key + 1) (came (node-of bs a .key) (entered-seen x)) refl refl (omega arith) (omega arith))

@@ -257,7 +257,7 @@ module _ (b n : ℕ) (y : Seen) (t : Bool) (et : t ≡ enters-ok b n y) (e : t �
   pub enters-some : 1 ≤ n
   enters-some = leb-true 1 n (tests .1)
 
-  pub enters-most : n ≤ b
+  enters-most : n ≤ b
   enters-most = leb-true n b (tests .2)
 
   pub enters-chunks : 1 ≤ y .chunks

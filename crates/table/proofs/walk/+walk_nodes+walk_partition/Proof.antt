@@ -134,8 +134,8 @@ pub +walk-nodes+walk-partition-spec : {M : Type 1} → statement M
     let b = c .before .before in
     let a = b .before .before .before .before in (
       noding-more _ _ _ _ _ _ _ _ _ _ _ _ _ (a .before .before .before .before .loop .inv .0) _ (a .node-of .ensures) _ (b .before .before .before .belongs .ensures) _
-    (b .before .quantities .ensures) _ (a .before .before .before .loop-test .taken) (not-false _ (a .before .if1 .left))
-    (not-false _ (b .before .before .if2 .left)) (not-false _ (b .if3 .left)) (c .walk-partition .ensures),
+          (b .before .quantities .ensures) _ (a .before .before .before .loop-test .taken) (not-false _ (a .before .if1 .left))
+          (not-false _ (b .before .before .if2 .left)) (not-false _ (b .if3 .left)) (c .walk-partition .ensures),
       ⊎-elim (λ w. keyed-made _ _ _ _ _ _ (w .1 .ensures) (w .5 ∙ w .2 .ensures .0)) (λ w. keyed-none _ _ _ _ _ (omega (arith, w .0 .left))) (c .before .if4 .came),
     ))
     (λ c. search laws))
