@@ -1,7 +1,7 @@
 // The walk of a check: a partition opens its nodes, and each node opens its partition one level down.
 ghost use mathlib.Core.Path.{_≡_};
-ghost use mathlib.Core.Bool.{Bool, true};
-ghost use Prim.Native.Nat.{ℕ, _+_, _*_, _-_, _<_, _≤_};
+ghost use mathlib.Core.Bool.{true};
+ghost use Prim.Native.Nat.{_+_, _*_, _-_, _<_, _≤_};
 ghost use lib.ListN.{length};
 ghost use Rattle.placement.specs.Sizes.{beta, seed-good};
 ghost use Rattle.placement.specs.Hash.{hash-from};

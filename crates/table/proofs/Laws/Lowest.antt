@@ -216,10 +216,24 @@ module _ (s : Sizes) (bs : List ℕ) (f : ℕ) where
       one-more j a y x ok (omega arith) pos (λ k p. ap (λ (m : ℕ). leb m k) e)
       (orders-pass j (a + 12) (node-of bs a .key + 1) (came (node-of bs a .key) x) refl refl (omega arith) (omega arith))
 
+-- what a key that is at least y and not 0 is at least
+abbrev least : ℕ → ℕ
+least y = cond (eqb y 0) 1 y
+
+pub least-one : (y z : ℕ) → y ≡ 0 → z ≡ 1 → z ≡ least y
+least-one y z e q = rw (eq-eqb y 0 e) q
+
+pub least-same : (y z : ℕ) → (y ≡ 0 → ⊥) → z ≡ y → z ≡ least y
+least-same y z ne q = rw (ne-eqb y 0 ne) q
+
+pub least-some : (y z : ℕ) → z ≡ least y → 1 ≤ z
+least-some zero z e = omega arith
+least-some (suc y) z e = omega (arith, least-same (suc y) (suc y) (λ q. omega arith) refl)
+
 -- WHERE THE CODE STANDS past the first node if that opens: k nodes are left from a on, each of a key of at least y and not 0
 pub record Headed (s : Sizes) (bs : List ℕ) (f j₀ a₀ : ℕ) (o : Bool) (x : Seen) (k a y : ℕ) : Type 0 where
   pub room : a + 12 * k ≤ length bs
-  pub rest : lowest s bs f j₀ a₀ o (entered-seen x) ≡ passed-by j₀ (orders-by s bs k a (cond (eqb y 0) 1 y)) (entered-seen x)
+  pub rest : lowest s bs f j₀ a₀ o (entered-seen x) ≡ passed-by j₀ (orders-by s bs k a (least y)) (entered-seen x)
 
 module _ (s : Sizes) (bs : List ℕ) (f j a : ℕ) (o : Bool) (x : Seen) where
   nothing-passed : lowest s bs f j a o (entered-seen x) ≡ wrong-seen → Lowest s bs f j a o x 0
@@ -247,50 +261,36 @@ module _ (s : Sizes) (bs : List ℕ) (f j a : ℕ) (o : Bool) (x : Seen) where
       unfolding entered-seen
       headed-first q room y b k ey eb ek =
           let z : j ≡ suc (j - 1) = omega arith in
-          let least : cond (eqb (n .key + 1) 0) 1 (n .key + 1) ≡ n .key + 1 = rw (ne-eqb (n .key + 1) 0 (λ h. omega arith)) in
+          let l = least-same (n .key + 1) (n .key + 1) (λ h. omega arith) refl in
           rw (ey, eb, ek) record {
             room = omega arith;
             rest =
                 first true q
                 ∙ orders-pass s bs f (j - 1) (a + 12) (n .key + 1) (came (n .key) (entered-seen x)) refl refl (omega arith) (omega arith)
                 ∙ passed-one (j - 1) (orders-by s bs (j - 1) (a + 12) (n .key + 1)) (n .key) (entered-seen x)
-                ∙ (λ i. passed-by (sym z i) (orders-by s bs (j - 1) (a + 12) (sym least i)) (entered-seen x));
+                ∙ (λ i. passed-by (sym z i) (orders-by s bs (j - 1) (a + 12) (l i)) (entered-seen x));
           }
 
     pub headed-other : o ≡ false → a + 12 * j ≤ length bs → (y b k : ℕ) → y ≡ x .low → b ≡ a → k ≡ j → Headed s bs f j a o x k b y
     unfolding entered-seen
     headed-other e room y b k ey eb ek = rw (ey, eb, ek) record { room = room; rest = ap (λ (b : Bool). lowest s bs f j a b (entered-seen x)) e ∙ go (x .low) refl }
       where
-        go : (y : ℕ) → x .low ≡ y → lowest s bs f j a false (entered-seen x) ≡ passed-by j (orders-by s bs j a (cond (eqb (x .low) 0) 1 (x .low))) (entered-seen x)
+        go : (y : ℕ) → x .low ≡ y → lowest s bs f j a false (entered-seen x) ≡ passed-by j (orders-by s bs j a (least (x .low))) (entered-seen x)
         go zero q =
             let z : j ≡ suc (j - 1) = omega arith in
-            let y : cond (eqb (x .low) 0) 1 (x .low) ≡ 1 = rw (eq-eqb (x .low) 0 q) in
+            let l = least-one (x .low) 1 q refl in
             ap (λ (i : ℕ). lowest s bs f i a false (entered-seen x)) z
             ∙ one-more s bs f (j - 1) a 1 (entered-seen x) ok (omega arith) (omega arith)
             (λ k p. le-leb 1 k p ∙ sym (le-leb (x .low) k (omega arith)))
             (orders-pass s bs f (j - 1) (a + 12) (node-of bs a .key + 1) (came (node-of bs a .key) (entered-seen x)) refl refl (omega arith) (omega arith))
-            ∙ (λ i. passed-by (sym z i) (orders-by s bs (sym z i) a (sym y i)) (entered-seen x))
+            ∙ (λ i. passed-by (sym z i) (orders-by s bs (sym z i) a (l i)) (entered-seen x))
         go (suc m) q =
-            let y : cond (eqb (x .low) 0) 1 (x .low) ≡ x .low = rw (ne-eqb (x .low) 0 (λ h. omega arith)) in
-            rw y (orders-pass s bs f j a (x .low) (entered-seen x) ok refl (omega arith) few)
+            let l = least-same (x .low) (x .low) (λ h. omega arith) refl in
+            orders-pass s bs f j a (x .low) (entered-seen x) ok refl (omega arith) few ∙ ap (λ (i : ℕ). passed-by j (orders-by s bs j a i) (entered-seen x)) l
 
     module _ (k b y : ℕ) (h : Headed s bs f j a o x k b y) (z r : ℕ) (er : r ≡ orders-by s bs k b z) where
-      pub lowest-is : z ≡ cond (eqb y 0) 1 y → Lowest s bs f j a o x r
+      pub lowest-is : z ≡ least y → Lowest s bs f j a o x r
       lowest-is ez = record { is = h .rest ∙ ap (λ (i : ℕ). passed-by j i (entered-seen x)) (sym (er ∙ ap (orders-by s bs k b) ez)); few = λ p. few }
-
--- what such a key is at least: 1 where y is 0
-pub least-one : (y z : ℕ) → y ≡ 0 → z ≡ 1 → z ≡ cond (eqb y 0) 1 y
-least-one y z e q = rw (eq-eqb y 0 e) q
-
-pub least-same : (y z : ℕ) → (y ≡ 0 → ⊥) → z ≡ y → z ≡ cond (eqb y 0) 1 y
-least-same y z ne q = rw (ne-eqb y 0 ne) q
-
-pub least-some : (y z : ℕ) → z ≡ cond (eqb y 0) 1 y → 1 ≤ z
-least-some zero z e = omega arith
-least-some (suc y) z e =
-    let n = ne-eqb (suc y) 0 (λ q. omega arith) in
-    let h : z ≡ suc y = e ∙ rw n in
-    omega arith
 
 -- the chunk is walked so where the level is 1
 module _ (s : Sizes) (bs : List ℕ) (l f n a : ℕ) (o : Bool) (y : Seen) (e : l ≡ 1) (r : ℕ) (w : Lowest s bs f n a o y r) where
