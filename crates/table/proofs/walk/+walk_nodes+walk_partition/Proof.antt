@@ -129,7 +129,8 @@ pub +walk-nodes+walk-partition-spec : {M : Type 1} → statement M
     ))
     (λ c.
     let a = c .before .before .before .before .before .before in
-    record { fits = omega (arith, a .before .before .before .before .loop .inv .0 .room, a .before .before .before .loop-test .taken, a .before .before .before .before .before .before .before .before .good .0) }) (λ c. search laws) (λ c. search laws)
+    record { fits = omega (arith, a .before .before .before .before .loop .inv .0 .room, a .before .before .before .loop-test .taken, a .before .before .before .before .before .before .before .before .good .0) })
+    (λ c. search laws) (λ c. search laws)
     (λ c.
     let b = c .before .before in
     let a = b .before .before .before .before in (
@@ -169,15 +170,19 @@ pub +walk-nodes+walk-partition-spec : {M : Type 1} → statement M
     (λ c. search laws) (λ c. search laws)
     (λ c κs.
     let b = c .before in
-    let p = b .before .before .before .before .before .before .before .before .before .before .before .before .before .pre .1 in
+    let o = b .before .before .before .before in
+    let k = o .before .before .before .before in
+    let p = k .before .before .before .before .before .pre .1 in
     let e = b .before .enters .ensures in
     let h = not-false _ (b .if2 .left) in
-    (p .0, p .1, chunk-room _ _ (p .0) _ _ _ e h _ (b .before .before .before .before .offset .ensures .1), enters-some _ _ _ _ e h, enters-good _ _ _ _ e h))
+    (p .0, p .1, chunk-room _ _ (p .0) _ _ _ e h _ (o .offset .ensures .1), enters-some _ _ _ _ e h, enters-good _ _ _ _ e h))
     (λ c κs. search laws)
     (λ c.
     let b = c .before .before .before .before in
-    chunking-gone _ _ _ _ _ _ _ (b .before .before .before .before .before .before .before .before .before .before .before .loop .inv) (b .before .before .before .before .before .before .before .before .before .if1 .taken) _ (b .before .before .before .before .before .before .before .before .chunk .ensures) _
-    (b .before .before .before .before .before .before .i .given .1) _ _ (b .before .before .before .before .offset .ensures .0) (b .before .before .wide .ensures .0) _ (b .before .enters .ensures) (not-false _ (b .if2 .left)) _
+    let o = b .before .before .before .before in
+    let k = o .before .before .before .before in
+    chunking-gone _ _ _ _ _ _ _ (k .before .before .before .loop .inv) (k .before .if1 .taken) _ (k .chunk .ensures) _
+    (o .before .before .i .given .1) _ _ (o .offset .ensures .0) (b .before .before .wide .ensures .0) _ (b .before .enters .ensures) (not-false _ (b .if2 .left)) _
     (lowest-none _ _ _ _ _ _ _ _ (c .before .before .before .if3 .taken) _ (c .before .before .walk-lowest .ensures) (c .before .if4 .taken) _ (c .wrong2 .ensures)) (c .wrong2 .ensures))
     (λ c κs.
     let b = c .before .before .before in
@@ -186,27 +191,35 @@ pub +walk-nodes+walk-partition-spec : {M : Type 1} → statement M
     (λ c. search laws) (λ c κs. enters-chunks _ _ _ _ (c .before .before .enters .ensures) (not-false _ (c .before .if2 .left)))
     (λ c κs.
     let b = c .before .before in
-    let p = b .before .before .before .before .before .before .before .before .before .before .before .before .before .pre in
+    let o = b .before .before .before .before in
+    let k = o .before .before .before .before in
+    let p = k .before .before .before .before .before .pre in
     let e = b .before .enters .ensures in
     let h = not-false _ (b .if2 .left) in (
       omega (arith, p .0),
-      (p .1 .0, p .1 .1, p .1 .2, p .1 .3, omega (arith, c .before .if3 .left, p .1 .4), p .1 .5, enters-some _ _ _ _ e h, chunk-room _ _ (p .1 .0) _ _ _ e h _ (b .before .before .before .before .offset .ensures .1)),
+      (p .1 .0, p .1 .1, p .1 .2, p .1 .3, omega (arith, c .before .if3 .left, p .1 .4), p .1 .5, enters-some _ _ _ _ e h, chunk-room _ _ (p .1 .0) _ _ _ e h _ (o .offset .ensures .1)),
     ))
     (λ c κs. search laws)
     (λ c.
     let b = c .before .before .before in
-    chunking-stop _ _ _ _ _ _ _ (b .before .before .before .before .before .before .before .before .before .before .before .loop .inv) (b .before .before .before .before .before .before .before .before .before .if1 .taken) _ (b .before .before .before .before .before .before .before .before .chunk .ensures) _
-    (b .before .before .before .before .before .before .i .given .1) _ _ (b .before .before .before .before .offset .ensures .0) (b .before .before .wide .ensures .0) _ (b .before .enters .ensures) (not-false _ (b .if2 .left)) _
+    let o = b .before .before .before .before in
+    let k = o .before .before .before .before in
+    chunking-stop _ _ _ _ _ _ _ (k .before .before .before .loop .inv) (k .before .if1 .taken) _ (k .chunk .ensures) _
+    (o .before .before .i .given .1) _ _ (o .offset .ensures .0) (b .before .before .wide .ensures .0) _ (b .before .enters .ensures) (not-false _ (b .if2 .left)) _
     (⊎-elim (λ w. lowest-nodes _ _ _ _ _ _ _ _ (w .0 .taken) _ (w .1 .ensures) _ _ (w .4) (w .3 .ensures))
     (λ w. higher-nodes _ _ _ _ _ _ _ _ _ _ _ (w .3) (w .2 .ensures) (w .1 .ensures)) (c .before .before .if3 .came)) _ (c .before .stops .ensures) (c .if5 .taken))
     (λ c.
     let b = c .before .before .before in
-    record { fits = omega (arith, b .before .before .before .before .before .before .before .before .before .if1 .taken, b .before .before .before .before .before .before .before .before .before .before .before .before .before .pre .1 .0 .shaped .most) })
+    let o = b .before .before .before .before in
+    let k = o .before .before .before .before in
+    record { fits = omega (arith, k .before .if1 .taken, k .before .before .before .before .before .pre .1 .0 .shaped .most) })
     (λ c. search laws)
     (λ c.
     let b = c .before .before .before in
-    chunking-more _ _ _ _ _ _ _ (b .before .before .before .before .before .before .before .before .before .before .before .loop .inv) (b .before .before .before .before .before .before .before .before .before .if1 .taken) _ (b .before .before .before .before .before .before .before .before .chunk .ensures) _
-    (b .before .before .before .before .before .before .i .given .1) _ _ (b .before .before .before .before .offset .ensures .0) (b .before .before .wide .ensures .0) _ (b .before .enters .ensures) (not-false _ (b .if2 .left)) _
+    let o = b .before .before .before .before in
+    let k = o .before .before .before .before in
+    chunking-more _ _ _ _ _ _ _ (k .before .before .before .loop .inv) (k .before .if1 .taken) _ (k .chunk .ensures) _
+    (o .before .before .i .given .1) _ _ (o .offset .ensures .0) (b .before .before .wide .ensures .0) _ (b .before .enters .ensures) (not-false _ (b .if2 .left)) _
     (⊎-elim (λ w. lowest-nodes _ _ _ _ _ _ _ _ (w .0 .taken) _ (w .1 .ensures) _ _ (w .4) (w .3 .ensures))
     (λ w. higher-nodes _ _ _ _ _ _ _ _ _ _ _ (w .3) (w .2 .ensures) (w .1 .ensures)) (c .before .before .if3 .came)) _ (c .before .stops .ensures) (c .if5 .left))
     (λ c. search laws)
