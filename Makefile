@@ -20,13 +20,20 @@ reference: need
 	@mkdir -p build
 	@$(CARGO) build --quiet --release --offline --manifest-path reference/Cargo.toml
 
+SOURCES := crates.txt $(shell find crates -name '*.rt' -o -name '*.antt')
+
 archive: $(ARCHIVE)
 
-$(ARCHIVE): crates.txt $(shell find crates -name '*.rt' -o -name '*.antt')
+$(ARCHIVE): $(SOURCES)
 	rt staticlib balluchaw
+	@touch $@
 
-program:
+program: $(PROGRAM)
+
+# One prover at a time: the archive comes first.
+$(PROGRAM): $(SOURCES) | $(ARCHIVE)
 	rt check console
+	@touch $@
 
 # Document 01's full run, by the program; the first time it is proved before.
 run: program
@@ -39,8 +46,9 @@ test: tests
 	rt fmt --check
 	rt ci
 
-# Every test but the proofs. Each says in a line what it did.
-tests: test-reference test-program test-vectors test-kit test-differential fuzz lesson bench-smoke
+# Every test but the proofs, two at a time. Each says in a line what it did.
+tests: bench-need reference archive program
+	@$(MAKE) --no-print-directory --jobs=2 --output-sync=target test-differential fuzz test-reference test-program test-vectors test-kit lesson bench-smoke
 
 # The reference's own tests, and document 01's full run on its program.
 test-reference: reference
