@@ -11,9 +11,9 @@ use lines::Line;
 use lines::writing::put_dash;
 use lines::writing::put_mark;
 use lines::writing::put_row;
-use placement::numbers::be2;
-use placement::numbers::be4;
-use placement::numbers::wide;
+use sizes::numbers::be2;
+use sizes::numbers::be4;
+use sizes::numbers::wide;
 
 // Room for one line more: it has at most 37 numbers.
 fn room(out: &[u8], used: usize) -> usize

@@ -3,10 +3,10 @@ ghost use mathlib.Core.Path.{_≡_};
 ghost use Prim.Native.Nat.{_*_, _≤_};
 ghost use lib.ListN.{length, take};
 ghost use Rattle.table.specs.Calls.{check-number, Look-says, Seek-says};
-use placement::Sizes;
-use placement::header::sizes_allowed;
-use placement::header::table_length;
-use placement::numbers::put4;
+use sizes::Sizes;
+use sizes::header::sizes_allowed;
+use sizes::header::table_length;
+use sizes::numbers::put4;
 use table::Reply;
 
 // The sizes that a make is asked for.

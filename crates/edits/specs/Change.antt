@@ -5,12 +5,12 @@ use mathlib.Core.List.{List, _∷_, _++_}
 use Prim.Native.Nat.{ℕ, _+_, _-_, _≤_, _<_}
 use lib.ListN.{length}
 use lib.Seq.{sets}
-use Rattle.placement.specs.Numbers.{big}
-use Rattle.placement.specs.Sizes.{beta, made}
-use Rattle.placement.specs.Hash.{level}
-use Rattle.placement.specs.Header.{header, sizes-in, held-in}
+use Rattle.sizes.specs.Numbers.{big}
+use Rattle.sizes.specs.Sizes.{beta, made}
+use Rattle.sizes.specs.Hash.{level}
+use Rattle.sizes.specs.Header.{header, sizes-in, held-in}
 use Rattle.placement.specs.Maps.{Map, map-of, Table}
-use Rattle.placement.specs.declared.Sizes.{Sizes}
+use Rattle.sizes.specs.declared.Sizes.{Sizes}
 use Rattle.placement.specs.declared.Order.{Order}
 use Rattle.skiplist.specs.Lists.{first-key, chunks}
 use Rattle.skiplist.specs.Image.{image, orders-good, fits, is-image, orders-in, quantities-good}

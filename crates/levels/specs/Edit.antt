@@ -4,10 +4,10 @@ use mathlib.Core.Bool.{true}
 use mathlib.Core.List.{List, [], _∷_, _++_}
 use Prim.Native.Nat.{ℕ, suc, _+_, _*_, _≤_, _<_}
 use lib.ListN.{length, take, drop}
-use Rattle.placement.specs.Sizes.{beta, made}
-use Rattle.placement.specs.Hash.{level}
+use Rattle.sizes.specs.Sizes.{beta, made}
+use Rattle.sizes.specs.Hash.{level}
 use Rattle.placement.specs.Maps.{Map, Table, Fine}
-use Rattle.placement.specs.declared.Sizes.{Sizes}
+use Rattle.sizes.specs.declared.Sizes.{Sizes}
 use Rattle.placement.specs.declared.Order.{Order}
 use Rattle.skiplist.specs.Lists.{masked, first-key, chunks}
 use Rattle.skiplist.specs.Image.{image, orders-good, fits}

@@ -7,7 +7,7 @@ use lib.ListN.{length, take, drop}
 use Rattle.placement.specs.Chunks.{nodes-bytes}
 use Rattle.placement.specs.Place.{Shaped}
 use Rattle.placement.specs.Maps.{Map, Table, Fines, nodes-of, with-nodes, cleared}
-use Rattle.placement.specs.declared.Sizes.{Sizes}
+use Rattle.sizes.specs.declared.Sizes.{Sizes}
 use Rattle.placement.specs.declared.Order.{Order}
 use Rattle.placement.specs.declared.Label.{Label}
 use Rattle.skiplist.specs.Parts.{pieces}

@@ -4,7 +4,7 @@ use mathlib.Core.Bool.{cond}
 use mathlib.Core.List.{List}
 use Prim.Native.Nat.{ℕ, zero, suc, _+_, _-_, _≤_, _<_}
 use lib.Dec.{ltb}
-use Rattle.placement.specs.Numbers.{field}
+use Rattle.sizes.specs.Numbers.{field}
 use Rattle.skiplist.specs.Parts.{pieces}
 use Rattle.levels.specs.declared.Spot.{Spot}
 

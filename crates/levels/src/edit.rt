@@ -16,9 +16,9 @@ use crate::shift::store;
 use crate::spots::later;
 use placement::Label;
 use placement::Order;
-use placement::Sizes;
-use placement::numbers::bring;
-use placement::numbers::put4;
+use sizes::Sizes;
+use sizes::numbers::bring;
+use sizes::numbers::put4;
 
 // A node of a level, as node i of a row of nodes; quantities 0 above level 1.
 fn write_node(row: &mut [u8], i: u32, level: u32, o: Order)

@@ -1,14 +1,14 @@
 // How much a put adds, and the way down to a key.
 ghost use mathlib.Core.Path.{_≡_};
 ghost use Prim.Native.Nat.{ℕ, _+_, _*_, _-_, _≤_, _<_};
-ghost use Rattle.placement.specs.Sizes.{beta};
+ghost use Rattle.sizes.specs.Sizes.{beta};
 ghost use Rattle.placement.specs.Place.{Shaped};
 ghost use Rattle.levels.specs.Edit.{Grows, Bottoms};
 ghost use Rattle.levels.specs.Scan.{Grown};
 use crate::Spot;
 use crate::spots::chunks_of;
 use crate::spots::scan;
-use placement::Sizes;
+use sizes::Sizes;
 
 // How many chunks a level has more once a key of level l is there.
 fn grown(s: Sizes, level: u32, l: u32, x: Spot) -> u32

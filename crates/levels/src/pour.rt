@@ -7,14 +7,14 @@ ghost use Rattle.placement.specs.Place.{Shaped};
 ghost use Rattle.levels.specs.Pour.{at, Kept, Reads, Takes, Flushes, Puts, Pours};
 use placement::Found;
 use placement::Label;
-use placement::Sizes;
 use placement::edits::insert;
 use placement::edits::remove;
 use placement::labels::offset;
-use placement::numbers::bring;
-use placement::numbers::copy;
 use placement::search::count_at;
 use placement::search::find;
+use sizes::Sizes;
+use sizes::numbers::bring;
+use sizes::numbers::copy;
 
 // The nodes of a chunk come behind n nodes of the carry; how many nodes the carry then has. None come where there is no such chunk.
 pub fn read(

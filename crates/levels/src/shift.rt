@@ -9,11 +9,11 @@ use crate::pour::read;
 use crate::pour::write_some;
 use placement::Found;
 use placement::Label;
-use placement::Sizes;
 use placement::edits::pull_back;
 use placement::edits::write_block;
-use placement::numbers::copy;
 use placement::search::find;
+use sizes::Sizes;
+use sizes::numbers::copy;
 
 // The first n nodes of a row are a chunk: over the one that is there, or in its place among the others; none where n is 0.
 pub fn store(table: &mut [u8], s: Sizes, level: u32, first: u32, number: u32, n: u32, row: &[u8])

@@ -9,11 +9,11 @@ ghost use Rattle.levels.specs.Scan.{passed, passes};
 use crate::Spot;
 use placement::Found;
 use placement::Label;
-use placement::Sizes;
 use placement::labels::offset;
-use placement::numbers::be4;
 use placement::search::count_at;
 use placement::search::find;
+use sizes::Sizes;
+use sizes::numbers::be4;
 
 // A node comes by: it is counted, and kept if it is below the key.
 fn pass_node(key: u32, y: u32, x: Spot) -> Spot

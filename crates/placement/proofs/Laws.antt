@@ -1,5 +1,4 @@
 -- Laws by subject.
-pub mod Round
 pub mod Blocks
 pub mod Unique
 pub mod Store
@@ -12,11 +11,6 @@ pub mod Kinds
 pub mod Maps
 pub mod Keeps
 pub mod Other
-pub mod Sizes
-pub mod Numbers
-pub mod Over
-pub mod Bytes
-pub mod Parts
 pub mod Order
 pub mod Cells
 pub mod Rows
@@ -28,11 +22,7 @@ pub mod Pulling
 pub mod Settling
 pub mod Finding
 pub mod Edits
-pub mod Headers
 pub mod Reading
 pub mod Tables
 pub mod Searched
 pub mod Decoding
-pub mod Hashes
-pub mod HeaderLoops
-pub mod HeaderWrites

@@ -4,12 +4,12 @@ use mathlib.Core.List.{List, [], _∷_, _++_}
 use Prim.Native.Nat.{ℕ, _+_, _*_, _-_, _%_}
 use lib.Dec.{ltb, eqb}
 use lib.ListN.{length, replicate}
-use Rattle.placement.specs.Numbers.{big, rows}
-use Rattle.placement.specs.Sizes.{prime}
-use Rattle.placement.specs.Hash.{g}
-use Rattle.placement.specs.Header.{block-long}
+use Rattle.sizes.specs.Numbers.{big, rows}
+use Rattle.sizes.specs.Sizes.{prime}
+use Rattle.sizes.specs.Hash.{g}
+use Rattle.sizes.specs.Header.{block-long}
 use Rattle.placement.specs.Blocks.{Block, empty, holds}
-use Rattle.placement.specs.declared.Sizes.{Sizes}
+use Rattle.sizes.specs.declared.Sizes.{Sizes}
 use Rattle.placement.specs.declared.Order.{Order}
 
 -- a chunk: its label (level, first key of its partition, chunk number), and its nodes

@@ -4,11 +4,11 @@ use mathlib.Core.List.{List, map}
 use Prim.Native.Nat.{ℕ}
 use lib.Dec.{eqb}
 use lib.ListN.{getD, take, drop}
-use Rattle.placement.specs.Numbers.{field, rows-in}
-use Rattle.placement.specs.Header.{block-long}
+use Rattle.sizes.specs.Numbers.{field, rows-in}
+use Rattle.sizes.specs.Header.{block-long}
 use Rattle.placement.specs.Blocks.{Block, empty, holds}
 use Rattle.placement.specs.Chunks.{Chunk}
-use Rattle.placement.specs.declared.Sizes.{Sizes}
+use Rattle.sizes.specs.declared.Sizes.{Sizes}
 use Rattle.placement.specs.declared.Order.{Order}
 
 unfoldable pub node-in : List ℕ → Order

@@ -1,10 +1,5 @@
-pub mod Numbers
-pub mod Sizes
-pub mod Hash
-pub mod Header
 pub mod Blocks
 pub mod Chunks
-pub mod Parts
 pub mod Place
 pub mod Decode
 pub mod Kinds

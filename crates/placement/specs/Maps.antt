@@ -7,14 +7,14 @@ use Prim.Native.Nat.{ℕ, _<_, _≤_}
 use lib.Dec.{eqb}
 use lib.ListN.{length}
 use Rattle.placement.specs.Blocks.{Block, holds}
-use Rattle.placement.specs.Numbers.{Each}
+use Rattle.sizes.specs.Numbers.{Each}
 use Rattle.placement.specs.Kinds.{Kind}
 use Rattle.placement.specs.Kinds
-use Rattle.placement.specs.Sizes.{made}
-use Rattle.placement.specs.Header.{sizes-in, block-long}
+use Rattle.sizes.specs.Sizes.{made}
+use Rattle.sizes.specs.Header.{sizes-in, block-long}
 use Rattle.placement.specs.Chunks.{Chunk, home, label-before, block-bytes, all-bytes}
-use Rattle.placement.specs.Parts.{block-in}
-use Rattle.placement.specs.declared.Sizes.{Sizes}
+use Rattle.sizes.specs.Parts.{block-in}
+use Rattle.sizes.specs.declared.Sizes.{Sizes}
 use Rattle.placement.specs.declared.Order.{Order}
 use Rattle.placement.specs.declared.Label.{Label}
 use Rattle.placement.specs.declared.Found.{Found}

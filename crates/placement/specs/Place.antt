@@ -5,12 +5,12 @@ use mathlib.Core.Bool.{Bool, true, false, _&&_, _||_, not, cond}
 use Prim.Native.Nat.{ℕ, zero, suc, _+_, _*_, _-_, _%_, _≤_, _<_}
 use lib.Dec.{ltb, leb, eqb}
 use lib.ListN.{length, getD, replicate}
-use Rattle.placement.specs.Numbers.{field, big}
-use Rattle.placement.specs.Sizes.{prime, seed-good}
-use Rattle.placement.specs.Hash.{g}
-use Rattle.placement.specs.Header.{block-long}
-use Rattle.placement.specs.Parts.{put-block, clear-in, copy-in, swap-in}
-use Rattle.placement.specs.declared.Sizes.{Sizes}
+use Rattle.sizes.specs.Numbers.{field, big}
+use Rattle.sizes.specs.Sizes.{prime, seed-good}
+use Rattle.sizes.specs.Hash.{g}
+use Rattle.sizes.specs.Header.{block-long}
+use Rattle.sizes.specs.Parts.{put-block, clear-in, copy-in, swap-in}
+use Rattle.sizes.specs.declared.Sizes.{Sizes}
 use Rattle.placement.specs.declared.Label.{Label}
 use Rattle.placement.specs.declared.Found.{Found}
 use Rattle.placement.specs.declared.Found.the-variants.{At, Nothing}

@@ -4,25 +4,25 @@ ghost use mathlib.Core.Bool.{cond};
 ghost use Prim.Native.Nat.{ℕ, _+_, _*_, _-_, _<_, _≤_};
 ghost use lib.ListN.{length, take, drop};
 ghost use lib.Seq.{sets};
-ghost use Rattle.placement.specs.Header.{block-long};
-ghost use Rattle.placement.specs.Parts.{put-block, clear-in, copy-in, swap-in};
+ghost use Rattle.sizes.specs.Header.{block-long};
+ghost use Rattle.sizes.specs.Parts.{put-block, clear-in, copy-in, swap-in};
 ghost use Rattle.placement.specs.Place.{Shaped, label-in, before-label, home-of, search-in, distance-of, stays-at, bytes, Pulled, pull, settle, found-at, taken-out, free-in, head-bytes, block-with, inserted};
 use crate::Found;
 use crate::Label;
-use crate::Sizes;
 use crate::labels::before;
 use crate::labels::block_length;
 use crate::labels::home;
 use crate::labels::label_at;
 use crate::labels::offset;
-use crate::numbers::bring;
-use crate::numbers::copy;
-use crate::numbers::exchange;
-use crate::numbers::fill;
-use crate::numbers::put2;
-use crate::numbers::put4;
 use crate::search::find;
 use crate::search::free;
+use sizes::Sizes;
+use sizes::numbers::bring;
+use sizes::numbers::copy;
+use sizes::numbers::exchange;
+use sizes::numbers::fill;
+use sizes::numbers::put2;
+use sizes::numbers::put4;
 
 // An empty block.
 pub fn clear_block(table: &mut [u8], s: Sizes, i: u32)

@@ -1,15 +1,15 @@
 // Labels: read from a block, compared, and the block where the search for one starts.
 ghost use mathlib.Core.Path.{_≡_};
 ghost use Prim.Native.Nat.{ℕ, _+_, _*_, _<_, _≤_};
-ghost use Rattle.placement.specs.Header.{block-long};
+ghost use Rattle.sizes.specs.Header.{block-long};
 ghost use mathlib.Core.Bool.{true};
-ghost use Rattle.placement.specs.Numbers.{over};
-ghost use Rattle.placement.specs.Sizes.{seed-good};
-ghost use Rattle.placement.specs.Hash.{hash-from};
+ghost use Rattle.sizes.specs.Numbers.{over};
+ghost use Rattle.sizes.specs.Sizes.{seed-good};
+ghost use Rattle.sizes.specs.Hash.{hash-from};
 ghost use Rattle.placement.specs.Place.{Shaped, label-in, before-label, same-label, passes-label, home-of};
 use crate::Label;
-use crate::Sizes;
-use crate::header::Header;
+use sizes::Sizes;
+use sizes::header::Header;
 
 // The bytes of a block.
 pub fn block_length(s: Sizes) -> u32
@@ -32,9 +32,9 @@ pub fn label_at(table: &[u8], s: Sizes, i: u32) -> Label
     ensures { λ r. ⌜ r ≡ label-in (block-long s) (now (table .entry)) i ⌝ }
 {
     let at = offset(s, i);
-    let level = crate::numbers::wide(table[at]);
-    let number = crate::numbers::be2(table, at + 2);
-    let first = crate::numbers::be4(table, at + 4);
+    let level = sizes::numbers::wide(table[at]);
+    let number = sizes::numbers::be2(table, at + 2);
+    let first = sizes::numbers::be4(table, at + 4);
     Label {
         level: level,
         first: first,
@@ -75,7 +75,7 @@ pub fn passes_at(table: &[u8], s: Sizes, i: u32, want: Label) -> bool
     requires { ⌜ Shaped s (now table) × (i < s .blocks) ⌝ }
     ensures { λ r. ⌜ r ≡ passes-label (label-in (block-long s) (now (table .entry)) i) want ⌝ }
 {
-    let level = crate::numbers::wide(table[offset(s, i)]);
+    let level = sizes::numbers::wide(table[offset(s, i)]);
     if level != want.level {
         return 0 < level && level < want.level;
     }
@@ -87,7 +87,7 @@ pub fn home(s: Sizes, want: Label) -> u32
     requires { ⌜ (seed-good (s .seed) ≡ true) × (0 < s .blocks) × (s .blocks ≤ 65535) ⌝ }
     ensures { λ r. ⌜ (r ≡ home-of s want) × (r < s .blocks) ⌝ }
 {
-    let h = crate::hash::hash(s, 5, want.first);
+    let h = sizes::hash::hash(s, 5, want.first);
     let t = (h as u64 + 65536 * (want.level as u64) + want.number as u64) % 2147483647;
     (t % (s.blocks as u64)) as u32
 }
@@ -99,7 +99,7 @@ pub fn home_over(s: Sizes, round: u64, g: u32, want: Label) -> u32
 {
     let t = g + 65536 * want.level + want.number;
     if t < 2147483647 {
-        return crate::numbers::remainder(t, s.blocks, round);
+        return sizes::numbers::remainder(t, s.blocks, round);
     }
-    crate::numbers::remainder(t - 2147483647, s.blocks, round)
+    sizes::numbers::remainder(t - 2147483647, s.blocks, round)
 }

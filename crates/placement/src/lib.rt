@@ -1,20 +1,8 @@
 // Placement: where the chunks of a B-skip-list stand in a table of blocks, and how they are found, put in and taken out.
 // What the layer above may rest on is said by maps from labels to nodes: specs/Maps.antt, proofs/Tables.antt.
 pub mod edits;
-pub mod hash;
-pub mod header;
 pub mod labels;
-pub mod numbers;
 pub mod search;
-
-// The sizes and the seed of a table. `nodes` is document 01's B, `orders` its N, `blocks` its M.
-pub struct Sizes {
-    pub gamma: u32,
-    pub nodes: u32,
-    pub orders: u32,
-    pub blocks: u32,
-    pub seed: [u32; 10],
-}
 
 // An order, and a node of a chunk: the front is a node of key 0.
 pub struct Order {
@@ -34,10 +22,4 @@ pub struct Label {
 pub enum Found {
     At(u32),
     Nothing,
-}
-
-// Where a field of the header stands, and how wide it is.
-pub struct Field {
-    pub at: usize,
-    pub width: usize,
 }

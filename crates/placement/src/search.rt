@@ -3,19 +3,19 @@ ghost use mathlib.Core.Path.{_≡_};
 ghost use Prim.Native.Nat.{ℕ, _+_, _*_, _%_, _<_, _≤_};
 ghost use lib.Dec.{eqb};
 ghost use lib.ListN.{getD};
-ghost use Rattle.placement.specs.Numbers.{field, over};
-ghost use Rattle.placement.specs.Hash.{hash-from};
-ghost use Rattle.placement.specs.Header.{block-long};
+ghost use Rattle.sizes.specs.Numbers.{field, over};
+ghost use Rattle.sizes.specs.Hash.{hash-from};
+ghost use Rattle.sizes.specs.Header.{block-long};
 ghost use Rattle.placement.specs.Place.{Shaped, label-in, home-of, search-in, free-in};
 use crate::Found;
 use crate::Label;
-use crate::Sizes;
 use crate::labels::home;
 use crate::labels::home_over;
 use crate::labels::label_at;
 use crate::labels::offset;
 use crate::labels::passes_at;
 use crate::labels::same;
+use sizes::Sizes;
 
 // The block after one, going round.
 fn next(i: u32, m: u32) -> u32
@@ -102,7 +102,7 @@ pub fn count_at(table: &[u8], s: Sizes, i: u32) -> u32
     ensures { λ r. ⌜ (r ≡ getD (now (table .entry)) (53 + i * block-long s + 1) 0) × (r < 256) ⌝ }
 {
     let at = offset(s, i);
-    crate::numbers::wide(table[at + 1])
+    sizes::numbers::wide(table[at + 1])
 }
 
 // A field of node j of the chunk in a block: its key at 0, its total at 4, what is displayed of it at 8.
@@ -111,5 +111,5 @@ pub fn node_at(table: &[u8], s: Sizes, i: u32, j: u32, a: u32) -> u32
     ensures { λ r. ⌜ r ≡ field (53 + i * block-long s + (8 + (12 * j + a))) 4 (now (table .entry)) ⌝ }
 {
     let at = offset(s, i);
-    crate::numbers::be4(table, at + (8 + (12 * (j as usize) + a as usize)))
+    sizes::numbers::be4(table, at + (8 + (12 * (j as usize) + a as usize)))
 }

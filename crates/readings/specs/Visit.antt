@@ -7,11 +7,11 @@ use Prim.Native.Nat.{ℕ, zero, suc, _+_, _*_}
 use lib.Dec.{ltb, leb, eqb}
 use lib.ListN.{length}
 use lib.Seq.{sets}
-use Rattle.placement.specs.Numbers.{field}
-use Rattle.placement.specs.Sizes.{made}
+use Rattle.sizes.specs.Numbers.{field}
+use Rattle.sizes.specs.Sizes.{made}
 use Rattle.placement.specs.Chunks.{node-bytes}
 use Rattle.placement.specs.Place.{Shaped}
-use Rattle.placement.specs.declared.Sizes.{Sizes}
+use Rattle.sizes.specs.declared.Sizes.{Sizes}
 use Rattle.placement.specs.declared.Order.{Order}
 use Rattle.skiplist.specs.Lists.{list-at, masked}
 use Rattle.skiplist.specs.Image.{image, orders-in, orders-good, fits}

@@ -11,8 +11,8 @@ use crate::Visit;
 use crate::descent::order_of;
 use crate::visits::visit_partition;
 use placement::Order;
-use placement::hash::highest;
-use placement::header::Header;
+use sizes::hash::highest;
+use sizes::header::Header;
 use table::Reply;
 use table::checking::check;
 

@@ -12,13 +12,13 @@ use levels::growth::bottom;
 use levels::spots::scan;
 use placement::Found;
 use placement::Label;
-use placement::Sizes;
-use placement::hash::highest;
-use placement::hash::level_of;
-use placement::header::Header;
 use placement::labels::offset;
 use placement::search::count_at;
 use placement::search::find;
+use sizes::Sizes;
+use sizes::hash::highest;
+use sizes::hash::level_of;
+use sizes::header::Header;
 use table::walk::node_of;
 
 // Node `below` of the partition of level 1 that `first` heads, if it has the key.

@@ -2,7 +2,7 @@
 ghost use mathlib.Core.Path.{_≡_};
 ghost use Prim.Native.Nat.{_+_, _*_, _-_, _≤_};
 ghost use lib.ListN.{length, drop};
-ghost use Rattle.placement.specs.Sizes.{beta};
+ghost use Rattle.sizes.specs.Sizes.{beta};
 ghost use Rattle.placement.specs.Decode.{nodes-from};
 ghost use Rattle.skiplist.specs.Image.{orders-in};
 ghost use Rattle.readings.specs.Visit.{scan, next-found, more-found, ended-visit, wanted-by, row-in, step-by, steps, Known, Row, passed-in, passed-front, under, all-under};
@@ -10,7 +10,7 @@ use crate::Visit;
 use placement::Found;
 use placement::Label;
 use placement::Order;
-use placement::Sizes;
+use sizes::Sizes;
 
 // Nothing more need come.
 fn ended(v: Visit) -> Visit
@@ -71,9 +71,9 @@ fn write_row(output: &mut [u8], at: usize, o: Order)
     ensures { λ r. ⌜ now (output .exit) ≡ row-in (now (output .entry)) at o ⌝ }
 {
     if at + 12 <= output.len() {
-        placement::numbers::put4(output, at, o.key);
-        placement::numbers::put4(output, at + 4, o.total);
-        placement::numbers::put4(output, at + 8, o.displayed);
+        sizes::numbers::put4(output, at, o.key);
+        sizes::numbers::put4(output, at + 4, o.total);
+        sizes::numbers::put4(output, at + 8, o.displayed);
     }
 }
 
@@ -184,7 +184,7 @@ fn passed(table: &[u8], at: usize, left: u32, lo: u32) -> bool
     if left < 2 {
         return false;
     }
-    placement::numbers::be4(table, at + 12) <= lo
+    sizes::numbers::be4(table, at + 12) <= lo
 }
 
 // How many nodes at the front of a chunk end before the range starts.

@@ -3,14 +3,14 @@ use mathlib.Core.Path.{_≡_}
 use mathlib.Core.Bool.{true}
 use mathlib.Core.List.{List}
 use lib.ListN.{replicate}
-use Rattle.placement.specs.Sizes.{made}
+use Rattle.sizes.specs.Sizes.{made}
 use Rattle.placement.specs.Blocks.{empty}
 use Rattle.placement.specs.Chunks.{label-before, home}
-use Rattle.placement.specs.declared.Sizes.{Sizes}
+use Rattle.sizes.specs.declared.Sizes.{Sizes}
 use Rattle.placement.specs.declared.Order.{Order}
 use Rattle.placement.proofs.Laws.Placed.{Placing, placement, one-placement-counted}
 use Rattle.placement.proofs.Laws.Labels.{labels-chain, labels-strict, home-inside}
-use Rattle.placement.proofs.Laws.Sizes.{some-blocks}
+use Rattle.sizes.proofs.Laws.Sizes.{some-blocks}
 use Rattle.skiplist.specs.Lists.{chunks, blocks}
 use Rattle.skiplist.specs.Image.{orders-good, fits}
 use Rattle.skiplist.specs.Promise.{Rule-three, One-arrangement}

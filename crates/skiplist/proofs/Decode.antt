@@ -6,16 +6,16 @@ use native.Mathlib.Omega.{arith}
 use borrow.Author.Tests.{ne-eqb}
 use lib.ListN.{length, drop, replicate, length-map}
 use lib.Seq.{drop-at}
-use Rattle.placement.specs.Numbers.{big, field}
-use Rattle.placement.specs.Header.{block-long}
+use Rattle.sizes.specs.Numbers.{big, field}
+use Rattle.sizes.specs.Header.{block-long}
 use Rattle.placement.specs.Blocks.{Block, holds}
 use Rattle.placement.specs.Chunks.{Chunk, node-bytes, nodes-bytes, block-bytes, all-bytes}
 use Rattle.placement.specs.Decode.{node-in, nodes-from, chunk-of, block-of, cut, blocks-in}
 use Rattle.placement.specs.Maps.{Fine, Fines, Holdable}
-use Rattle.placement.specs.declared.Sizes.{Sizes}
+use Rattle.sizes.specs.declared.Sizes.{Sizes}
 use Rattle.placement.specs.declared.Order.{Order}
 use Rattle.placement.specs.declared.Label.{Label}
-use Rattle.placement.proofs.Laws.Numbers.{field-big}
+use Rattle.sizes.proofs.Laws.Numbers.{field-big}
 use Rattle.placement.proofs.Laws.Rows.{rows-back}
 use Rattle.placement.proofs.Laws.Cells.{join, head-label, cut-join}
 use Rattle.placement.proofs.Laws.Bridge.{label-of, Good, free, held, All-good, good-none, good-more, node-long, head-of, all-join, even-all}

@@ -7,9 +7,9 @@ use native.Mathlib.Omega.{arith}
 use borrow.Author.Tests.{ltb-true, ltb-false, eqb-true, eqb-false, le-leb, lt-leb, lt-ltb}
 use lib.Dec.{ltb, leb, eqb}
 use lib.ListN.{length, length-append}
-use Rattle.placement.specs.Sizes.{beta}
-use Rattle.placement.specs.Hash.{level}
-use Rattle.placement.specs.declared.Sizes.{Sizes}
+use Rattle.sizes.specs.Sizes.{beta}
+use Rattle.sizes.specs.Hash.{level}
+use Rattle.sizes.specs.declared.Sizes.{Sizes}
 use Rattle.placement.specs.declared.Order.{Order}
 use Rattle.skiplist.specs.Lists.{front, at-least, starts-one, run, first-key}
 unfoldable pub use Rattle.skiplist.specs.Parts.{last-from}

@@ -1,9 +1,9 @@
 -- P1 to P9 of document 01 hold: each claim is computed.
 use mathlib.Core.Path.{refl}
-use Rattle.placement.specs.Numbers.{big, value-from, field, rows, rows-in}
-use Rattle.placement.specs.Sizes.{least-power, beta, sizes-good, seed-good}
-use Rattle.placement.specs.Hash.{hash-from, h, g, divides-from, level}
-use Rattle.placement.specs.Header.{block-long, table-long, header, sizes-in, held-in, rule-1}
+use Rattle.sizes.specs.Numbers.{big, value-from, field, rows, rows-in}
+use Rattle.sizes.specs.Sizes.{least-power, beta, sizes-good, seed-good}
+use Rattle.sizes.specs.Hash.{hash-from, h, g, divides-from, level}
+use Rattle.sizes.specs.Header.{block-long, table-long, header, sizes-in, held-in, rule-1}
 use Rattle.placement.specs.Blocks.{around, stored, place-from, placed}
 use Rattle.placement.specs.Chunks.{home, node-bytes, block-bytes}
 use Rattle.placement.specs.Decode.{node-in, chunk-of, block-of, blocks-in}

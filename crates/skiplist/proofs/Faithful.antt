@@ -7,10 +7,10 @@ use native.Mathlib.Omega.{arith}
 use borrow.Author.Tests.{ltb-true, ltb-false, leb-true, eqb-true, eq-eqb, ne-eqb, le-leb, lt-ltb}
 use lib.ListN.{length, take, drop, length-take}
 use lib.Dec.{ltb, leb, eqb}
-use Rattle.placement.specs.Sizes.{beta}
+use Rattle.sizes.specs.Sizes.{beta}
 use Rattle.placement.specs.Chunks.{Chunk}
 use Rattle.placement.specs.Maps.{is-label, map-of}
-use Rattle.placement.specs.declared.Sizes.{Sizes}
+use Rattle.sizes.specs.declared.Sizes.{Sizes}
 use Rattle.placement.specs.declared.Order.{Order}
 use Rattle.skiplist.specs.Lists.{list-at, partitions, first-key, masked, chunks-of, all-chunks, chunks-from, chunks}
 use Rattle.skiplist.proofs.Parts.{Up, and-left, and-right, part}

@@ -11,9 +11,9 @@ use lib.Dec.{eqb}
 use lib.ListN.{length, getD, set, replicate, length-replicate}
 use Rattle.placement.specs.Blocks.{Block, empty, holds, around, stored, Stands, placed, how-many}
 use Rattle.placement.specs.Chunks.{Chunk, label-before, home}
-use Rattle.placement.specs.declared.Sizes.{Sizes}
+use Rattle.sizes.specs.declared.Sizes.{Sizes}
 use Rattle.placement.specs.declared.Order.{Order}
-use Rattle.placement.proofs.Laws.Round.{steps-to}
+use Rattle.sizes.proofs.Laws.Round.{steps-to}
 use Rattle.placement.proofs.Laws.Blocks.{around-inside, stored-long}
 use Rattle.placement.proofs.Laws.Store.{after-store}
 use Rattle.placement.proofs.Laws.Placed.{how-many-empty, gap, store-count, First, first-free, nothing}

@@ -4,14 +4,14 @@ use mathlib.Core.Bool.{true}
 use mathlib.Core.List.{List}
 use Prim.Native.Nat.{ℕ}
 use lib.ListN.{length}
-use Rattle.placement.specs.Sizes.{made}
-use Rattle.placement.specs.Header.{header}
+use Rattle.sizes.specs.Sizes.{made}
+use Rattle.sizes.specs.Header.{header}
 use Rattle.placement.specs.Maps.{Map, Keeps, map-of, Table}
-use Rattle.placement.specs.declared.Sizes.{Sizes}
+use Rattle.sizes.specs.declared.Sizes.{Sizes}
 use Rattle.placement.specs.declared.Order.{Order}
 use Rattle.placement.proofs.Laws.Keeps.{placed-keeps}
-use Rattle.placement.proofs.Laws.Sizes.{limits, some-blocks}
-use Rattle.placement.proofs.Laws.Headers.{header-long, header-sizes}
+use Rattle.sizes.proofs.Laws.Sizes.{limits, some-blocks}
+use Rattle.sizes.proofs.Laws.Headers.{header-long, header-sizes}
 use Rattle.placement.proofs.Laws.Tables.{same-bytes}
 use Rattle.skiplist.specs.Lists.{chunks, blocks}
 use Rattle.skiplist.specs.Image.{image, orders-good, fits}

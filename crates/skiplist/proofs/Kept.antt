@@ -7,8 +7,8 @@ use native.Mathlib.Omega.{arith}
 use borrow.Author.Tests.{ltb-true, ltb-false, leb-true, eqb-true, eqb-false, le-leb}
 use lib.Dec.{ltb, leb, eqb}
 use lib.ListN.{length, length-append}
-use Rattle.placement.specs.Sizes.{prime, beta}
-use Rattle.placement.specs.declared.Sizes.{Sizes}
+use Rattle.sizes.specs.Sizes.{prime, beta}
+use Rattle.sizes.specs.declared.Sizes.{Sizes}
 use Rattle.placement.specs.declared.Order.{Order}
 use Rattle.skiplist.specs.Lists.{chunks}
 use Rattle.skiplist.specs.Image.{into, quantities-good, orders-good, fits}
@@ -17,7 +17,7 @@ use Rattle.skiplist.specs.Book.{put-refusal, key-refusal, Call, put, can
 use Rattle.skiplist.proofs.Parts.{Up, up-from, and-left, and-right, or-left, or-right, up-past, Good, good-parts, good-up, without-here, up-out, below}
 use Rattle.skiplist.proofs.Shapes.{Place, there, absent, place, held-absent}
 use Rattle.skiplist.proofs.Count.{length-chunks, chunks-more, counts-none}
-use Rattle.placement.proofs.Laws.Sizes.{Limits}
+use Rattle.sizes.proofs.Laws.Sizes.{Limits}
 
 pub good-make : (a : ℕ) (o : Order) (os : List Order) → a ≤ o .key → ltb (o .key) prime ≡ true → quantities-good (o .total) (o .displayed) ≡ true → orders-good (suc (o .key)) os ≡ true → orders-good a (o ∷ os) ≡ true
 unfolding orders-good

@@ -8,10 +8,10 @@ use native.Mathlib.Omega.{arith}
 use borrow.Author.Tests.{leb-true, leb-false, eqb-true, eqb-false, ne-eqb}
 use lib.Dec.{leb, eqb}
 use lib.ListN.{getD}
-use Rattle.placement.specs.Sizes.{prime, least-power, beta}
-use Rattle.placement.specs.Hash.{hash-from, h, g, divides-from, level}
+use Rattle.sizes.specs.Sizes.{prime, least-power, beta}
+use Rattle.sizes.specs.Hash.{hash-from, h, g, divides-from, level}
 use Rattle.skiplist.specs.Rules.{Beta-is, Level-is, poly, Hash-is}
-use Rattle.placement.proofs.Laws.Sizes.{limits}
+use Rattle.sizes.proofs.Laws.Sizes.{limits}
 
 least-min : (k e c n : ℕ) → ((i : ℕ) → i < e → n ≤ c ^ i → ⊥) → (f : ℕ) → n ≤ c ^ f → least-power k e c n ≤ f
 unfolding least-power

@@ -10,15 +10,15 @@ use borrow.Author.Tests.{eqb-true, eqb-false}
 use lib.Dec.{eqb}
 use lib.ListN.{length, take, drop, length-drop, length-map}
 use lib.Seq.{drop-drop}
-use Rattle.placement.specs.Sizes.{beta}
+use Rattle.sizes.specs.Sizes.{beta}
 use Rattle.placement.specs.Chunks.{Chunk}
-use Rattle.placement.specs.declared.Sizes.{Sizes}
+use Rattle.sizes.specs.declared.Sizes.{Sizes}
 use Rattle.placement.specs.declared.Order.{Order}
 use Rattle.skiplist.specs.Lists.{list-at, partitions, first-key, masked, chunks-of, all-chunks, chunks-from, chunks}
 use Rattle.skiplist.specs.Rules.{Chunks-are}
 use Rattle.skiplist.proofs.Masks.{map-take, map-drop}
 use Rattle.placement.specs.Blocks.{Among}
-use Rattle.placement.proofs.Laws.Sizes.{limits}
+use Rattle.sizes.proofs.Laws.Sizes.{limits}
 
 pub among-append : {A : Type 0} (c : A) (cs ds : List A) → Among c (cs ++ ds) → Among c cs ⊎ Among c ds
 among-append c [] ds h = inr h

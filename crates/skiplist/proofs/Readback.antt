@@ -7,16 +7,16 @@ use native.Mathlib.Nat.{mul-le-mul}
 use native.Mathlib.Omega.{arith}
 use borrow.Author.Tests.{eq-eqb, le-leb}
 use lib.ListN.{length}
-use Rattle.placement.specs.Numbers.{big, field}
-use Rattle.placement.specs.Sizes.{made}
-use Rattle.placement.specs.Header.{block-long, table-long, header, sizes-in, held-in, rule-1}
+use Rattle.sizes.specs.Numbers.{big, field}
+use Rattle.sizes.specs.Sizes.{made}
+use Rattle.sizes.specs.Header.{block-long, table-long, header, sizes-in, held-in, rule-1}
 use Rattle.placement.specs.Decode.{blocks-in}
 use Rattle.placement.specs.Maps.{map-of}
-use Rattle.placement.specs.declared.Sizes.{Sizes}
+use Rattle.sizes.specs.declared.Sizes.{Sizes}
 use Rattle.placement.specs.declared.Order.{Order}
-use Rattle.placement.proofs.Laws.Sizes.{Limits, limits, some-blocks}
-use Rattle.placement.proofs.Laws.Numbers.{field-big}
-use Rattle.placement.proofs.Laws.Headers.{header-long}
+use Rattle.sizes.proofs.Laws.Sizes.{Limits, limits, some-blocks}
+use Rattle.sizes.proofs.Laws.Numbers.{field-big}
+use Rattle.sizes.proofs.Laws.Headers.{header-long}
 use Rattle.placement.proofs.Laws.Tables.{sound-blocks, sizes-read, shaped}
 use Rattle.skiplist.specs.Lists.{chunks, blocks}
 use Rattle.skiplist.specs.Image.{image, gathered, orders-in, orders-good, fits, same, is-image}

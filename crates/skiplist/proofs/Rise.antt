@@ -7,9 +7,9 @@ use native.Mathlib.Omega.{arith}
 use borrow.Author.Tests.{eq-eqb, le-leb, lt-ltb}
 use lib.Dec.{ltb, leb, eqb}
 use lib.ListN.{length, drop}
-use Rattle.placement.specs.Sizes.{beta}
+use Rattle.sizes.specs.Sizes.{beta}
 use Rattle.placement.specs.Chunks.{Chunk, label-before}
-use Rattle.placement.specs.declared.Sizes.{Sizes}
+use Rattle.sizes.specs.declared.Sizes.{Sizes}
 use Rattle.placement.specs.declared.Order.{Order}
 use Rattle.skiplist.specs.Lists.{list-at, partitions, first-key, masked, chunks-of, all-chunks, chunks-from, chunks}
 use Rattle.skiplist.specs.Promise.{labels-rise, Labels-rise}

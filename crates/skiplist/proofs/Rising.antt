@@ -5,7 +5,7 @@ use mathlib.Core.List.{List, [], _∷_}
 use mathlib.Core.Logic.{inl, inr}
 use Prim.Native.Nat.{ℕ, suc}
 use Rattle.placement.specs.Chunks.{Chunk, label-before}
-use Rattle.placement.specs.declared.Sizes.{Sizes}
+use Rattle.sizes.specs.declared.Sizes.{Sizes}
 use Rattle.placement.specs.declared.Order.{Order}
 use Rattle.placement.proofs.Laws.Placed.{Rising}
 use Rattle.placement.proofs.Laws.Labels.{labels-chain}

@@ -7,19 +7,19 @@ use Prim.Native.Nat.{ℕ, zero, suc, _+_, _%_, _≤_, _<_}
 use native.Mathlib.Nat.{mod-lt, mod-eq-of-lt}
 use native.Mathlib.Omega.{arith}
 use lib.ListN.{length, getD, replicate}
-use Rattle.placement.specs.Sizes.{made}
-use Rattle.placement.specs.Header.{header, sizes-in}
+use Rattle.sizes.specs.Sizes.{made}
+use Rattle.sizes.specs.Header.{header, sizes-in}
 use Rattle.placement.specs.Blocks.{Among, Block, empty, holds, around, stored, holds-smaller, Stands, Rule-3, how-many}
 use Rattle.placement.specs.Chunks.{Chunk, label-before, home, all-bytes}
-use Rattle.placement.specs.declared.Sizes.{Sizes}
+use Rattle.sizes.specs.declared.Sizes.{Sizes}
 use Rattle.placement.specs.declared.Order.{Order}
-use Rattle.placement.proofs.Laws.Round.{Which, less, same, more, which, steps-apart}
+use Rattle.sizes.proofs.Laws.Round.{Which, less, same, more, which, steps-apart}
 use Rattle.placement.proofs.Laws.Blocks.{around-inside, stored-long, Far, far}
 use Rattle.placement.proofs.Laws.Store.{before-store}
 use Rattle.placement.proofs.Laws.Placed.{Rising, store-count, nothing, one-placement}
 use Rattle.placement.proofs.Laws.Labels.{labels-chain, labels-strict, home-inside}
 use Rattle.placement.proofs.Laws.Maps.{one-place}
-use Rattle.placement.proofs.Laws.Sizes.{some-blocks}
+use Rattle.sizes.proofs.Laws.Sizes.{some-blocks}
 use Rattle.skiplist.specs.Lists.{chunks, blocks}
 use Rattle.skiplist.specs.Image.{image, orders-in, orders-good, fits, is-image}
 use Rattle.skiplist.specs.Rules.{Rules, Image-exactly}

@@ -9,13 +9,13 @@ use native.Mathlib.Omega.{arith}
 use borrow.Author.Tests.{ltb-true, leb-true}
 use lib.Dec.{leb, eqb}
 use lib.ListN.{length, take, drop, length-append, length-drop, length-take, length-map, take-append-drop}
-use Rattle.placement.specs.Sizes.{prime, made}
-use Rattle.placement.specs.Hash.{level}
+use Rattle.sizes.specs.Sizes.{prime, made}
+use Rattle.sizes.specs.Hash.{level}
 use Rattle.placement.specs.Chunks.{Chunk}
 use Rattle.placement.specs.Maps.{map-of, Fine, Fines, Holdable, Sound}
-use Rattle.placement.specs.declared.Sizes.{Sizes}
+use Rattle.sizes.specs.declared.Sizes.{Sizes}
 use Rattle.placement.specs.declared.Order.{Order}
-use Rattle.placement.proofs.Laws.Sizes.{some-blocks}
+use Rattle.sizes.proofs.Laws.Sizes.{some-blocks}
 use Rattle.placement.proofs.Laws.Keeps.{map-only}
 use Rattle.skiplist.specs.Lists.{front, at-least, list-at, partitions, first-key, masked, chunks}
 use Rattle.skiplist.specs.Image.{quantities-good, orders-good, fits}
@@ -26,7 +26,7 @@ use Rattle.skiplist.proofs.Nodes.{nodes-list}
 use Rattle.skiplist.proofs.Kept.{fits-parts}
 use Rattle.skiplist.proofs.Pieces.{chunks-are}
 use Rattle.placement.specs.Blocks.{Among}
-use Rattle.placement.proofs.Laws.Sizes.{limits}
+use Rattle.sizes.proofs.Laws.Sizes.{limits}
 
 -- ---- nodes of numbers of four bytes
 

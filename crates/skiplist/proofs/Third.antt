@@ -7,10 +7,10 @@ use native.Mathlib.Omega.{arith}
 use borrow.Author.Tests.{eqb-true, le-leb, lt-ltb}
 use lib.Dec.{leb, eqb}
 use lib.ListN.{length, length-append}
-use Rattle.placement.specs.Numbers.{field, rows-in}
-use Rattle.placement.specs.Sizes.{sizes-good, seed-good, made}
-use Rattle.placement.specs.Header.{table-long, sizes-in, held-in, rule-1}
-use Rattle.placement.specs.declared.Sizes.{Sizes}
+use Rattle.sizes.specs.Numbers.{field, rows-in}
+use Rattle.sizes.specs.Sizes.{sizes-good, seed-good, made}
+use Rattle.sizes.specs.Header.{table-long, sizes-in, held-in, rule-1}
+use Rattle.sizes.specs.declared.Sizes.{Sizes}
 use Rattle.placement.specs.declared.Order.{Order}
 use Rattle.skiplist.specs.Image.{image, orders-in, orders-good, fits, same, is-image}
 use Rattle.skiplist.specs.Questions.{first-no, is-key, held, without, with-order, order, asks-put}
@@ -19,7 +19,7 @@ use Rattle.skiplist.specs.Promise.{Reads-back, Lists-image, Equal-exactl
 use Rattle.skiplist.proofs.Parts.{and-left, and-right, up-past, Good, good-parts, good-up, below-here}
 use Rattle.skiplist.proofs.Shapes.{put-new}
 use Rattle.skiplist.proofs.Kept.{fits-parts, fits-prefix, Kept, kept-none, kept-booked, kept-book}
-use Rattle.placement.proofs.Laws.Sizes.{Limits, limits}
+use Rattle.sizes.proofs.Laws.Sizes.{Limits, limits}
 
 -- a list of puts that gives some orders
 unfoldable pub puts : List Order → List Call

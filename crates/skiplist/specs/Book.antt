@@ -3,8 +3,8 @@ use mathlib.Core.Bool.{cond}
 use mathlib.Core.List.{List, [], _∷_}
 use Prim.Native.Nat.{ℕ}
 use lib.Dec.{eqb}
-use Rattle.placement.specs.Header.{sizes-in}
-use Rattle.placement.specs.declared.Sizes.{Sizes}
+use Rattle.sizes.specs.Header.{sizes-in}
+use Rattle.sizes.specs.declared.Sizes.{Sizes}
 use Rattle.placement.specs.declared.Order.{Order}
 use Rattle.skiplist.specs.Image.{image, is-image, orders-in}
 use Rattle.skiplist.specs.Questions.{first-no, asks-make, asks-put, asks-key, order, with-order, without}

@@ -5,11 +5,11 @@ use mathlib.Core.List.{List, [], _∷_, _++_}
 use Prim.Native.Nat.{ℕ, zero, suc, _+_, _*_, _/_, _%_}
 use lib.Dec.{eqb}
 use lib.ListN.{length, getD, set, take, drop, replicate}
-use Rattle.placement.specs.Sizes.{beta}
-use Rattle.placement.specs.Hash.{h, g, level}
-use Rattle.placement.specs.Header.{seed-bytes, table-long}
+use Rattle.sizes.specs.Sizes.{beta}
+use Rattle.sizes.specs.Hash.{h, g, level}
+use Rattle.sizes.specs.Header.{seed-bytes, table-long}
 use Rattle.placement.specs.Chunks.{home}
-use Rattle.placement.specs.declared.Sizes.{Sizes}
+use Rattle.sizes.specs.declared.Sizes.{Sizes}
 use Rattle.skiplist.specs.Image.{image, is-image, same}
 use Rattle.skiplist.specs.Questions.{sizes}
 use Rattle.skiplist.specs.Book.{Call, put, cancel, make-refusal, refusal, after}

@@ -4,12 +4,12 @@ use mathlib.Core.List.{List, [], _∷_, _++_}
 use Prim.Native.Nat.{ℕ, suc}
 use lib.Dec.{ltb, leb, eqb}
 use lib.ListN.{length}
-use Rattle.placement.specs.Sizes.{prime}
-use Rattle.placement.specs.Header.{header, sizes-in, rule-1}
+use Rattle.sizes.specs.Sizes.{prime}
+use Rattle.sizes.specs.Header.{header, sizes-in, rule-1}
 use Rattle.placement.specs.Blocks.{Block, empty, holds}
 use Rattle.placement.specs.Chunks.{Chunk, all-bytes}
 use Rattle.placement.specs.Decode.{blocks-in}
-use Rattle.placement.specs.declared.Sizes.{Sizes}
+use Rattle.sizes.specs.declared.Sizes.{Sizes}
 use Rattle.placement.specs.declared.Order.{Order}
 use Rattle.skiplist.specs.Lists.{chunks, blocks}
 

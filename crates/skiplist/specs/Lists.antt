@@ -4,11 +4,11 @@ use mathlib.Core.List.{List, [], _∷_, _++_, map}
 use Prim.Native.Nat.{ℕ, zero, suc}
 use lib.Dec.{ltb, leb, eqb}
 use lib.ListN.{length, take, drop, replicate}
-use Rattle.placement.specs.Sizes.{beta}
-use Rattle.placement.specs.Hash.{level}
+use Rattle.sizes.specs.Sizes.{beta}
+use Rattle.sizes.specs.Hash.{level}
 use Rattle.placement.specs.Blocks.{Block, empty, placed}
 use Rattle.placement.specs.Chunks.{Chunk, home}
-use Rattle.placement.specs.declared.Sizes.{Sizes}
+use Rattle.sizes.specs.declared.Sizes.{Sizes}
 use Rattle.placement.specs.declared.Order.{Order}
 
 -- the front element has key 0 and is no order

@@ -5,11 +5,11 @@ use mathlib.Core.List.{List, [], _∷_}
 use Prim.Native.Nat.{ℕ, _<_}
 use lib.Dec.{ltb}
 use lib.ListN.{length}
-use Rattle.placement.specs.Sizes.{made}
-use Rattle.placement.specs.Header.{sizes-in}
+use Rattle.sizes.specs.Sizes.{made}
+use Rattle.sizes.specs.Header.{sizes-in}
 use Rattle.placement.specs.Blocks.{Block, Among, Stands, Rule-3, how-many}
 use Rattle.placement.specs.Chunks.{Chunk, home, label-before}
-use Rattle.placement.specs.declared.Sizes.{Sizes}
+use Rattle.sizes.specs.declared.Sizes.{Sizes}
 use Rattle.placement.specs.declared.Order.{Order}
 use Rattle.skiplist.specs.Lists.{chunks, blocks}
 use Rattle.skiplist.specs.Image.{image, is-image, orders-in, orders-good, fits}

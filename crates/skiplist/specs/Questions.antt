@@ -7,9 +7,9 @@ use mathlib.Core.List.{List, [], _∷_, _++_}
 use Prim.Native.Nat.{ℕ, _*_, _-_}
 use lib.Dec.{ltb, leb, eqb}
 use lib.ListN.{length}
-use Rattle.placement.specs.Sizes.{prime, sizes-good, seed-good}
-use Rattle.placement.specs.Header.{seed-in, sizes-in, table-long}
-use Rattle.placement.specs.declared.Sizes.{Sizes}
+use Rattle.sizes.specs.Sizes.{prime, sizes-good, seed-good}
+use Rattle.sizes.specs.Header.{seed-in, sizes-in, table-long}
+use Rattle.sizes.specs.declared.Sizes.{Sizes}
 use Rattle.placement.specs.declared.Order.{Order}
 use Rattle.skiplist.specs.Image.{is-image, orders-in, into, quantities-good, fits}
 

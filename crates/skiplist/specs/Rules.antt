@@ -7,12 +7,12 @@ use mathlib.Core.Logic.{_⊎_}
 use Prim.Native.Nat.{ℕ, suc, _+_, _*_, _-_, _%_, _^_, _≤_, _<_}
 use lib.Dec.{ltb, leb}
 use lib.ListN.{length, getD, take, drop}
-use Rattle.placement.specs.Sizes.{prime, beta, made}
-use Rattle.placement.specs.Hash.{h, g, level}
-use Rattle.placement.specs.Header.{header, sizes-in}
+use Rattle.sizes.specs.Sizes.{prime, beta, made}
+use Rattle.sizes.specs.Hash.{h, g, level}
+use Rattle.sizes.specs.Header.{header, sizes-in}
 use Rattle.placement.specs.Blocks.{Block, empty, holds, holds-smaller, Among}
 use Rattle.placement.specs.Chunks.{Chunk, home, label-before, all-bytes}
-use Rattle.placement.specs.declared.Sizes.{Sizes}
+use Rattle.sizes.specs.declared.Sizes.{Sizes}
 use Rattle.placement.specs.declared.Order.{Order}
 use Rattle.skiplist.specs.Lists.{front, list-at, partitions, first-key, masked, chunks}
 use Rattle.skiplist.specs.Image.{image, is-image, orders-in, orders-good}

@@ -6,9 +6,9 @@ use mathlib.Core.List.{List, [], _∷_}
 use Prim.Native.Nat.{ℕ}
 use lib.Dec.{ltb, eqb}
 use lib.ListN.{length}
-use Rattle.placement.specs.Sizes.{made}
-use Rattle.placement.specs.Header.{table-long}
-use Rattle.placement.specs.declared.Sizes.{Sizes}
+use Rattle.sizes.specs.Sizes.{made}
+use Rattle.sizes.specs.Header.{table-long}
+use Rattle.sizes.specs.declared.Sizes.{Sizes}
 use Rattle.placement.specs.declared.Order.{Order}
 use Rattle.skiplist.specs.Image.{image}
 use Rattle.skiplist.specs.Questions.{first-no, asks-span, asks-seek, sizes, held, between, without, with-order, order}

@@ -6,12 +6,12 @@ use mathlib.Core.List.{List}
 use Prim.Native.Nat.{ℕ, zero, suc, _+_, _*_, _-_, _≤_}
 use lib.Dec.{ltb, leb, eqb}
 use lib.ListN.{getD, drop}
-use Rattle.placement.specs.Sizes.{prime}
-use Rattle.placement.specs.Hash.{level}
-use Rattle.placement.specs.Header.{block-long}
+use Rattle.sizes.specs.Sizes.{prime}
+use Rattle.sizes.specs.Hash.{level}
+use Rattle.sizes.specs.Header.{block-long}
 use Rattle.placement.specs.Decode.{node-in}
 use Rattle.placement.specs.Place.{Shaped, search-in, found-at}
-use Rattle.placement.specs.declared.Sizes.{Sizes}
+use Rattle.sizes.specs.declared.Sizes.{Sizes}
 use Rattle.placement.specs.declared.Order.{Order}
 use Rattle.placement.specs.declared.Found.{Found}
 use Rattle.placement.specs.declared.Found.the-variants.{At, Nothing}

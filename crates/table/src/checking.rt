@@ -7,10 +7,10 @@ use crate::Tally;
 use crate::sweep::finished;
 use crate::sweep::sweep;
 use crate::walk::walk_partition;
-use placement::hash::highest;
-use placement::header::Header;
-use placement::header::rule_one;
-use placement::numbers::over;
+use sizes::hash::highest;
+use sizes::header::Header;
+use sizes::header::rule_one;
+use sizes::numbers::over;
 
 // Do the bytes pass rule 1, the pass over the blocks and the walk? Where they do, how many blocks are full.
 fn passes(table: &[u8]) -> Tally
@@ -43,7 +43,7 @@ fn passes(table: &[u8]) -> Tally
         top,
         top,
         0,
-        placement::hash::hash(s, 5, 0),
+        sizes::hash::hash(s, 5, 0),
         x,
     ));
     Tally {

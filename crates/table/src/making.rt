@@ -4,19 +4,19 @@ ghost use mathlib.Core.Bool.{true};
 ghost use mathlib.Core.List.{[]};
 ghost use Prim.Native.Nat.{_<_, _≤_};
 ghost use lib.ListN.{length};
-ghost use Rattle.placement.specs.Sizes.{made};
-ghost use Rattle.placement.specs.Header.{table-long};
+ghost use Rattle.sizes.specs.Sizes.{made};
+ghost use Rattle.sizes.specs.Header.{table-long};
 ghost use Rattle.placement.specs.Place.{Shaped};
 ghost use Rattle.skiplist.specs.Image.{image};
 ghost use Rattle.skiplist.specs.Questions.{sizes};
 ghost use Rattle.table.specs.Make.{Fronts};
 ghost use Rattle.table.specs.Calls.{Make-says};
-use placement::Sizes;
-use placement::hash::highest;
-use placement::header::Header;
-use placement::header::seed_allowed;
-use placement::header::sizes_allowed;
-use placement::header::table_length;
+use sizes::Sizes;
+use sizes::hash::highest;
+use sizes::header::Header;
+use sizes::header::seed_allowed;
+use sizes::header::sizes_allowed;
+use sizes::header::table_length;
 
 // The numbers of the header's sizes and seed, as make is given them.
 fn sizes_of(gamma: u32, nodes: u32, orders: u32, blocks: u32, seed: &[u8]) -> Sizes
@@ -26,7 +26,7 @@ fn sizes_of(gamma: u32, nodes: u32, orders: u32, blocks: u32, seed: &[u8]) -> Si
     let mut numbers = [0u32; 10];
     let mut i: usize = 0;
     while i < 10 {
-        numbers[i] = placement::numbers::be4(seed, 4 * i);
+        numbers[i] = sizes::numbers::be4(seed, 4 * i);
         i += 1;
     }
     Sizes {
@@ -68,7 +68,7 @@ fn write_empty(table: &mut [u8], s: Sizes)
     ensures { λ r. ⌜ now (table .exit) ≡ image s [] ⌝ }
 {
     let n = table.len();
-    placement::numbers::fill(table, 0, n);
+    sizes::numbers::fill(table, 0, n);
     let h = Header { sizes: s, held: 0 };
     h.write(table);
     fronts(table, s, highest(s));

@@ -7,7 +7,7 @@ ghost use Rattle.placement.specs.Place.{Shaped};
 ghost use Rattle.table.specs.Check.{zeros-from, used-of, more-of, swept, ended};
 use crate::Seen;
 use crate::Tally;
-use placement::Sizes;
+use sizes::Sizes;
 
 // Where the unused bytes of a block start: at once in an empty one.
 fn used(level: u32, n: u32) -> usize
@@ -68,8 +68,8 @@ pub fn sweep(table: &[u8], s: Sizes) -> Tally
     let mut i: u32 = 0;
     'blocks: while i < m {
         let at = placement::labels::offset(s, i);
-        let level = placement::numbers::wide(table[at]);
-        let n = placement::numbers::wide(table[at + 1]);
+        let level = sizes::numbers::wide(table[at]);
+        let n = sizes::numbers::wide(table[at + 1]);
         let mut j = used(level, n);
         while j < long {
             let end = run(j, long);

@@ -3,15 +3,15 @@ ghost use mathlib.Core.Path.{_≡_};
 ghost use mathlib.Core.Bool.{true};
 ghost use Prim.Native.Nat.{_+_, _*_, _-_, _<_, _≤_};
 ghost use lib.ListN.{length};
-ghost use Rattle.placement.specs.Sizes.{beta, seed-good};
-ghost use Rattle.placement.specs.Hash.{hash-from};
-ghost use Rattle.placement.specs.Numbers.{over};
+ghost use Rattle.sizes.specs.Sizes.{beta, seed-good};
+ghost use Rattle.sizes.specs.Hash.{hash-from};
+ghost use Rattle.sizes.specs.Numbers.{over};
 ghost use Rattle.table.specs.Walk.{Walkable, node-of, wrong-seen, nothing-in, quantities-ok, belongs-in, enters-ok, entered-seen, ended-seen, stops-at, nodes-by, heads-ok, follows-ok, orders-by, passed-by, Lowest, chunk-spot, opens-of};
 use crate::Seen;
 use placement::Found;
 use placement::Label;
 use placement::Order;
-use placement::Sizes;
+use sizes::Sizes;
 
 // The walk of a table that is no image.
 fn wrong() -> Seen
@@ -29,9 +29,9 @@ pub fn node_of(table: &[u8], at: usize) -> Order
     requires { ⌜ at + 12 ≤ length (now table) ⌝ }
     ensures { λ r. ⌜ r ≡ node-of (now (table .entry)) at ⌝ }
 {
-    let key = placement::numbers::be4(table, at);
-    let total = placement::numbers::be4(table, at + 4);
-    let displayed = placement::numbers::be4(table, at + 8);
+    let key = sizes::numbers::be4(table, at);
+    let total = sizes::numbers::be4(table, at + 4);
+    let displayed = sizes::numbers::be4(table, at + 8);
     Order {
         key: key,
         total: total,
@@ -76,7 +76,7 @@ fn belongs(s: Sizes, ratio: u64, top: u32, level: u32, first: u32, opens: bool, 
     if key == 0 {
         return false;
     }
-    placement::hash::has_level(s, ratio, top, level, key)
+    sizes::hash::has_level(s, ratio, top, level, key)
 }
 
 // A chunk of so many nodes may come next.
@@ -155,7 +155,7 @@ fn follows(s: Sizes, ratio: u64, low: u32, n: Order) -> bool
     if 2147483647 <= n.key {
         return false;
     }
-    if !placement::hash::is_lowest(s, ratio, n.key) {
+    if !sizes::hash::is_lowest(s, ratio, n.key) {
         return false;
     }
     if n.total < 1 {
@@ -272,7 +272,7 @@ pub fn walk_partition(
             return ended(number, seen);
         };
         let at = placement::labels::offset(s, i);
-        let n = placement::numbers::wide(table[at + 1]);
+        let n = sizes::numbers::wide(table[at + 1]);
         if !enters(s.nodes, n, seen) {
             return wrong();
         }
@@ -327,7 +327,7 @@ pub fn walk_nodes(
     let mut o = opens;
     let mut place = at;
     let mut k = left;
-    let mut g = placement::hash::hash(s, 5, placement::numbers::be4(table, at));
+    let mut g = sizes::hash::hash(s, 5, sizes::numbers::be4(table, at));
     while 0 < k {
         if !y.ok {
             return wrong();
@@ -341,8 +341,8 @@ pub fn walk_nodes(
         }
         let mut next: u32 = 0;
         if 1 < k {
-            let key = placement::numbers::be4(table, place + 12);
-            next = placement::hash::hash(s, 5, key);
+            let key = sizes::numbers::be4(table, place + 12);
+            next = sizes::hash::hash(s, 5, key);
             if placement::search::ends_at_once(
                 table,
                 s,

@@ -7,11 +7,11 @@ use native.Mathlib.Nat.{add-suc}
 use native.Mathlib.Omega.{arith}
 use lib.ListN.{length, length-append}
 use lib.Seq.{sets}
-use Rattle.placement.specs.Numbers.{big}
-use Rattle.placement.specs.Sizes.{beta, made}
-use Rattle.placement.specs.Hash.{level}
-use Rattle.placement.specs.Header.{sizes-in, held-in}
-use Rattle.placement.specs.declared.Sizes.{Sizes}
+use Rattle.sizes.specs.Numbers.{big}
+use Rattle.sizes.specs.Sizes.{beta, made}
+use Rattle.sizes.specs.Hash.{level}
+use Rattle.sizes.specs.Header.{sizes-in, held-in}
+use Rattle.sizes.specs.declared.Sizes.{Sizes}
 use Rattle.placement.specs.declared.Order.{Order}
 use Rattle.skiplist.specs.Image.{image, is-image, orders-in}
 use Rattle.skiplist.specs.Questions.{first-no, asks-key, is-key, held, without}

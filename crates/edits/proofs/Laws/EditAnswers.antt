@@ -10,15 +10,15 @@ use mir.Syntax.{w32}
 use mir.Val.{Fits}
 use lib.Dec.{leb}
 use lib.ListN.{length}
-use Rattle.placement.specs.Numbers.{big, field}
-use Rattle.placement.specs.Sizes.{beta, made, seed-good}
-use Rattle.placement.specs.Hash.{level}
-use Rattle.placement.specs.Header.{header, sizes-in, held-in}
+use Rattle.sizes.specs.Numbers.{big, field}
+use Rattle.sizes.specs.Sizes.{beta, made, seed-good}
+use Rattle.sizes.specs.Hash.{level}
+use Rattle.sizes.specs.Header.{header, sizes-in, held-in}
 use Rattle.placement.specs.Place.{Shaped}
 use Rattle.placement.specs.Maps.{map-of}
-use Rattle.placement.specs.declared.Sizes.{Sizes}
-use Rattle.placement.proofs.Laws.Sizes.{Limits, limits}
-use Rattle.placement.proofs.Laws.Numbers.{field-big}
+use Rattle.sizes.specs.declared.Sizes.{Sizes}
+use Rattle.sizes.proofs.Laws.Sizes.{Limits, limits}
+use Rattle.sizes.proofs.Laws.Numbers.{field-big}
 use Rattle.placement.proofs.Laws.Tables.{shaped}
 use Rattle.skiplist.specs.Lists.{chunks}
 use Rattle.skiplist.specs.Image.{image, is-image, orders-in, quantities-good}

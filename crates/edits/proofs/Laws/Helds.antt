@@ -7,10 +7,10 @@ use native.Mathlib.Omega.{arith}
 use borrow.Author.Tests.{eqb-true, eqb-false}
 use lib.Dec.{eqb}
 use lib.ListN.{length, length-append}
-use Rattle.placement.specs.Hash.{level}
-use Rattle.placement.specs.Header.{header}
+use Rattle.sizes.specs.Hash.{level}
+use Rattle.sizes.specs.Header.{header}
 use Rattle.placement.specs.Maps.{map-of}
-use Rattle.placement.specs.declared.Sizes.{Sizes}
+use Rattle.sizes.specs.declared.Sizes.{Sizes}
 use Rattle.placement.specs.declared.Order.{Order}
 use Rattle.skiplist.specs.Lists.{first-key, chunks}
 use Rattle.skiplist.proofs.Parts.{part}

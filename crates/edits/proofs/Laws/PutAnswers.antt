@@ -11,13 +11,13 @@ use mir.Val.{Fits}
 use lib.Dec.{ltb, leb}
 use lib.ListN.{length, length-append}
 use lib.Seq.{sets}
-use Rattle.placement.specs.Numbers.{big}
-use Rattle.placement.specs.Sizes.{prime, beta, made}
-use Rattle.placement.specs.Hash.{level}
-use Rattle.placement.specs.Header.{sizes-in, held-in}
-use Rattle.placement.specs.declared.Sizes.{Sizes}
+use Rattle.sizes.specs.Numbers.{big}
+use Rattle.sizes.specs.Sizes.{prime, beta, made}
+use Rattle.sizes.specs.Hash.{level}
+use Rattle.sizes.specs.Header.{sizes-in, held-in}
+use Rattle.sizes.specs.declared.Sizes.{Sizes}
 use Rattle.placement.specs.declared.Order.{Order}
-use Rattle.placement.proofs.Laws.Sizes.{some-nodes}
+use Rattle.sizes.proofs.Laws.Sizes.{some-nodes}
 use Rattle.skiplist.specs.Lists.{chunks}
 use Rattle.skiplist.specs.Image.{image, is-image, orders-in, quantities-good, fits}
 use Rattle.skiplist.specs.Questions.{first-no, asks-put, is-key, held, order, with-order}

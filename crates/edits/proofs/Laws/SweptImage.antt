@@ -9,14 +9,14 @@ use borrow.Author.Tests.{eq-eqb, ne-eqb}
 use lib.Dec.{eqb}
 use lib.ListN.{length, getD, take, drop, replicate, getD-replicate}
 use lib.Seq.{drop-cons, drop-length, getD-take, getD-drop, getD-append-add}
-use Rattle.placement.specs.Numbers.{big}
-use Rattle.placement.specs.Header.{block-long, sizes-in}
+use Rattle.sizes.specs.Numbers.{big}
+use Rattle.sizes.specs.Header.{block-long, sizes-in}
 use Rattle.placement.specs.Blocks.{Block, empty, holds, how-many}
 use Rattle.placement.specs.Chunks.{Chunk, block-bytes, nodes-bytes}
-use Rattle.placement.specs.Parts.{block-in}
+use Rattle.sizes.specs.Parts.{block-in}
 use Rattle.placement.specs.Maps.{Map, Holdable, Table, map-of}
-use Rattle.placement.specs.declared.Sizes.{Sizes}
-use Rattle.placement.proofs.Laws.Sizes.{some-blocks}
+use Rattle.sizes.specs.declared.Sizes.{Sizes}
+use Rattle.sizes.proofs.Laws.Sizes.{some-blocks}
 use Rattle.placement.proofs.Laws.Bridge.{Good, held, All-good, good-at, length-nodes}
 use Rattle.placement.proofs.Laws.Edits.{block-bytes-at}
 use Rattle.placement.proofs.Laws.Tables.{sound-blocks}

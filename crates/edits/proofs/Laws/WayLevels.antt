@@ -8,10 +8,10 @@ use native.Mathlib.Omega.{arith}
 use borrow.Author.Tests.{eqb-true, eqb-false}
 use lib.Dec.{eqb}
 use lib.ListN.{length, take, drop}
-use Rattle.placement.specs.Sizes.{beta}
-use Rattle.placement.specs.Header.{header}
+use Rattle.sizes.specs.Sizes.{beta}
+use Rattle.sizes.specs.Header.{header}
 use Rattle.placement.specs.Maps.{Map, map-of, Table}
-use Rattle.placement.specs.declared.Sizes.{Sizes}
+use Rattle.sizes.specs.declared.Sizes.{Sizes}
 use Rattle.placement.specs.declared.Order.{Order}
 use Rattle.skiplist.specs.Lists.{masked, chunks}
 use Rattle.skiplist.proofs.Parts.{Up, part}

@@ -6,13 +6,13 @@ use Prim.Native.Nat.{ℕ, zero, suc, _<_}
 use native.Mathlib.Omega.{arith}
 use lib.ListN.{length}
 use lib.Seq.{sets}
-use Rattle.placement.specs.Numbers.{big}
-use Rattle.placement.specs.Sizes.{beta, made}
-use Rattle.placement.specs.Header.{header}
+use Rattle.sizes.specs.Numbers.{big}
+use Rattle.sizes.specs.Sizes.{beta, made}
+use Rattle.sizes.specs.Header.{header}
 use Rattle.placement.specs.Maps.{map-of, Table}
-use Rattle.placement.specs.declared.Sizes.{Sizes}
+use Rattle.sizes.specs.declared.Sizes.{Sizes}
 use Rattle.placement.specs.declared.Order.{Order}
-use Rattle.placement.proofs.Laws.Sizes.{some-nodes}
+use Rattle.sizes.proofs.Laws.Sizes.{some-nodes}
 use Rattle.placement.proofs.Laws.Tables.{count-keeps}
 use Rattle.skiplist.specs.Lists.{chunks}
 use Rattle.skiplist.specs.Image.{image, orders-good, fits}

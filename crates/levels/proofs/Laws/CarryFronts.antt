@@ -6,11 +6,11 @@ use native.Mathlib.Nat.{zero-add, suc-add}
 use native.Mathlib.Omega.{arith}
 use lib.ListN.{length, take, drop, length-append, length-take, length-drop}
 use lib.Seq.{sets, sets-eq, take-at, drop-at, take-nil, drop-nil, take-all, take-take, take-add, length-take-le, take-append-add, drop-append-add}
-use Rattle.placement.specs.Numbers.{big, rows}
+use Rattle.sizes.specs.Numbers.{big, rows}
 use Rattle.placement.specs.Chunks.{node-bytes, nodes-bytes}
 use Rattle.placement.specs.declared.Order.{Order}
-use Rattle.placement.proofs.Laws.Parts.{sets-append}
-use Rattle.placement.proofs.Laws.Numbers.{length-big}
+use Rattle.sizes.proofs.Laws.Parts.{sets-append}
+use Rattle.sizes.proofs.Laws.Numbers.{length-big}
 use Rattle.skiplist.specs.Lists.{masked}
 use borrow.Author.Tests.{eq-eqb, ne-eqb}
 use Rattle.levels.specs.Pour.{Front}

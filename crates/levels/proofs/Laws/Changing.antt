@@ -9,21 +9,21 @@ use native.Mathlib.Nat.{zero-add, add-assoc, mod-lt, suc-mul, mul-le-mul-right}
 use native.Mathlib.Omega.{arith}
 use lib.ListN.{length, take, drop, replicate, length-append, length-drop, length-take, take-append-drop}
 use lib.Seq.{sets, sets-eq, length-sets, take-at, drop-at, take-add, take-take, drop-drop, drop-append-le, length-take-le}
-use Rattle.placement.specs.Numbers.{big, rows}
+use Rattle.sizes.specs.Numbers.{big, rows}
 use Rattle.placement.specs.Blocks.{holds}
-use Rattle.placement.specs.Header.{block-long}
-use Rattle.placement.specs.Parts.{block-in, put-block}
+use Rattle.sizes.specs.Header.{block-long}
+use Rattle.sizes.specs.Parts.{block-in, put-block}
 use Rattle.placement.specs.Chunks.{block-bytes, node-bytes, nodes-bytes}
 use Rattle.placement.specs.Place.{Shaped, search-in, block-with, head-bytes}
 use Rattle.placement.specs.Maps.{Map, Table, Fine, Fines, Finds, is-at, is-none, Holdable, labelled, nodes-of, with-nodes}
-use Rattle.placement.specs.declared.Sizes.{Sizes}
+use Rattle.sizes.specs.declared.Sizes.{Sizes}
 use Rattle.placement.specs.declared.Order.{Order}
 use Rattle.placement.specs.declared.Label.{Label}
 use Rattle.placement.specs.declared.Found.{Found}
 use Rattle.placement.specs.declared.Found.the-variants.{At, Nothing}
-use Rattle.placement.proofs.Laws.Numbers.{length-big}
-use Rattle.placement.proofs.Laws.Parts.{sets-append}
-use Rattle.placement.proofs.Laws.Bytes.{block-end}
+use Rattle.sizes.proofs.Laws.Numbers.{length-big}
+use Rattle.sizes.proofs.Laws.Parts.{sets-append}
+use Rattle.sizes.proofs.Laws.Bytes.{block-end}
 use Rattle.placement.proofs.Laws.Edits.{block-written}
 use Rattle.placement.proofs.Laws.Tables.{find-told, write-keeps, shaped}
 use Rattle.skiplist.proofs.Count.{pieces}

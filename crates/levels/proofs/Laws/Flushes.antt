@@ -7,17 +7,17 @@ use Prim.Native.Nat.{ℕ, zero, suc, _+_, _*_, _-_, _≤_, _<_}
 use native.Mathlib.Omega.{arith}
 use lib.ListN.{length, take, drop, length-take, length-drop}
 use lib.Seq.{sets, take-all, length-take-le}
-use Rattle.placement.specs.Numbers.{rows}
-use Rattle.placement.specs.Header.{block-long}
+use Rattle.sizes.specs.Numbers.{rows}
+use Rattle.sizes.specs.Header.{block-long}
 use Rattle.placement.specs.Chunks.{nodes-bytes}
 use Rattle.placement.specs.Place.{free-in, label-in, home-of, inserted}
 use Rattle.placement.specs.Maps.{Map, Table, Fines, labelled, nodes-of, with-chunk, with-nodes}
-use Rattle.placement.specs.declared.Sizes.{Sizes}
+use Rattle.sizes.specs.declared.Sizes.{Sizes}
 use Rattle.placement.specs.declared.Order.{Order}
 use Rattle.placement.specs.declared.Label.{Label}
 use Rattle.placement.specs.declared.Found.{Found}
 use Rattle.placement.proofs.Laws.Tables.{insert-keeps}
-use Rattle.placement.proofs.Laws.Sizes.{some-nodes}
+use Rattle.sizes.proofs.Laws.Sizes.{some-nodes}
 use Rattle.levels.specs.Pour.{Front, one, Writable, Flushed, waits, writes, Flushes, Put, Puts}
 use Rattle.levels.proofs.Laws.Takes.{one-some}
 use Rattle.placement.proofs.Laws.Maps.{Label-is, is, isnt, label-is}

@@ -8,13 +8,13 @@ use native.Mathlib.Omega.{arith}
 use borrow.Author.Tests.{ltb-true, ltb-false, eqb-true, eqb-false}
 use lib.Dec.{ltb, eqb}
 use lib.ListN.{length, take, drop, length-append, length-map}
-use Rattle.placement.specs.Sizes.{beta, made}
-use Rattle.placement.specs.Hash.{level}
-use Rattle.placement.specs.Header.{header}
+use Rattle.sizes.specs.Sizes.{beta, made}
+use Rattle.sizes.specs.Hash.{level}
+use Rattle.sizes.specs.Header.{header}
 use Rattle.placement.specs.Maps.{map-of, Table}
-use Rattle.placement.specs.declared.Sizes.{Sizes}
+use Rattle.sizes.specs.declared.Sizes.{Sizes}
 use Rattle.placement.specs.declared.Order.{Order}
-use Rattle.placement.proofs.Laws.Sizes.{some-nodes}
+use Rattle.sizes.proofs.Laws.Sizes.{some-nodes}
 use Rattle.skiplist.specs.Lists.{masked, first-key, chunks}
 use Rattle.skiplist.specs.Image.{image, orders-good, fits}
 use Rattle.skiplist.proofs.Parts.{Up, below, up-from, up-front, good-up, and-left, and-right, part}

@@ -11,11 +11,11 @@ use native.Mathlib.Omega.{arith}
 use lib.Dec.{eqb}
 use lib.ListN.{length, take, drop, length-append, length-drop, length-take}
 use lib.Seq.{sets, length-sets, append-snoc, take-all, take-nil, drop-nil, length-take-le}
-use Rattle.placement.specs.Header.{block-long}
+use Rattle.sizes.specs.Header.{block-long}
 use Rattle.placement.specs.Chunks.{node-bytes, nodes-bytes}
 use Rattle.placement.specs.Place.{free-in, label-in, home-of, inserted}
 use Rattle.placement.specs.Maps.{Map, Table, Fine, Fines, labelled, nodes-of, with-nodes, cleared}
-use Rattle.placement.specs.declared.Sizes.{Sizes}
+use Rattle.sizes.specs.declared.Sizes.{Sizes}
 use Rattle.placement.specs.declared.Order.{Order}
 use Rattle.placement.specs.declared.Label.{Label}
 use Rattle.placement.specs.declared.Found.{Found}

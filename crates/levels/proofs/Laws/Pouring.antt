@@ -10,9 +10,9 @@ use native.Mathlib.Omega.{arith}
 use lib.ListN.{length, take, drop, length-append, length-drop, length-take, take-append-drop}
 use lib.Seq.{take-append-le, drop-append-le, take-all, take-nil, drop-nil, length-take-le}
 use Rattle.placement.specs.Maps.{Map, Table, Fines, labelled, nodes-of, with-nodes, cleared, with-chunk, without-label}
-use Rattle.placement.specs.Header.{block-long}
+use Rattle.sizes.specs.Header.{block-long}
 use Rattle.placement.specs.Place.{Shaped, free-in, label-in, home-of, inserted}
-use Rattle.placement.specs.declared.Sizes.{Sizes}
+use Rattle.sizes.specs.declared.Sizes.{Sizes}
 use Rattle.placement.specs.declared.Found.{Found}
 use Rattle.placement.specs.declared.Order.{Order}
 use Rattle.placement.specs.declared.Label.{Label}

@@ -10,7 +10,7 @@ use native.Mathlib.Omega.{arith}
 use lib.ListN.{length, take, drop, length-append, length-drop, length-take, take-append-drop}
 use lib.Seq.{append-snoc, take-append-le, drop-append-le, take-at, drop-at, take-all, take-nil, drop-nil, length-take-le, take-take}
 use Rattle.placement.specs.Maps.{Map, Table, Fine, Fines, labelled, nodes-of, with-nodes, cleared}
-use Rattle.placement.specs.declared.Sizes.{Sizes}
+use Rattle.sizes.specs.declared.Sizes.{Sizes}
 use Rattle.placement.specs.declared.Order.{Order}
 use Rattle.placement.specs.declared.Label.{Label}
 use Rattle.skiplist.proofs.Count.{pieces}

@@ -12,19 +12,19 @@ use borrow.Author.Tests.{ltb-true, ne-eqb, lt-ltb, le-ltb}
 use lib.Dec.{ltb}
 use lib.ListN.{length, getD, take, drop, length-append, length-take, length-drop}
 use lib.Seq.{take-all, take-add}
-use Rattle.placement.specs.Numbers.{field}
-use Rattle.placement.specs.Header.{block-long}
+use Rattle.sizes.specs.Numbers.{field}
+use Rattle.sizes.specs.Header.{block-long}
 use Rattle.placement.specs.Blocks.{holds}
 use Rattle.placement.specs.Chunks.{block-bytes}
-use Rattle.placement.specs.Parts.{block-in}
+use Rattle.sizes.specs.Parts.{block-in}
 use Rattle.placement.specs.Place.{search-in, taken-out}
 use Rattle.placement.specs.Maps.{Map, Table, Finds, is-at, is-none, labelled, nodes-of, cleared, without-label, is-label}
-use Rattle.placement.specs.declared.Sizes.{Sizes}
+use Rattle.sizes.specs.declared.Sizes.{Sizes}
 use Rattle.placement.specs.declared.Order.{Order}
 use Rattle.placement.specs.declared.Label.{Label}
 use Rattle.placement.specs.declared.Found.{Found}
 use Rattle.placement.specs.declared.Found.the-variants.{At, Nothing}
-use Rattle.placement.proofs.Laws.Sizes.{some-nodes}
+use Rattle.sizes.proofs.Laws.Sizes.{some-nodes}
 use Rattle.placement.proofs.Laws.Tables.{find-told, count-most, count-some, remove-keeps}
 use Rattle.placement.proofs.Laws.Reading.{node-at, count-read, key-read}
 use Rattle.skiplist.proofs.Parts.{Up, below, and-left, and-right}

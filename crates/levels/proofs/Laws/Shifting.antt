@@ -11,7 +11,7 @@ use lib.ListN.{length, take, drop, length-append, length-drop, length-take, take
 use lib.Seq.{take-append-le, drop-append-le, length-take-le}
 use Rattle.placement.specs.Maps.{Map, Table, Fines, with-nodes}
 use Rattle.placement.specs.Place.{Shaped}
-use Rattle.placement.specs.declared.Sizes.{Sizes}
+use Rattle.sizes.specs.declared.Sizes.{Sizes}
 use Rattle.placement.specs.declared.Order.{Order}
 use Rattle.skiplist.proofs.Count.{pieces}
 use Rattle.levels.specs.Edit.{Pieces}

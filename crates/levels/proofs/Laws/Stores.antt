@@ -6,12 +6,12 @@ use Prim.Native.Nat.{ℕ, zero, suc, _+_, _*_, _-_, _≤_, _<_}
 use native.Mathlib.Omega.{arith}
 use lib.ListN.{length, take, drop, length-drop}
 use lib.Seq.{sets, take-all, length-take-le}
-use Rattle.placement.specs.Header.{block-long}
+use Rattle.sizes.specs.Header.{block-long}
 use Rattle.placement.specs.Chunks.{nodes-bytes}
-use Rattle.placement.specs.Parts.{put-block}
+use Rattle.sizes.specs.Parts.{put-block}
 use Rattle.placement.specs.Place.{search-in, bytes, pull, home-of, block-with}
 use Rattle.placement.specs.Maps.{Map, Table, Finds, is-at, is-none, Fines, nodes-of, with-chunk, without-label, with-nodes, cleared}
-use Rattle.placement.specs.declared.Sizes.{Sizes}
+use Rattle.sizes.specs.declared.Sizes.{Sizes}
 use Rattle.placement.specs.declared.Order.{Order}
 use Rattle.placement.specs.declared.Label.{Label}
 use Rattle.placement.specs.declared.Found.{Found}

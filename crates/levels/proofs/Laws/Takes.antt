@@ -7,14 +7,14 @@ use Prim.Native.Nat.{ℕ, zero, suc, _+_, _*_, _-_, _≤_, _<_}
 use native.Mathlib.Omega.{arith}
 use lib.ListN.{length, getD, take, drop, replicate, length-append}
 use lib.Seq.{sets, take-at, drop-drop, take-take}
-use Rattle.placement.specs.Numbers.{big}
+use Rattle.sizes.specs.Numbers.{big}
 use Rattle.placement.specs.Blocks.{holds}
-use Rattle.placement.specs.Header.{block-long}
-use Rattle.placement.specs.Parts.{block-in}
+use Rattle.sizes.specs.Header.{block-long}
+use Rattle.sizes.specs.Parts.{block-in}
 use Rattle.placement.specs.Chunks.{Chunk, block-bytes, nodes-bytes}
 use Rattle.placement.specs.Place.{Shaped, search-in, bytes, pull, home-of, found-at, taken-out, head-bytes}
 use Rattle.placement.specs.Maps.{Map, Table, Finds, is-at, is-none, Fines, labelled, nodes-of, cleared, without-label, is-label}
-use Rattle.placement.specs.declared.Sizes.{Sizes}
+use Rattle.sizes.specs.declared.Sizes.{Sizes}
 use Rattle.placement.specs.declared.Order.{Order}
 use Rattle.placement.specs.declared.Label.{Label}
 use Rattle.placement.specs.declared.Found.{Found}

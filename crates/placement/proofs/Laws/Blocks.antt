@@ -8,7 +8,7 @@ use native.Mathlib.Omega.{arith}
 use lib.ListN.{length, getD, set, length-set}
 use lib.Seq.{getD-set-same, getD-set-other, ext-getD}
 use Rattle.placement.specs.Blocks.{Block, empty, holds, around, stored}
-use Rattle.placement.proofs.Laws.Round.{steps-to}
+use Rattle.sizes.proofs.Laws.Round.{steps-to}
 
 module _ {A : Type 0} (m : ℕ) where
   pub around-mod : (bs : List (Block A)) (i j : ℕ) → i % m ≡ j % m → around m bs i ≡ around m bs j

@@ -4,16 +4,16 @@ use mathlib.Core.List.{List, [], append-assoc, map}
 use Prim.Native.Nat.{ℕ, suc, _+_, _*_}
 use native.Mathlib.Omega.{arith}
 use lib.ListN.{length, getD, set, length-append, length-replicate}
-use Rattle.placement.specs.declared.Sizes.{Sizes}
+use Rattle.sizes.specs.declared.Sizes.{Sizes}
 use Rattle.placement.specs.declared.Order.{Order}
 use Rattle.placement.specs.declared.Label.{Label}
 use Rattle.placement.specs.Blocks.{Block, empty, holds}
-use Rattle.placement.specs.Numbers.{field, value-from, big}
-use Rattle.placement.specs.Header.{block-long}
+use Rattle.sizes.specs.Numbers.{field, value-from, big}
+use Rattle.sizes.specs.Header.{block-long}
 use Rattle.placement.specs.Chunks.{Chunk, label-before, block-bytes, all-bytes, nodes-bytes, node-bytes}
 use Rattle.placement.specs.Place.{Store, before-label}
 use Rattle.placement.specs.Maps.{Holdable}
-use Rattle.placement.proofs.Laws.Numbers.{field-big}
+use Rattle.sizes.proofs.Laws.Numbers.{field-big}
 use Rattle.placement.proofs.Laws.Rows.{length-rows}
 use Rattle.placement.proofs.Laws.Cells.{join, Even, head-label}
 use Rattle.placement.proofs.Laws.Coded.{Coding, All, listed, rows-join}

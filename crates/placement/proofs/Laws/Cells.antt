@@ -8,13 +8,13 @@ use native.Mathlib.Omega.{arith}
 use lib.Dec.{eqb}
 use lib.ListN.{length, getD, set, take, drop, replicate, length-append, length-drop, length-set, length-replicate, take-append-drop}
 use lib.Seq.{sets, sets-eq, length-take-le, take-at, drop-at, drop-append-add, getD-take, getD-drop}
-use Rattle.placement.specs.Numbers.{field}
+use Rattle.sizes.specs.Numbers.{field}
 use Rattle.placement.specs.Decode.{cut}
-use Rattle.placement.specs.Parts.{block-in, put-block, clear-in, copy-in, swap-in}
+use Rattle.sizes.specs.Parts.{block-in, put-block, clear-in, copy-in, swap-in}
 use Rattle.placement.specs.Place.{label-in, Store, bytes, pull, settle, stays-at, before-label}
 use Rattle.placement.specs.declared.Label.{Label}
-use Rattle.placement.specs.Numbers.{rows-in}
-use Rattle.placement.proofs.Laws.Numbers.{field-part}
+use Rattle.sizes.specs.Numbers.{rows-in}
+use Rattle.sizes.proofs.Laws.Numbers.{field-part}
 
 unfoldable pub join : List (List ℕ) → List ℕ
 join [] = []

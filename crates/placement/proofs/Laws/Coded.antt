@@ -6,8 +6,8 @@ use native.Mathlib.Nat.{mod-lt}
 use native.Mathlib.Omega.{arith}
 use lib.ListN.{length, getD, set, replicate, length-set, length-map}
 use Rattle.placement.specs.Blocks.{Block, empty}
-use Rattle.placement.specs.Numbers.{rows}
-use Rattle.placement.specs.Parts.{block-in, put-block}
+use Rattle.sizes.specs.Numbers.{rows}
+use Rattle.sizes.specs.Parts.{block-in, put-block}
 use Rattle.placement.specs.Place.{label-in, bytes, Store, pull, settle, probe}
 use Rattle.placement.specs.declared.Label.{Label}
 use Rattle.placement.proofs.Laws.Cells.{join, Even, none, more, table-block, table-put, head-label, cells, Same, cells-same, pull-same, settle-same}

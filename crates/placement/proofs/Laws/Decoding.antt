@@ -10,18 +10,18 @@ use lib.Dec.{eqb}
 use lib.ListN.{length, getD, take, drop, replicate, length-drop, length-map, take-append-drop}
 use borrow.Author.Tests.{eq-eqb, ne-eqb}
 use lib.Seq.{drop-drop, length-take-le}
-use Rattle.placement.specs.Numbers.{big, field}
+use Rattle.sizes.specs.Numbers.{big, field}
 use Rattle.placement.specs.Decode.{node-in, nodes-from, chunk-of, block-of, cut, blocks-in}
 use Rattle.placement.specs.Chunks.{node-bytes, nodes-bytes, block-bytes, all-bytes, Chunk}
-use Rattle.placement.specs.Header.{block-long}
-use Rattle.placement.specs.Parts.{block-in}
+use Rattle.sizes.specs.Header.{block-long}
+use Rattle.sizes.specs.Parts.{block-in}
 use Rattle.placement.specs.Blocks.{empty, holds}
-use Rattle.placement.specs.declared.Sizes.{Sizes}
+use Rattle.sizes.specs.declared.Sizes.{Sizes}
 use Rattle.placement.proofs.Laws.Bridge.{Good, free, held, All-good, good-none, good-more, all-join}
 use Rattle.placement.proofs.Laws.Cells.{join, cut-length, as-table}
-use Rattle.placement.specs.Numbers.{rows-in}
+use Rattle.sizes.specs.Numbers.{rows-in}
 use Rattle.placement.proofs.Laws.Rows.{rows-count, rows-some, rows-again, each-read}
-use Rattle.placement.proofs.Laws.Numbers.{Bytes, bytes-take, bytes-drop, take-more, field-again, field-less}
+use Rattle.sizes.proofs.Laws.Numbers.{Bytes, bytes-take, bytes-drop, take-more, field-again, field-less}
 use Rattle.placement.specs.Maps.{Fine}
 
 pub node-again : (xs : List ℕ) → 12 ≤ length xs → Bytes xs → node-bytes (node-in xs) ≡ take 12 xs

@@ -8,11 +8,11 @@ use native.Mathlib.Nat.{mod-lt, add-zero}
 use native.Mathlib.Omega.{arith}
 use lib.ListN.{length, getD, set, length-set}
 use Rattle.placement.specs.Blocks.{Block, empty, holds, around, is-free}
-use Rattle.placement.specs.declared.Sizes.{Sizes}
+use Rattle.sizes.specs.declared.Sizes.{Sizes}
 use Rattle.placement.specs.declared.Order.{Order}
 use Rattle.placement.specs.Chunks.{Chunk, home, label-before, block-bytes, all-bytes, nodes-bytes}
-use Rattle.placement.specs.Header.{block-long}
-use Rattle.placement.specs.Parts.{block-in, put-block}
+use Rattle.sizes.specs.Header.{block-long}
+use Rattle.sizes.specs.Parts.{block-in, put-block}
 use Rattle.placement.specs.Place.{label-in, probe, search-in, distance-of, bytes, pull, settle, free-in, head-bytes, block-with, inserted, home-of}
 use Rattle.placement.specs.Maps.{Map, Keeps, Holdable, labelled, nodes-of, chunk-kind}
 use Rattle.placement.specs.declared.Label.{Label}
@@ -20,7 +20,7 @@ use Rattle.placement.specs.declared.Found.{Found}
 use Rattle.placement.specs.declared.Found.the-variants.{At, Nothing}
 use Rattle.placement.proofs.Laws.Kinds.{absent-other}
 use Rattle.placement.proofs.Laws.Maps.{lawful}
-use Rattle.placement.proofs.Laws.Round.{steps-to}
+use Rattle.sizes.proofs.Laws.Round.{steps-to}
 use Rattle.placement.proofs.Laws.Placed.{gap}
 use Rattle.placement.proofs.Laws.Removal.{removed-at}
 use Rattle.placement.proofs.Laws.Insertion.{insert-from, Carry}
@@ -29,7 +29,7 @@ use Rattle.placement.proofs.Laws.Bridge.{Good, held, All-good, label-of
 use Rattle.placement.proofs.Laws.Coded.{block-read, block-write, pull-blocks, settle-blocks, label-blocks, probe-blocks}
 use Rattle.placement.proofs.Laws.Pulling.{pull-removed, distance-steps}
 use Rattle.placement.proofs.Laws.Settling.{Ahead, settle-theory, First-free, free-first, free-found}
-use Rattle.placement.specs.Hash.{level}
+use Rattle.sizes.specs.Hash.{level}
 
 -- a block that holds nothing, by its label
 free-label : (s : Sizes) (b : Block Chunk) → Good s b → label-of b .level ≡ 0 → b ≡ empty

@@ -9,7 +9,7 @@ use native.Mathlib.Omega.{arith}
 use lib.ListN.{getD}
 use borrow.Author.Tests.{eq-eqb, ne-eqb, lt-ltb}
 use Rattle.placement.specs.Blocks.{Block, empty, holds, around}
-use Rattle.placement.specs.declared.Sizes.{Sizes}
+use Rattle.sizes.specs.declared.Sizes.{Sizes}
 use Rattle.placement.specs.declared.Order.{Order}
 use Rattle.placement.specs.Chunks.{Chunk, home, label-before}
 use Rattle.placement.specs.Place.{probe, passes-label, same-label, before-label}
@@ -25,7 +25,7 @@ use Rattle.placement.proofs.Laws.Keeps.{nodes-found, search-kept, searc
 use Rattle.placement.proofs.Laws.Bridge.{Good, held, All-good, label-of, good-at}
 use Rattle.placement.proofs.Laws.Search
 use Rattle.placement.proofs.Laws.Labels
-use Rattle.placement.specs.Hash.{level}
+use Rattle.sizes.specs.Hash.{level}
 
 -- the block that the theory's search gives
 abbrev pub place-of : (m : ℕ) → Search.Found Chunk → Found

@@ -9,7 +9,7 @@ use native.Mathlib.Decide.{decLt, ℕ-discrete}
 use native.Mathlib.Omega.{arith}
 use lib.ListN.{length}
 use Rattle.placement.specs.Blocks.{Block, empty, holds, around, stored, holds-smaller, Stands, Smaller-to, Rule-3, how-many}
-use Rattle.placement.proofs.Laws.Round.{steps-to, steps-same, Which, which, less, same, more}
+use Rattle.sizes.proofs.Laws.Round.{steps-to, steps-same, Which, which, less, same, more}
 use Rattle.placement.proofs.Laws.Blocks.{around-mod, stored-there, stored-elsewhere, stored-mod, stored-long, Far, far}
 use Rattle.placement.proofs.Laws.Store.{after-store, before-store, stored-stands, store-keeps}
 use Rattle.placement.proofs.Laws.Placed.{gap, store-count}

@@ -5,7 +5,7 @@ use mathlib.Core.List.{List, []}
 use Prim.Native.Nat.{ℕ, zero, suc, _≤_, _<_}
 use lib.ListN.{length, replicate}
 use Rattle.placement.specs.Blocks.{Among, Block, empty, holds, around, stored, placed}
-use Rattle.placement.specs.declared.Sizes.{Sizes}
+use Rattle.sizes.specs.declared.Sizes.{Sizes}
 use Rattle.placement.specs.declared.Order.{Order}
 use Rattle.placement.specs.Chunks.{Chunk, home, label-before}
 use Rattle.placement.specs.Maps.{Map, at, chunk, nodes-of, chunk-kind, with-chunk, without-label, Keeps, map-of}

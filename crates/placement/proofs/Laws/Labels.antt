@@ -7,9 +7,9 @@ use native.Mathlib.Nat.{mod-lt}
 use native.Mathlib.Omega.{arith}
 use lib.Dec.{ltb, eqb}
 use borrow.Author.Tests.{ltb-true, eqb-true, lt-ltb, le-ltb, eq-eqb}
-use Rattle.placement.specs.declared.Sizes.{Sizes}
+use Rattle.sizes.specs.declared.Sizes.{Sizes}
 use Rattle.placement.specs.Chunks.{Chunk, home, label-before}
-use Rattle.placement.proofs.Laws.Round.{Which, which, less, same, more}
+use Rattle.sizes.proofs.Laws.Round.{Which, which, less, same, more}
 
 pub data Before (a b : Chunk) : Type 0 where
   by-level : a .level < b .level → Before a b

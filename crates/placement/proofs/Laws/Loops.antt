@@ -12,17 +12,17 @@ use lib.Seq.{sets}
 use borrow.Author.Tests.{eq-eqb, ne-eqb, le-ltb, lt-ltb, eqb-true}
 use mir.Val.{Fits}
 use mir.Syntax.{w32}
-use Rattle.placement.specs.Numbers.{field, big}
-use Rattle.placement.specs.Header.{block-long}
-use Rattle.placement.specs.Parts.{put-block, clear-in, copy-in, swap-in}
-use Rattle.placement.specs.declared.Sizes.{Sizes}
+use Rattle.sizes.specs.Numbers.{field, big}
+use Rattle.sizes.specs.Header.{block-long}
+use Rattle.sizes.specs.Parts.{put-block, clear-in, copy-in, swap-in}
+use Rattle.sizes.specs.declared.Sizes.{Sizes}
 use Rattle.placement.specs.declared.Label.{Label}
 use Rattle.placement.specs.declared.Found.{Found}
 use Rattle.placement.specs.declared.Found.the-variants.{At, Nothing}
 use Rattle.placement.specs.Place.{Shaped, label-in, before-label, same-label, passes-label, probe, search-in, distance-of, stays-at, bytes, Pulled, pull, settle, found-at, taken-out, free-in, head-bytes, block-with, inserted}
-use Rattle.placement.proofs.Laws.Parts.{sets-append}
+use Rattle.sizes.proofs.Laws.Parts.{sets-append}
 use Rattle.placement.specs.Place.{home-of}
-use Rattle.placement.specs.Hash.{hash-from, g}
+use Rattle.sizes.specs.Hash.{hash-from, g}
 
 -- what the loop of `find` keeps: the search from its start goes on from the block that is k further
 pub record Probing (look : ℕ → Label) (m : ℕ) (w : Label) (home start k : ℕ) : Type 0 where

@@ -11,12 +11,12 @@ use lib.Dec.{ltb, eqb}
 use lib.ListN.{length}
 use borrow.Author.Tests.{ltb-true, ltb-false, eqb-true, lt-ltb, le-ltb, eq-eqb}
 use Rattle.placement.specs.Blocks.{Block, holds, around}
-use Rattle.placement.specs.Numbers.{big, field, rows, rows-in, Each}
+use Rattle.sizes.specs.Numbers.{big, field, rows, rows-in, Each}
 use Rattle.placement.specs.Kinds.{Kind, Keeps, with-chunk, without-label}
 use Rattle.placement.proofs.Laws.Insertion.{insert-from}
 use Rattle.placement.proofs.Laws.Removal.{removed-at}
 use Rattle.placement.proofs.Laws.Kinds.{Lawful, put-in, take-out, kept-once}
-use Rattle.placement.proofs.Laws.Numbers.{length-big, field-big}
+use Rattle.sizes.proofs.Laws.Numbers.{length-big, field-big}
 use Rattle.placement.proofs.Laws.Rows.{length-rows, rows-back}
 
 record Piece : Type 0 where

@@ -8,7 +8,7 @@ use native.Mathlib.Nat.{add-zero, mod-lt}
 use native.Mathlib.Omega.{arith}
 use lib.ListN.{length, getD, set, replicate, length-replicate, getD-replicate}
 use Rattle.placement.specs.Blocks.{Among, Block, empty, holds, around, stored, holds-smaller, Stands, Rule-3, is-free, place-from, placed, how-many}
-use Rattle.placement.proofs.Laws.Round.{steps-to}
+use Rattle.sizes.proofs.Laws.Round.{steps-to}
 use Rattle.placement.proofs.Laws.Blocks.{stored-long}
 use Rattle.placement.proofs.Laws.Unique.{one-arrangement}
 use Rattle.placement.proofs.Laws.Store.{after-store, before-store, stored-stands, store-keeps}

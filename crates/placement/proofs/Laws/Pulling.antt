@@ -10,10 +10,10 @@ use lib.ListN.{getD, set}
 use lib.Seq.{set-set}
 use borrow.Author.Tests.{le-leb, lt-leb, ne-eqb}
 use Rattle.placement.specs.Blocks.{Block, empty, holds, around, stored}
-use Rattle.placement.specs.declared.Sizes.{Sizes}
+use Rattle.sizes.specs.declared.Sizes.{Sizes}
 use Rattle.placement.specs.Chunks.{Chunk, home}
 use Rattle.placement.specs.Place.{pull, stays-at, distance-of}
-use Rattle.placement.proofs.Laws.Round.{Turn, turn, first, second, Which, which, less, same, more, steps-to, steps-apart}
+use Rattle.sizes.proofs.Laws.Round.{Turn, turn, first, second, Which, which, less, same, more, steps-to, steps-apart}
 use Rattle.placement.proofs.Laws.Blocks.{stored-elsewhere}
 use Rattle.placement.proofs.Laws.Insertion.{suc-mod-same}
 use Rattle.placement.proofs.Laws.Removal.{pull-from, removed-at, distance, distance-is}
@@ -21,7 +21,7 @@ use Rattle.placement.proofs.Laws.Walks.{pull-stop, pull-move, pull-pass
 use Rattle.placement.proofs.Laws.Labels.{home-inside}
 use Rattle.placement.proofs.Laws.Bridge.{Good, held, All-good, places, label-of, good-at, good-set}
 use Rattle.placement.specs.Place.{home-of}
-use Rattle.placement.specs.Hash.{level}
+use Rattle.sizes.specs.Hash.{level}
 
 -- how far the code finds it from a on to b
 pub distance-steps : (m a b k : ℕ) → a < m → b < m → k < m → (a + k) % m ≡ b → distance-of m a b ≡ k

@@ -7,18 +7,18 @@ use native.Mathlib.Omega.{arith}
 use lib.ListN.{length, getD, drop, replicate, length-append}
 use lib.Seq.{getD-take, getD-drop}
 use Rattle.placement.specs.Blocks.{holds}
-use Rattle.placement.specs.declared.Sizes.{Sizes}
+use Rattle.sizes.specs.declared.Sizes.{Sizes}
 use Rattle.placement.specs.declared.Order.{Order}
-use Rattle.placement.specs.Numbers.{big, field}
-use Rattle.placement.specs.Header.{block-long}
+use Rattle.sizes.specs.Numbers.{big, field}
+use Rattle.sizes.specs.Header.{block-long}
 use Rattle.placement.specs.Chunks.{block-bytes, node-bytes, nodes-bytes}
-use Rattle.placement.specs.Parts.{block-in}
+use Rattle.sizes.specs.Parts.{block-in}
 use Rattle.placement.specs.Place.{head-bytes}
 use Rattle.placement.specs.Maps.{labelled, Fine, Fines}
 use Rattle.placement.specs.declared.Label.{Label}
 use Rattle.placement.proofs.Laws.Rows.{row-field}
 use Rattle.placement.proofs.Laws.Bridge.{node-long}
-use Rattle.placement.proofs.Laws.Numbers.{length-big, field-big, field-past, field-part}
+use Rattle.sizes.proofs.Laws.Numbers.{length-big, field-big, field-past, field-part}
 
 abbrev pub node-at : List Order → ℕ → Order
 node-at ns j = getD ns j (record { key = 0; total = 0; displayed = 0 })

@@ -11,7 +11,7 @@ use lib.Dec.{leb}
 use lib.ListN.{length}
 use borrow.Author.Tests.{leb-true, leb-false}
 use Rattle.placement.specs.Blocks.{Block, empty, holds, around, stored, holds-smaller, Stands, Rule-3, how-many}
-use Rattle.placement.proofs.Laws.Round.{steps-same, steps-on, steps-back, steps-apart, Which, which, less, same, more, Turn, turn, first, second}
+use Rattle.sizes.proofs.Laws.Round.{steps-same, steps-on, steps-back, steps-apart, Which, which, less, same, more, Turn, turn, first, second}
 use Rattle.placement.proofs.Laws.Blocks.{around-mod, stored-there, stored-elsewhere, stored-long, Far, far}
 use Rattle.placement.proofs.Laws.Placed.{store-count}
 use Rattle.placement.proofs.Laws.Insertion.{one-label}

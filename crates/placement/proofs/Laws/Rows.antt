@@ -8,8 +8,8 @@ use native.Mathlib.Nat.{mul-zero, mul-suc, zero-add, add-comm}
 use native.Mathlib.Omega.{arith}
 use lib.ListN.{length, getD, take, drop, length-append, length-drop}
 use lib.Seq.{drop-at}
-use Rattle.placement.specs.Numbers.{field, rows, rows-in, Each}
-use Rattle.placement.proofs.Laws.Numbers.{Bytes, bytes-drop, take-more, field-head, field-past}
+use Rattle.sizes.specs.Numbers.{field, rows, rows-in, Each}
+use Rattle.sizes.proofs.Laws.Numbers.{Bytes, bytes-drop, take-more, field-head, field-past}
 
 module _ {A : Type 0} (w : ℕ) (f : A → List ℕ) (long : (x : A) → length (f x) ≡ w) where
   pub length-rows : (xs : List A) → length (rows f xs) ≡ w * length xs

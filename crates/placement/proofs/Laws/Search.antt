@@ -7,7 +7,7 @@ use Prim.Native.Nat.{ℕ, zero, suc, _+_, _≤_, _<_}
 use native.Mathlib.Nat.{add-suc}
 use native.Mathlib.Omega.{arith}
 use Rattle.placement.specs.Blocks.{Block, empty, holds, around, holds-smaller, Smaller-to, Rule-3}
-use Rattle.placement.proofs.Laws.Round.{Which, which, less, same, more}
+use Rattle.sizes.proofs.Laws.Round.{Which, which, less, same, more}
 use Rattle.placement.proofs.Laws.Blocks.{Far, far}
 use Rattle.placement.proofs.Laws.Insertion.{Other}
 

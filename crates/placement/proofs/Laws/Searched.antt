@@ -9,19 +9,19 @@ use native.Mathlib.Omega.{arith}
 use lib.ListN.{length, getD, take}
 use lib.Seq.{length-take-le}
 use Rattle.placement.specs.Blocks.{Block, empty, holds, around, holds-smaller, Stands, Rule-3, how-many}
-use Rattle.placement.specs.declared.Sizes.{Sizes}
+use Rattle.sizes.specs.declared.Sizes.{Sizes}
 use Rattle.placement.specs.Chunks.{Chunk, home, label-before, all-bytes}
-use Rattle.placement.specs.Sizes.{made}
-use Rattle.placement.specs.Header.{sizes-in, block-long}
-use Rattle.placement.specs.Parts.{block-in}
+use Rattle.sizes.specs.Sizes.{made}
+use Rattle.sizes.specs.Header.{sizes-in, block-long}
+use Rattle.sizes.specs.Parts.{block-in}
 use Rattle.placement.specs.Decode.{blocks-in}
 use Rattle.placement.specs.declared.Label.{Label}
 use Rattle.placement.specs.Place.{label-in, probe, search-in}
 use Rattle.placement.specs.Maps.{chunk, Holdable, Table, labelled}
 use Rattle.placement.specs.declared.Found.the-variants.{At}
 use Rattle.placement.proofs.Laws.Maps.{nodes-at, holds-read}
-use Rattle.placement.proofs.Laws.Round.{steps-same}
-use Rattle.placement.proofs.Laws.Sizes.{some-blocks}
+use Rattle.sizes.proofs.Laws.Round.{steps-same}
+use Rattle.sizes.proofs.Laws.Sizes.{some-blocks}
 use Rattle.placement.proofs.Laws.Labels.{home-inside}
 use Rattle.placement.proofs.Laws.Search.{at-place, absent, search-step, search-from}
 use Rattle.placement.proofs.Laws.Bridge.{Good, held, All-good, good-at, label-of, coding}
@@ -30,7 +30,7 @@ use Rattle.placement.proofs.Laws.Decoding.{Clean, table-again, blocks-g
 use Rattle.placement.proofs.Laws.Finding.{place-of, probe-theory}
 use Rattle.placement.proofs.Laws.Edits.{search-blocks}
 use Rattle.placement.proofs.Laws.Search
-use Rattle.placement.proofs.Laws.Numbers.{Bytes}
+use Rattle.sizes.proofs.Laws.Numbers.{Bytes}
 
 -- the search for the label of c, from i on, ends at the place j
 pub record Ended (before : Chunk → Chunk → Bool) (m : ℕ) (c : Chunk) (bl : List (Block Chunk)) (fuel i j : ℕ) : Type 0 where

@@ -12,7 +12,7 @@ use lib.ListN.{length, getD, set, length-set}
 use lib.Seq.{set-set, set-comm, getD-set-same, getD-set-other}
 use borrow.Author.Tests.{eqb-true, eqb-false}
 use Rattle.placement.specs.Blocks.{Block, empty, holds, around, stored, is-free}
-use Rattle.placement.specs.declared.Sizes.{Sizes}
+use Rattle.sizes.specs.declared.Sizes.{Sizes}
 use Rattle.placement.specs.Chunks.{Chunk, home, label-before}
 use Rattle.placement.specs.Place.{settle, free-in}
 use Rattle.placement.specs.declared.Label.{Label}
@@ -22,7 +22,7 @@ use Rattle.placement.proofs.Laws.Insertion.{insert-from, Carry, carry-o
 use Rattle.placement.proofs.Laws.Walks.{insert-stop, insert-on, insert-swap}
 use Rattle.placement.proofs.Laws.Labels.{labels-strict, labels-chain, home-tied, home-inside}
 use Rattle.placement.proofs.Laws.Bridge.{places, before-chunk}
-use Rattle.placement.specs.Hash.{level}
+use Rattle.sizes.specs.Hash.{level}
 
 module _ (s : Sizes) (some : 0 < s .blocks) where
   -- c is carried, k steps before the empty block e

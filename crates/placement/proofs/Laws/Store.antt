@@ -8,7 +8,7 @@ use native.Mathlib.Decide.{ℕ-discrete}
 use native.Mathlib.Omega.{arith}
 use lib.ListN.{length}
 use Rattle.placement.specs.Blocks.{Block, empty, holds, around, stored, holds-smaller, Stands, Smaller-to, Rule-3}
-use Rattle.placement.proofs.Laws.Round.{steps-same}
+use Rattle.sizes.proofs.Laws.Round.{steps-same}
 use Rattle.placement.proofs.Laws.Blocks.{around-mod, stored-mod, stored-there, stored-elsewhere, far}
 
 module _ {A : Type 0} (m : ℕ) (bs : List (Block A)) (i : ℕ) (long : length bs ≡ m) (some : zero < m) where

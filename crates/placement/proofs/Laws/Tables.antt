@@ -10,23 +10,23 @@ use native.Mathlib.Omega.{arith}
 use lib.ListN.{length, getD, set, length-append, length-map}
 use lib.Seq.{sets, length-sets}
 use Rattle.placement.specs.Blocks.{Block, empty, holds, stored, Stands, how-many}
-use Rattle.placement.specs.declared.Sizes.{Sizes}
+use Rattle.sizes.specs.declared.Sizes.{Sizes}
 use Rattle.placement.specs.declared.Order.{Order}
 use Rattle.placement.specs.Chunks.{Chunk, home, label-before, block-bytes, all-bytes, nodes-bytes}
-use Rattle.placement.specs.Hash.{level}
-use Rattle.placement.specs.Numbers.{big}
-use Rattle.placement.specs.Header.{sizes-in, block-long}
-use Rattle.placement.specs.Parts.{put-block}
+use Rattle.sizes.specs.Hash.{level}
+use Rattle.sizes.specs.Numbers.{big}
+use Rattle.sizes.specs.Header.{sizes-in, block-long}
+use Rattle.sizes.specs.Parts.{put-block}
 use Rattle.placement.specs.Place.{Shaped, label-in, search-in, bytes, pull, found-at, taken-out, free-in, block-with, inserted}
 use Rattle.placement.specs.Maps.{Map, at, chunk, Keeps, Holdable, Sound, labelled, nodes-of, with-nodes, cleared, Table, Finds, is-at, is-none, with-chunk, without-label, is-label}
 use Rattle.placement.specs.declared.Label.{Label}
 use Rattle.placement.specs.declared.Found.{Found}
 use Rattle.placement.specs.declared.Found.the-variants.{At, Nothing}
 use Rattle.placement.proofs.Laws.Maps.{Label-is, is, isnt, label-is, same-chunk}
-use Rattle.placement.proofs.Laws.Sizes.{some-blocks, limits}
+use Rattle.sizes.proofs.Laws.Sizes.{some-blocks, limits}
 use Rattle.placement.proofs.Laws.Blocks.{around-inside}
 use Rattle.placement.proofs.Laws.Keeps.{kept-once, put-in, take-out, change}
-use Rattle.placement.proofs.Laws.Headers.{sizes-head, sets-left, count-sizes}
+use Rattle.sizes.proofs.Laws.Headers.{sizes-head, sets-left, count-sizes}
 use Rattle.placement.proofs.Laws.Removal.{removed-at, removed}
 use Rattle.placement.proofs.Laws.Insertion.{insert-from}
 use Rattle.placement.proofs.Laws.Labels.{labels-strict, labels-chain, home-tied, home-inside}
@@ -36,7 +36,7 @@ use Rattle.placement.proofs.Laws.Finding.{Told, search-told}
 use Rattle.placement.proofs.Laws.Edits.{home-labelled, block-bytes-at, block-put, search-blocks, pull-at, insert-at, block-written}
 use Rattle.placement.proofs.Laws.Finding
 use Rattle.placement.specs.Place.{home-of}
-use Rattle.placement.proofs.Laws.Numbers.{length-big}
+use Rattle.sizes.proofs.Laws.Numbers.{length-big}
 
 -- ---- sound maps
 

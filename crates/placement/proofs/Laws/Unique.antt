@@ -6,7 +6,7 @@ use Prim.Native.Nat.{ℕ, zero, suc, _+_, _%_, _≤_, _<_}
 use native.Mathlib.Omega.{arith}
 use lib.ListN.{length, getD}
 use Rattle.placement.specs.Blocks.{Block, empty, holds, around, holds-smaller, Stands, Rule-3}
-use Rattle.placement.proofs.Laws.Round.{Which, which, less, same, more}
+use Rattle.sizes.proofs.Laws.Round.{Which, which, less, same, more}
 use Rattle.placement.proofs.Laws.Blocks.{around-mod, same-table, Far, far}
 
 -- the label in a block that holds a smaller one

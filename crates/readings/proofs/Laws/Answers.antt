@@ -8,14 +8,14 @@ use lib.Dec.{ltb, leb}
 use lib.ListN.{length, drop, length-append}
 use lib.Seq.{sets-eq}
 use borrow.Author.Tests.{eq-eqb, ne-eqb, le-leb}
-use Rattle.placement.specs.Numbers.{rows, big}
-use Rattle.placement.specs.Sizes.{beta}
-use Rattle.placement.specs.Header.{header, sizes-in}
+use Rattle.sizes.specs.Numbers.{rows, big}
+use Rattle.sizes.specs.Sizes.{beta}
+use Rattle.sizes.specs.Header.{header, sizes-in}
 use Rattle.placement.specs.Chunks.{node-bytes, nodes-bytes}
 use Rattle.placement.specs.Maps.{map-of, Table}
-use Rattle.placement.specs.declared.Sizes.{Sizes}
+use Rattle.sizes.specs.declared.Sizes.{Sizes}
 use Rattle.placement.specs.declared.Order.{Order}
-use Rattle.placement.proofs.Laws.Sizes.{limits}
+use Rattle.sizes.proofs.Laws.Sizes.{limits}
 use Rattle.placement.proofs.Laws.Tables.{shaped}
 use Rattle.skiplist.specs.Lists.{front, chunks}
 use Rattle.skiplist.specs.Image.{is-image, orders-in}

@@ -5,18 +5,18 @@ use Prim.Native.Nat.{ℕ, zero, suc, _+_, _*_, _≤_, _<_}
 use native.Mathlib.Omega.{arith}
 use lib.ListN.{length, getD, take, drop, length-map}
 use lib.Seq.{drop-drop}
-use Rattle.placement.specs.Numbers.{field, rows-in}
-use Rattle.placement.specs.Sizes.{beta}
-use Rattle.placement.specs.Header.{header, block-long}
+use Rattle.sizes.specs.Numbers.{field, rows-in}
+use Rattle.sizes.specs.Sizes.{beta}
+use Rattle.sizes.specs.Header.{header, block-long}
 use Rattle.placement.specs.Decode.{node-in, nodes-from}
 use Rattle.placement.specs.Place.{search-in}
 use Rattle.placement.specs.Maps.{Map, map-of, Table, Finds, is-at, is-none}
-use Rattle.placement.specs.declared.Sizes.{Sizes}
+use Rattle.sizes.specs.declared.Sizes.{Sizes}
 use Rattle.placement.specs.declared.Order.{Order}
 use Rattle.placement.specs.declared.Label.{Label}
 use Rattle.placement.specs.declared.Found.{Found}
 use Rattle.placement.specs.declared.Found.the-variants.{At, Nothing}
-use Rattle.placement.proofs.Laws.Sizes.{limits}
+use Rattle.sizes.proofs.Laws.Sizes.{limits}
 use Rattle.placement.proofs.Laws.Tables.{find-told}
 use Rattle.placement.proofs.Laws.Reading.{node-at, count-read, key-read, total-read, displayed-read}
 use Rattle.skiplist.specs.Lists.{masked, chunks}

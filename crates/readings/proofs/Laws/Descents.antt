@@ -9,16 +9,16 @@ use borrow.Author.Tests.{ltb-true, eq-eqb, ne-eqb, le-leb, lt-leb}
 use lib.Dec.{ltb, leb, eqb}
 use lib.ListN.{length, getD, take, drop, length-take, take-append-drop}
 use lib.Seq.{drop-nil, drop-drop, drop-at, drop-append-le}
-use Rattle.placement.specs.Sizes.{beta, seed-good}
-use Rattle.placement.specs.Hash.{level}
-use Rattle.placement.specs.Header.{block-long}
+use Rattle.sizes.specs.Sizes.{beta, seed-good}
+use Rattle.sizes.specs.Hash.{level}
+use Rattle.sizes.specs.Header.{block-long}
 use Rattle.placement.specs.Decode.{nodes-from}
 use Rattle.placement.specs.Place.{Shaped, search-in}
-use Rattle.placement.specs.declared.Sizes.{Sizes}
+use Rattle.sizes.specs.declared.Sizes.{Sizes}
 use Rattle.placement.specs.declared.Order.{Order}
 use Rattle.placement.specs.declared.Found.{Found}
 use Rattle.placement.specs.declared.Found.the-variants.{At, Nothing}
-use Rattle.placement.proofs.Laws.Sizes.{limits}
+use Rattle.sizes.proofs.Laws.Sizes.{limits}
 use Rattle.skiplist.specs.Lists.{masked}
 use Rattle.skiplist.specs.Image.{image, orders-in, orders-good, fits}
 use Rattle.skiplist.specs.Questions.{between, reserve}

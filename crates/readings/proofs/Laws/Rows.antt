@@ -9,8 +9,8 @@ use native.Mathlib.Omega.{arith}
 use borrow.Author.Tests.{eqb-true, leb-true}
 use lib.Dec.{leb, eqb}
 use lib.ListN.{length, take, drop, length-append, take-append-drop}
-use Rattle.placement.specs.Hash.{level}
-use Rattle.placement.specs.declared.Sizes.{Sizes}
+use Rattle.sizes.specs.Hash.{level}
+use Rattle.sizes.specs.declared.Sizes.{Sizes}
 use Rattle.placement.specs.declared.Order.{Order}
 use Rattle.skiplist.specs.Lists.{front, at-least, list-at, starts-one, rest, partitions, first-key, masked}
 use Rattle.skiplist.proofs.Runs.{partitions-front}

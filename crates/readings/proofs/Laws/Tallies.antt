@@ -9,10 +9,10 @@ use lib.Dec.{ltb, leb, eqb}
 use lib.ListN.{length}
 use lib.Seq.{sets}
 use borrow.Author.Tests.{ltb-true, ltb-false, leb-true, leb-false, eq-eqb, le-leb, lt-leb, lt-ltb, le-ltb}
-use Rattle.placement.specs.Numbers.{rows, big}
+use Rattle.sizes.specs.Numbers.{rows, big}
 use Rattle.placement.specs.Chunks.{node-bytes, nodes-bytes}
 use Rattle.placement.specs.declared.Order.{Order}
-use Rattle.placement.proofs.Laws.Parts.{sets-append}
+use Rattle.sizes.proofs.Laws.Parts.{sets-append}
 use Rattle.skiplist.specs.Questions.{reserve, between}
 use Rattle.skiplist.proofs.Parts.{Up}
 use Rattle.skiplist.proofs.Segment.{between-above}

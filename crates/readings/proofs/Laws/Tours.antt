@@ -10,16 +10,16 @@ use lib.Dec.{leb}
 use borrow.Author.Tests.{leb-true}
 use lib.ListN.{length, getD, drop, length-take, take-append-drop, drop-of-length-le}
 use lib.Seq.{drop-drop}
-use Rattle.placement.specs.Numbers.{field, rows-in}
-use Rattle.placement.specs.Sizes.{beta}
-use Rattle.placement.specs.Header.{block-long}
+use Rattle.sizes.specs.Numbers.{field, rows-in}
+use Rattle.sizes.specs.Sizes.{beta}
+use Rattle.sizes.specs.Header.{block-long}
 use Rattle.placement.specs.Decode.{node-in, nodes-from}
 use Rattle.placement.specs.Place.{search-in}
-use Rattle.placement.specs.declared.Sizes.{Sizes}
+use Rattle.sizes.specs.declared.Sizes.{Sizes}
 use Rattle.placement.specs.declared.Order.{Order}
 use Rattle.placement.specs.declared.Found.{Found}
 use Rattle.placement.specs.declared.Found.the-variants.{At, Nothing}
-use Rattle.placement.proofs.Laws.Numbers.{field-drop}
+use Rattle.sizes.proofs.Laws.Numbers.{field-drop}
 use Rattle.skiplist.specs.Lists.{masked}
 use Rattle.skiplist.specs.Image.{orders-in}
 use Rattle.skiplist.proofs.Parts.{and-left, and-right, part}

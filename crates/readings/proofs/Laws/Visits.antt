@@ -8,11 +8,11 @@ use lib.ListN.{length}
 use lib.Seq.{sets, length-sets}
 use borrow.Author.Tests.{ltb-true, ne-eqb, le-leb, lt-leb, le-ltb, lt-ltb}
 use native.Mathlib.Omega.{arith}
-use Rattle.placement.specs.Numbers.{big, field}
+use Rattle.sizes.specs.Numbers.{big, field}
 use Rattle.placement.specs.Chunks.{node-bytes}
 use Rattle.placement.specs.declared.Order.{Order}
-use Rattle.placement.proofs.Laws.Numbers.{length-big}
-use Rattle.placement.proofs.Laws.Parts.{sets-append}
+use Rattle.sizes.proofs.Laws.Numbers.{length-big}
+use Rattle.sizes.proofs.Laws.Parts.{sets-append}
 use Rattle.skiplist.specs.Questions.{reserve}
 use Rattle.skiplist.proofs.Parts.{and-left, and-right, below}
 use Rattle.readings.specs.declared.Visit.{Visit}

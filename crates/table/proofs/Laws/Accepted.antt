@@ -7,14 +7,14 @@ use native.Mathlib.Omega.{arith}
 use borrow.Author.Tests.{eq-eqb, ne-eqb, le-leb, lt-ltb, leb-true, eqb-true}
 use lib.Dec.{leb, eqb}
 use lib.ListN.{length, take, drop}
-use Rattle.placement.specs.Numbers.{value-from, field, rows-in}
-use Rattle.placement.specs.Sizes.{prime, beta, sizes-good, seed-good, made}
-use Rattle.placement.specs.Header.{block-long, table-long, sizes-in, held-in, rule-1}
+use Rattle.sizes.specs.Numbers.{value-from, field, rows-in}
+use Rattle.sizes.specs.Sizes.{prime, beta, sizes-good, seed-good, made}
+use Rattle.sizes.specs.Header.{block-long, table-long, sizes-in, held-in, rule-1}
 use Rattle.placement.specs.Decode.{node-in, nodes-from}
-use Rattle.placement.specs.declared.Sizes.{Sizes}
+use Rattle.sizes.specs.declared.Sizes.{Sizes}
 use Rattle.placement.specs.declared.Order.{Order}
-use Rattle.placement.proofs.Laws.Numbers.{Bytes, bytes-take, bytes-drop}
-use Rattle.placement.proofs.Laws.Sizes.{and-parts, some-blocks, some-nodes}
+use Rattle.sizes.proofs.Laws.Numbers.{Bytes, bytes-take, bytes-drop}
+use Rattle.sizes.proofs.Laws.Sizes.{and-parts, some-blocks, some-nodes}
 use Rattle.skiplist.specs.Lists.{front}
 use Rattle.skiplist.specs.Image.{quantities-good, orders-good}
 use Rattle.skiplist.proofs.Parts.{Up}

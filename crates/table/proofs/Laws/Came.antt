@@ -7,11 +7,11 @@ use native.Mathlib.Omega.{arith}
 use lib.Dec.{eqb}
 use lib.ListN.{length, drop, length-append}
 use lib.Seq.{drop-drop}
-use Rattle.placement.specs.Numbers.{rows-in}
-use Rattle.placement.specs.Sizes.{prime}
-use Rattle.placement.specs.Header.{block-long}
+use Rattle.sizes.specs.Numbers.{rows-in}
+use Rattle.sizes.specs.Sizes.{prime}
+use Rattle.sizes.specs.Header.{block-long}
 use Rattle.placement.specs.Decode.{nodes-from}
-use Rattle.placement.specs.declared.Sizes.{Sizes}
+use Rattle.sizes.specs.declared.Sizes.{Sizes}
 use Rattle.placement.specs.declared.Order.{Order}
 use Rattle.table.specs.declared.Seen.{Seen}
 use Rattle.table.specs.Walk.{node-of, wrong-seen, quantities-ok, node-good, nodes-by, enters-ok, entered-seen, count-in, chunk-by}

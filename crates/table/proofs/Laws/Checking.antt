@@ -7,12 +7,12 @@ use native.Mathlib.Omega.{arith}
 use mir.Val.{Fits}
 use mir.Syntax.{w32}
 use lib.ListN.{length}
-use Rattle.placement.specs.Sizes.{beta, made, seed-good}
-use Rattle.placement.specs.Header.{block-long, table-long, sizes-in, held-in, rule-1}
+use Rattle.sizes.specs.Sizes.{beta, made, seed-good}
+use Rattle.sizes.specs.Header.{block-long, table-long, sizes-in, held-in, rule-1}
 use Rattle.placement.specs.Place.{Shaped}
-use Rattle.placement.specs.declared.Sizes.{Sizes}
-use Rattle.placement.proofs.Laws.Sizes.{limits, some-blocks}
-use Rattle.placement.proofs.Laws.HeaderLoops.{ruled}
+use Rattle.sizes.specs.declared.Sizes.{Sizes}
+use Rattle.sizes.proofs.Laws.Sizes.{limits, some-blocks}
+use Rattle.sizes.proofs.Laws.HeaderLoops.{ruled}
 use Rattle.table.specs.declared.Seen.{Seen}
 use Rattle.table.specs.declared.Tally.{Tally}
 use Rattle.table.specs.Walk.{Walkable, opens-of}

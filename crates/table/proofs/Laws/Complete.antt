@@ -9,25 +9,25 @@ use borrow.Author.Tests.{ne-eqb, ltb-true, leb-true}
 use lib.Dec.{leb}
 use lib.ListN.{length, getD, take, drop, replicate, getD-replicate}
 use lib.Seq.{drop-drop, drop-at}
-use Rattle.placement.specs.Numbers.{big, field, rows-in}
-use Rattle.placement.specs.Sizes.{prime, beta, made}
-use Rattle.placement.specs.Header.{block-long, header, held-in}
+use Rattle.sizes.specs.Numbers.{big, field, rows-in}
+use Rattle.sizes.specs.Sizes.{prime, beta, made}
+use Rattle.sizes.specs.Header.{block-long, header, held-in}
 use Rattle.placement.specs.Blocks.{Block, empty, holds, how-many}
 use Rattle.placement.specs.Chunks.{Chunk, nodes-bytes, block-bytes}
-use Rattle.placement.specs.Parts.{block-in}
+use Rattle.sizes.specs.Parts.{block-in}
 use Rattle.placement.specs.Decode.{node-in, nodes-from}
 use Rattle.placement.specs.Place.{search-in, found-at}
 use Rattle.placement.specs.Maps.{Map, Keeps, Fines, labelled, map-of, Table, Finds, is-at, is-none}
-use Rattle.placement.specs.declared.Sizes.{Sizes}
+use Rattle.sizes.specs.declared.Sizes.{Sizes}
 use Rattle.placement.specs.declared.Order.{Order}
 use Rattle.placement.specs.declared.Label.{Label}
 use Rattle.placement.specs.declared.Found.{Found}
 use Rattle.placement.specs.declared.Found.the-variants.{At, Nothing}
-use Rattle.placement.proofs.Laws.Numbers.{field-big, field-drop}
-use Rattle.placement.proofs.Laws.Sizes.{and-parts, some-blocks, some-nodes, limits}
+use Rattle.sizes.proofs.Laws.Numbers.{field-big, field-drop}
+use Rattle.sizes.proofs.Laws.Sizes.{and-parts, some-blocks, some-nodes, limits}
 use Rattle.placement.proofs.Laws.Reading.{node-at, count-read, key-read, total-read, displayed-read}
 use Rattle.placement.proofs.Laws.Blocks.{around-inside}
-use Rattle.placement.proofs.Laws.Headers.{header-long}
+use Rattle.sizes.proofs.Laws.Headers.{header-long}
 use Rattle.placement.proofs.Laws.Bridge.{Good, free, held, All-good, good-at, length-nodes}
 use Rattle.placement.proofs.Laws.Edits.{block-bytes-at}
 use Rattle.placement.proofs.Laws.Decoding.{Clean, zeros, filled}

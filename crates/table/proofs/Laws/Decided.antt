@@ -4,7 +4,7 @@ use mathlib.Core.Bool.{Bool, true, false}
 use mathlib.Core.List.{List, [], _∷_}
 use Prim.Native.Nat.{ℕ, suc, _<_}
 use lib.ListN.{getD}
-use Rattle.placement.proofs.Laws.Numbers.{Bytes}
+use Rattle.sizes.proofs.Laws.Numbers.{Bytes}
 use Rattle.skiplist.specs.Image.{is-image}
 use Rattle.skiplist.specs.Questions.{first-no, asks-image}
 use Rattle.table.specs.Check.{check-passes, Passed, Examined}

@@ -3,8 +3,8 @@ use mathlib.Core.Path.{_≡_, refl, sym, ap, _∙_}
 use mathlib.Core.Bool.{Bool, true, false}
 use mathlib.Core.List.{List}
 use Prim.Native.Nat.{ℕ}
-use Rattle.placement.specs.Header.{sizes-in}
-use Rattle.placement.proofs.Laws.Numbers.{Bytes}
+use Rattle.sizes.specs.Header.{sizes-in}
+use Rattle.sizes.proofs.Laws.Numbers.{Bytes}
 use Rattle.skiplist.specs.Image.{orders-in, is-image}
 use Rattle.skiplist.proofs.Third.{image-parts}
 use Rattle.table.specs.Check.{check-passes}

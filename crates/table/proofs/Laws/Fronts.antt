@@ -8,12 +8,12 @@ use native.Mathlib.Omega.{arith}
 use lib.Dec.{leb, eqb}
 use borrow.Author.Tests.{leb-true, leb-false, eqb-true, eqb-false, le-leb, lt-leb}
 use lib.ListN.{length, take, drop, replicate}
-use Rattle.placement.specs.Numbers.{big, rows}
-use Rattle.placement.specs.Header.{block-long}
+use Rattle.sizes.specs.Numbers.{big, rows}
+use Rattle.sizes.specs.Header.{block-long}
 use Rattle.placement.specs.Chunks.{node-bytes, nodes-bytes}
 use Rattle.placement.specs.Place.{Shaped, label-in, free-in, home-of, inserted}
 use Rattle.placement.specs.Maps.{Map, with-nodes, with-chunk, is-label, map-of, nodes-of, labelled, Holdable, Table}
-use Rattle.placement.specs.declared.Sizes.{Sizes}
+use Rattle.sizes.specs.declared.Sizes.{Sizes}
 use Rattle.placement.specs.declared.Label.{Label}
 use Rattle.placement.specs.declared.Found.{Found}
 use Rattle.placement.proofs.Laws.Loops.{shaped-same}

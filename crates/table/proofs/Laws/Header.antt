@@ -5,9 +5,9 @@ use Prim.Native.Nat.{ℕ, zero, suc, _+_, _*_, _≤_}
 use native.Mathlib.Omega.{arith}
 use lib.ListN.{length, getD, take, drop, length-drop}
 use lib.Seq.{drop-cons}
-use Rattle.placement.specs.Numbers.{big, value-from, field, rows, rows-in}
-use Rattle.placement.specs.Header.{table-long, header, seed-bytes, seed-in, sizes-in, held-in}
-use Rattle.placement.proofs.Laws.Numbers.{Bytes, bytes-drop, take-more, field-again}
+use Rattle.sizes.specs.Numbers.{big, value-from, field, rows, rows-in}
+use Rattle.sizes.specs.Header.{table-long, header, seed-bytes, seed-in, sizes-in, held-in}
+use Rattle.sizes.proofs.Laws.Numbers.{Bytes, bytes-drop, take-more, field-again}
 use Rattle.table.proofs.Laws.Accepted.{Rule-one}
 
 seeds-again : (k : ℕ) (xs : List ℕ) → Bytes xs → 4 * k ≤ length xs → seed-bytes (seed-in k xs) ≡ take (4 * k) xs

@@ -10,9 +10,9 @@ use mir.Val.{Fits}
 use mir.Syntax.{w32}
 use native.Mathlib.Nat.{sub-zero}
 use native.Mathlib.Omega.{arith}
-use Rattle.placement.specs.Sizes.{prime}
-use Rattle.placement.specs.Hash.{level}
-use Rattle.placement.specs.declared.Sizes.{Sizes}
+use Rattle.sizes.specs.Sizes.{prime}
+use Rattle.sizes.specs.Hash.{level}
+use Rattle.sizes.specs.declared.Sizes.{Sizes}
 use Rattle.placement.specs.declared.Order.{Order}
 use Rattle.table.specs.declared.Seen.{Seen}
 use Rattle.table.specs.Walk.{node-of, wrong-seen, quantities-ok, belongs-in, counts, counted, entered-seen, node-good, nodes-by, opens-of, heads-ok, follows-ok, orders-by, passed-by, Lowest}

@@ -7,13 +7,13 @@ use native.Mathlib.Omega.{arith}
 use borrow.Author.Tests.{eqb-true, eq-eqb, lt-ltb}
 use lib.Dec.{eqb}
 use lib.ListN.{length, length-replicate, replicate}
-use Rattle.placement.specs.Numbers.{big, rows, rows-in}
-use Rattle.placement.specs.Sizes.{sizes-good, seed-good, made}
-use Rattle.placement.specs.Header.{table-long, header, seed-bytes, seed-in, sizes-in}
+use Rattle.sizes.specs.Numbers.{big, rows, rows-in}
+use Rattle.sizes.specs.Sizes.{sizes-good, seed-good, made}
+use Rattle.sizes.specs.Header.{table-long, header, seed-bytes, seed-in, sizes-in}
 use Rattle.placement.specs.Maps.{map-of}
-use Rattle.placement.specs.declared.Sizes.{Sizes}
-use Rattle.placement.proofs.Laws.Sizes.{and-parts, limits}
-use Rattle.placement.proofs.Laws.Headers.{header-long, header-sizes}
+use Rattle.sizes.specs.declared.Sizes.{Sizes}
+use Rattle.sizes.proofs.Laws.Sizes.{and-parts, limits}
+use Rattle.sizes.proofs.Laws.Headers.{header-long, header-sizes}
 use Rattle.placement.proofs.Laws.Tables.{shaped}
 use Rattle.skiplist.specs.Lists.{chunks}
 use Rattle.skiplist.specs.Image.{image}

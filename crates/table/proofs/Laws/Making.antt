@@ -9,17 +9,17 @@ use lib.Dec.{leb, eqb}
 use borrow.Author.Tests.{leb-true, leb-false, eqb-true, eqb-false, eq-eqb, ne-eqb, le-leb, lt-leb}
 use lib.ListN.{length, take, drop, replicate, length-replicate, replicate-append-replicate}
 use lib.Seq.{sets, sets-eq, length-sets, take-all, drop-at, drop-length}
-use Rattle.placement.specs.Numbers.{rows, rows-in}
-use Rattle.placement.specs.Sizes.{beta, sizes-good, seed-good, made}
-use Rattle.placement.specs.Header.{block-long, table-long, header}
+use Rattle.sizes.specs.Numbers.{rows, rows-in}
+use Rattle.sizes.specs.Sizes.{beta, sizes-good, seed-good, made}
+use Rattle.sizes.specs.Header.{block-long, table-long, header}
 use Rattle.placement.specs.Blocks.{empty, placed}
 use Rattle.placement.specs.Chunks.{Chunk, block-bytes, all-bytes}
 use Rattle.placement.specs.Place.{Shaped}
 use Rattle.placement.specs.Maps.{Keeps, is-label, map-of, Table}
-use Rattle.placement.specs.declared.Sizes.{Sizes}
+use Rattle.sizes.specs.declared.Sizes.{Sizes}
 use Rattle.placement.specs.declared.Order.{Order}
-use Rattle.placement.proofs.Laws.Sizes.{limits, some-blocks}
-use Rattle.placement.proofs.Laws.Headers.{header-long, header-sizes}
+use Rattle.sizes.proofs.Laws.Sizes.{limits, some-blocks}
+use Rattle.sizes.proofs.Laws.Headers.{header-long, header-sizes}
 use Rattle.placement.proofs.Laws.Keeps.{placed-keeps}
 use Rattle.placement.proofs.Laws.Tables.{shaped}
 use Rattle.skiplist.specs.Lists.{front, at-least, list-at, starts-one, run, rest, partitions, first-key, masked, chunks-of, all-chunks, chunks-from, chunks}

@@ -10,8 +10,8 @@ use native.Mathlib.Omega.{arith}
 use native.Mathlib.Nat.{zero-add, add-zero, suc-add, add-suc, sub-zero}
 use native.Mathlib.Numerals.{add-one}
 use lib.ListN.{getD}
-use Rattle.placement.specs.Header.{block-long}
-use Rattle.placement.specs.declared.Sizes.{Sizes}
+use Rattle.sizes.specs.Header.{block-long}
+use Rattle.sizes.specs.declared.Sizes.{Sizes}
 use Rattle.table.specs.declared.Seen.{Seen}
 use Rattle.table.specs.declared.Tally.{Tally}
 use Rattle.table.specs.Check.{zeros-from, used-of, more-of, unused, block-clean, sweep-from, swept, ended}

@@ -7,11 +7,11 @@ use native.Mathlib.Omega.{arith}
 use borrow.Author.Tests.{ltb-true, leb-true, lt-ltb}
 use lib.Dec.{leb}
 use lib.ListN.{replicate}
-use Rattle.placement.specs.Sizes.{prime, made}
-use Rattle.placement.specs.Header.{table-long, sizes-in}
-use Rattle.placement.specs.declared.Sizes.{Sizes}
+use Rattle.sizes.specs.Sizes.{prime, made}
+use Rattle.sizes.specs.Header.{table-long, sizes-in}
+use Rattle.sizes.specs.declared.Sizes.{Sizes}
 use Rattle.placement.specs.declared.Order.{Order}
-use Rattle.placement.proofs.Laws.Sizes.{and-parts, limits}
+use Rattle.sizes.proofs.Laws.Sizes.{and-parts, limits}
 use Rattle.skiplist.specs.Image.{image, orders-in, quantities-good, orders-good, is-image}
 use Rattle.skiplist.specs.Questions.{first-no, asks-image}
 use Rattle.skiplist.specs.Book.{Call, book}

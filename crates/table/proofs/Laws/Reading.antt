@@ -10,14 +10,14 @@ use borrow.Author.Tests.{eq-eqb, ne-eqb, le-leb, leb-true, ltb-true, ltb-false, 
 use lib.Dec.{ltb, leb, eqb}
 use lib.ListN.{length, take, drop, length-append}
 use lib.Seq.{take-all, take-at, drop-append-add}
-use Rattle.placement.specs.Sizes.{prime}
-use Rattle.placement.specs.Hash.{level}
-use Rattle.placement.specs.Header.{block-long}
+use Rattle.sizes.specs.Sizes.{prime}
+use Rattle.sizes.specs.Hash.{level}
+use Rattle.sizes.specs.Header.{block-long}
 use Rattle.placement.specs.Place.{found-at}
-use Rattle.placement.specs.declared.Sizes.{Sizes}
+use Rattle.sizes.specs.declared.Sizes.{Sizes}
 use Rattle.placement.specs.declared.Order.{Order}
 use Rattle.placement.specs.declared.Found.{Found}
-use Rattle.placement.proofs.Laws.Sizes.{and-parts}
+use Rattle.sizes.proofs.Laws.Sizes.{and-parts}
 use Rattle.placement.proofs.Laws.Decoding.{nodes-count}
 use Rattle.skiplist.proofs.Count.{pieces, pieces-less}
 use Rattle.skiplist.proofs.Opens.{Exact, Nodes, Walks}

@@ -3,11 +3,11 @@ use mathlib.Core.Path.{_≡_, sym, _∙_}
 use mathlib.Core.List.{List, _++_}
 use Prim.Native.Nat.{ℕ, _+_, _*_, _≤_, _<_}
 use lib.ListN.{length, set, replicate}
-use Rattle.placement.specs.Numbers.{field}
-use Rattle.placement.specs.Header.{seed-in}
-use Rattle.placement.specs.declared.Sizes.{Sizes}
-use Rattle.placement.proofs.Laws.Numbers.{field-drop}
-use Rattle.placement.proofs.Laws.HeaderLoops.{Seeded, seeded-start, seeded-more, seeded-end, seed-place, seed-wide}
+use Rattle.sizes.specs.Numbers.{field}
+use Rattle.sizes.specs.Header.{seed-in}
+use Rattle.sizes.specs.declared.Sizes.{Sizes}
+use Rattle.sizes.proofs.Laws.Numbers.{field-drop}
+use Rattle.sizes.proofs.Laws.HeaderLoops.{Seeded, seeded-start, seeded-more, seeded-end, seed-place, seed-wide}
 use Rattle.skiplist.specs.Questions.{sizes}
 
 abbrev pub past-13 : List ℕ → List ℕ

@@ -8,24 +8,24 @@ use native.Mathlib.Omega.{arith}
 use borrow.Author.Tests.{ne-eqb}
 use lib.ListN.{length, getD, take, drop, length-map, take-append-drop}
 use lib.Seq.{length-take-le}
-use Rattle.placement.specs.Sizes.{made}
-use Rattle.placement.specs.Header.{block-long, table-long, header, sizes-in}
+use Rattle.sizes.specs.Sizes.{made}
+use Rattle.sizes.specs.Header.{block-long, table-long, header, sizes-in}
 use Rattle.placement.specs.Blocks.{Among, Block, empty, holds, Stands, how-many}
 use Rattle.placement.specs.Chunks.{Chunk, label-before}
-use Rattle.placement.specs.Parts.{block-in}
+use Rattle.sizes.specs.Parts.{block-in}
 use Rattle.placement.specs.Decode.{chunk-of, block-of, cut, blocks-in}
 use Rattle.placement.specs.Place.{label-in, search-in}
 use Rattle.placement.specs.Maps.{Table}
-use Rattle.placement.specs.declared.Sizes.{Sizes}
+use Rattle.sizes.specs.declared.Sizes.{Sizes}
 use Rattle.placement.specs.declared.Order.{Order}
 use Rattle.placement.specs.declared.Found.the-variants.{At}
-use Rattle.placement.proofs.Laws.Numbers.{Bytes}
-use Rattle.placement.proofs.Laws.Sizes.{some-blocks, some-nodes}
+use Rattle.sizes.proofs.Laws.Numbers.{Bytes}
+use Rattle.sizes.proofs.Laws.Sizes.{some-blocks, some-nodes}
 use Rattle.placement.proofs.Laws.Blocks.{around-inside}
 use Rattle.placement.proofs.Laws.Placed.{counted}
 use Rattle.placement.proofs.Laws.Labels.{labels-strict}
 use Rattle.placement.proofs.Laws.Maps.{nodes-at}
-use Rattle.placement.proofs.Laws.Headers.{sizes-head}
+use Rattle.sizes.proofs.Laws.Headers.{sizes-head}
 use Rattle.placement.proofs.Laws.Cells.{cut-length, head-label, label-cell}
 use Rattle.placement.proofs.Laws.Bridge.{label-of}
 use Rattle.placement.proofs.Laws.Decoding.{Clean, nodes-count}

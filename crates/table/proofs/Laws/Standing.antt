@@ -9,21 +9,21 @@ use borrow.Author.Tests.{ne-eqb, eqb-true}
 use lib.Dec.{eqb}
 use lib.ListN.{getD, take, drop, List·getD-map}
 use lib.Seq.{drop-drop}
-use Rattle.placement.specs.Numbers.{field, rows-in}
-use Rattle.placement.specs.Header.{block-long}
+use Rattle.sizes.specs.Numbers.{field, rows-in}
+use Rattle.sizes.specs.Header.{block-long}
 use Rattle.placement.specs.Blocks.{empty, holds}
 use Rattle.placement.specs.Chunks.{Chunk}
-use Rattle.placement.specs.Parts.{block-in}
+use Rattle.sizes.specs.Parts.{block-in}
 use Rattle.placement.specs.Decode.{node-in, nodes-from, chunk-of, block-of, cut, blocks-in}
 use Rattle.placement.specs.Place.{label-in, same-label, passes-label, probe, search-in, home-of, found-at}
-use Rattle.placement.specs.declared.Sizes.{Sizes}
+use Rattle.sizes.specs.declared.Sizes.{Sizes}
 use Rattle.placement.specs.declared.Order.{Order}
 use Rattle.placement.specs.declared.Label.{Label}
 use Rattle.placement.specs.declared.Found.{Found}
 use Rattle.placement.specs.declared.Found.the-variants.{At, Nothing}
-use Rattle.placement.proofs.Laws.Sizes.{and-parts}
-use Rattle.placement.proofs.Laws.Numbers.{field-drop, field-part}
-use Rattle.placement.proofs.Laws.Parts.{getD-part}
+use Rattle.sizes.proofs.Laws.Sizes.{and-parts}
+use Rattle.sizes.proofs.Laws.Numbers.{field-drop, field-part}
+use Rattle.sizes.proofs.Laws.Parts.{getD-part}
 use Rattle.placement.proofs.Laws.Cells.{head-label, label-cell}
 use Rattle.placement.proofs.Laws.Bridge.{label-of}
 use Rattle.table.specs.Walk.{spot, chunk-spot, count-in}

@@ -6,12 +6,12 @@ use Prim.Native.Nat.{ℕ, _+_, _-_, _≤_, _<_}
 use lib.Dec.{ltb, leb, eqb}
 use borrow.Author.Tests.{eq-eqb, ne-eqb, le-leb, lt-leb}
 use native.Mathlib.Nat.{add-zero}
-use Rattle.placement.specs.Numbers.{field}
-use Rattle.placement.specs.Hash.{level}
+use Rattle.sizes.specs.Numbers.{field}
+use Rattle.sizes.specs.Hash.{level}
 use Rattle.placement.specs.Decode.{node-in}
-use Rattle.placement.specs.declared.Sizes.{Sizes}
+use Rattle.sizes.specs.declared.Sizes.{Sizes}
 use Rattle.placement.specs.declared.Order.{Order}
-use Rattle.placement.proofs.Laws.Numbers.{field-drop}
+use Rattle.sizes.proofs.Laws.Numbers.{field-drop}
 use Rattle.table.specs.declared.Seen.{Seen}
 use Rattle.table.specs.Walk.{node-of, wrong-seen, nothing-in, quantities-ok, belongs-in, enters-ok, entered-seen, ended-seen, stops-at}
 

@@ -9,16 +9,16 @@ use borrow.Author.Tests.{eq-eqb, ne-eqb, eqb-true, eqb-false}
 use lib.Dec.{eqb}
 use lib.ListN.{length, getD, take, drop, replicate}
 use lib.Seq.{drop-drop, drop-cons, take-nil}
-use Rattle.placement.specs.Numbers.{rows-in}
-use Rattle.placement.specs.Header.{block-long}
+use Rattle.sizes.specs.Numbers.{rows-in}
+use Rattle.sizes.specs.Header.{block-long}
 use Rattle.placement.specs.Blocks.{Block, empty, holds, how-many}
 use Rattle.placement.specs.Chunks.{Chunk}
-use Rattle.placement.specs.Parts.{block-in}
+use Rattle.sizes.specs.Parts.{block-in}
 use Rattle.placement.specs.Decode.{chunk-of, block-of, cut, blocks-in}
-use Rattle.placement.specs.declared.Sizes.{Sizes}
-use Rattle.placement.proofs.Laws.Sizes.{and-parts}
-use Rattle.placement.proofs.Laws.Bytes.{block-end}
-use Rattle.placement.proofs.Laws.Parts.{getD-part}
+use Rattle.sizes.specs.declared.Sizes.{Sizes}
+use Rattle.sizes.proofs.Laws.Sizes.{and-parts}
+use Rattle.sizes.proofs.Laws.Bytes.{block-end}
+use Rattle.sizes.proofs.Laws.Parts.{getD-part}
 use Rattle.placement.proofs.Laws.Decoding.{Clean, zeros, filled}
 use Rattle.table.specs.declared.Tally.{Tally}
 use Rattle.table.specs.Check.{zeros-from, used-of, more-of, unused, block-clean, sweep-from, swept}

@@ -9,12 +9,12 @@ use native.Mathlib.Omega.{arith}
 use native.Mathlib.Nat.{sub-zero}
 use native.Mathlib.Numerals.{add-one}
 use lib.ListN.{length, getD}
-use Rattle.placement.specs.Sizes.{least-power, beta}
-use Rattle.placement.specs.Numbers.{field}
-use Rattle.placement.specs.Hash.{hash-from}
-use Rattle.placement.specs.Header.{block-long}
+use Rattle.sizes.specs.Sizes.{least-power, beta}
+use Rattle.sizes.specs.Numbers.{field}
+use Rattle.sizes.specs.Hash.{hash-from}
+use Rattle.sizes.specs.Header.{block-long}
 use Rattle.placement.specs.Place.{Shaped, label-in, home-of, search-in, found-at}
-use Rattle.placement.specs.declared.Sizes.{Sizes}
+use Rattle.sizes.specs.declared.Sizes.{Sizes}
 use Rattle.placement.specs.declared.Order.{Order}
 use Rattle.placement.specs.declared.Found.{Found}
 use Rattle.placement.specs.declared.Found.the-variants.{At, Nothing}

@@ -10,11 +10,11 @@ use borrow.Author.Tests.{eq-eqb, ne-eqb, le-leb, lt-ltb, ltb-true}
 use lib.Dec.{ltb, eqb}
 use lib.ListN.{length, take, drop, length-take, length-drop, length-map, take-append-drop}
 use lib.Seq.{take-nil, drop-drop}
-use Rattle.placement.specs.Sizes.{prime, beta}
-use Rattle.placement.specs.Hash.{level}
-use Rattle.placement.specs.Header.{block-long}
+use Rattle.sizes.specs.Sizes.{prime, beta}
+use Rattle.sizes.specs.Hash.{level}
+use Rattle.sizes.specs.Header.{block-long}
 use Rattle.placement.specs.Place.{found-at}
-use Rattle.placement.specs.declared.Sizes.{Sizes}
+use Rattle.sizes.specs.declared.Sizes.{Sizes}
 use Rattle.placement.specs.declared.Order.{Order}
 use Rattle.skiplist.specs.Lists.{masked}
 use Rattle.skiplist.proofs.Count.{pieces, pieces-less}

@@ -7,16 +7,16 @@ use native.Mathlib.Omega.{arith}
 use borrow.Author.Tests.{eqb-false, eq-eqb}
 use lib.Dec.{ltb, eqb}
 use lib.ListN.{length, take, replicate}
-use Rattle.placement.specs.Numbers.{big, value-from, field, rows, rows-in}
-use Rattle.placement.specs.Sizes.{least-power, beta, sizes-good, seed-good, made}
-use Rattle.placement.specs.Hash.{hash-from, h, g, divides-from, level}
-use Rattle.placement.specs.Header.{block-long, table-long, header, sizes-in, held-in, rule-1}
+use Rattle.sizes.specs.Numbers.{big, value-from, field, rows, rows-in}
+use Rattle.sizes.specs.Sizes.{least-power, beta, sizes-good, seed-good, made}
+use Rattle.sizes.specs.Hash.{hash-from, h, g, divides-from, level}
+use Rattle.sizes.specs.Header.{block-long, table-long, header, sizes-in, held-in, rule-1}
 use Rattle.placement.specs.Blocks.{around, stored, place-from, placed}
 use Rattle.placement.specs.Chunks.{home, node-bytes, block-bytes}
 use Rattle.placement.specs.Decode.{node-in, chunk-of, block-of, blocks-in}
-use Rattle.placement.specs.declared.Sizes.{Sizes}
+use Rattle.sizes.specs.declared.Sizes.{Sizes}
 use Rattle.placement.specs.declared.Order.{Order}
-use Rattle.placement.proofs.Laws.Sizes.{and-parts, limits}
+use Rattle.sizes.proofs.Laws.Sizes.{and-parts, limits}
 use Rattle.skiplist.specs.Lists.{front, at-least, list-at, starts-one, run, rest, partitions, first-key, masked, chunks-of, all-chunks, chunks-from, chunks, blocks}
 use Rattle.skiplist.specs.Image.{image, into, all-into, gathered, orders-in, quantities-good, orders-good, fits, same, is-image}
 use Rattle.skiplist.specs.Questions.{Question, ask, first-no, is-key, held, without, with-order, order, between, reserve, any-reserve, asks-image, asks-put, asks-key, asks-range, asks-span, asks-seek}

@@ -1,6 +1,6 @@
 -- `console::calls::wanted` meets its contract: each need follows from the laws listed. Assumes nothing.
 use borrow.Author.Needs.{needs}
-use Rattle.placement.proofs.Laws.HeaderLoops.{good-nodes, good-blocks}
+use Rattle.sizes.proofs.Laws.HeaderLoops.{good-nodes, good-blocks}
 use Rattle.console.proofs.calls.wanted.Statement.{statement}
 use Rattle.console.proofs.calls.wanted.Tie as tie
 

@@ -1,6 +1,6 @@
 -- `placement::edits::clear_block` meets its contract: each need follows from the laws listed. Assumes nothing.
 use borrow.Author.Needs.{needs}
-use Rattle.placement.proofs.Laws.Parts.{clear-made}
+use Rattle.sizes.proofs.Laws.Parts.{clear-made}
 use Rattle.placement.proofs.edits.clear_block.Statement.{statement}
 use Rattle.placement.proofs.edits.clear_block.Tie as tie
 

@@ -1,6 +1,6 @@
 -- `placement::edits::copy_block` meets its contract: each need follows from the laws listed. Assumes nothing.
 use borrow.Author.Needs.{needs}
-use Rattle.placement.proofs.Laws.Parts.{forward-at, copy-made}
+use Rattle.sizes.proofs.Laws.Parts.{forward-at, copy-made}
 use Rattle.placement.proofs.edits.copy_block.Statement.{statement}
 use Rattle.placement.proofs.edits.copy_block.Tie as tie
 

@@ -1,6 +1,6 @@
 -- `placement::edits::swap_blocks` meets its contract: each need follows from the laws listed. Assumes nothing.
 use borrow.Author.Needs.{needs}
-use Rattle.placement.proofs.Laws.Parts.{apart-at, swap-made}
+use Rattle.sizes.proofs.Laws.Parts.{apart-at, swap-made}
 use Rattle.placement.proofs.edits.swap_blocks.Statement.{statement}
 use Rattle.placement.proofs.edits.swap_blocks.Tie as tie
 

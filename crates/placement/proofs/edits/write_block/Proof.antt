@@ -1,6 +1,6 @@
 -- `placement::edits::write_block` meets its contract: each need follows from the laws listed. Assumes nothing.
 use borrow.Author.Needs.{needs}
-use Rattle.placement.proofs.Laws.Parts.{length-part}
+use Rattle.sizes.proofs.Laws.Parts.{length-part}
 use Rattle.placement.proofs.Laws.Loops.{block-made}
 use Rattle.placement.proofs.edits.write_block.Statement.{statement}
 use Rattle.placement.proofs.edits.write_block.Tie as tie

@@ -1,6 +1,6 @@
 -- `placement::labels::block_length` meets its contract. Assumes nothing.
 use borrow.Author.Needs.{needs}
-use Rattle.placement.specs.Header.{block-long}
+use Rattle.sizes.specs.Header.{block-long}
 use Rattle.placement.proofs.labels.block_length.Statement.{statement}
 use Rattle.placement.proofs.labels.block_length.Tie as tie
 

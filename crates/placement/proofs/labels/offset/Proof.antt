@@ -1,6 +1,6 @@
 -- `placement::labels::offset` meets its contract: each need follows from the laws listed. Assumes nothing.
 use borrow.Author.Needs.{needs}
-use Rattle.placement.proofs.Laws.Bytes.{offset-fits, offset-sum, offset-is, offset-end}
+use Rattle.sizes.proofs.Laws.Bytes.{offset-fits, offset-sum, offset-is, offset-end}
 use Rattle.placement.proofs.labels.offset.Statement.{statement}
 use Rattle.placement.proofs.labels.offset.Tie as tie
 

@@ -1,6 +1,6 @@
 -- `placement::search::ends_at_once` meets its contract: each need follows from the laws listed. Assumes nothing.
 use borrow.Author.Needs.{needs}
-use Rattle.placement.proofs.Laws.Hashes.{hash-below}
+use Rattle.sizes.proofs.Laws.Hashes.{hash-below}
 use Rattle.placement.proofs.Laws.Loops.{empty-says}
 use Rattle.placement.proofs.search.ends_at_once.Statement.{statement}
 use Rattle.placement.proofs.search.ends_at_once.Tie as tie

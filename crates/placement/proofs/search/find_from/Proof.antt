@@ -7,7 +7,7 @@ use Rattle.placement.proofs.Laws.Loops.{Probing, probing-start, probing
 use borrow.Author.Tests.{not-true, not-false}
 use Rattle.placement.proofs.search.find_from.Statement.{statement}
 use Rattle.placement.proofs.search.find_from.Tie as tie
-use Rattle.placement.specs.Header.{block-long}
+use Rattle.sizes.specs.Header.{block-long}
 
 ruleset laws = (needs, not-true, not-false, probing-start, probing-end, probing-more, probing-same, probing-other, index-start, index-next)
 

@@ -1,6 +1,6 @@
 -- `placement::search::find_over` meets its contract: each need follows from the laws listed. Assumes nothing.
 use borrow.Author.Needs.{needs}
-use Rattle.placement.proofs.Laws.Hashes.{hash-below}
+use Rattle.sizes.proofs.Laws.Hashes.{hash-below}
 use Rattle.placement.proofs.search.find_over.Statement.{statement}
 use Rattle.placement.proofs.search.find_over.Tie as tie
 

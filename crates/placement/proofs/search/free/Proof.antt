@@ -6,7 +6,7 @@ use Rattle.placement.proofs.Laws.Loops.{Freeing, freeing-start, freeing
 use native.Mathlib.Nat.{mod-lt}
 use Rattle.placement.proofs.search.free.Statement.{statement}
 use Rattle.placement.proofs.search.free.Tie as tie
-use Rattle.placement.specs.Header.{block-long}
+use Rattle.sizes.specs.Header.{block-long}
 
 ruleset laws = (needs, mod-lt, freeing-start, freeing-end, freeing-at, freeing-more)
 

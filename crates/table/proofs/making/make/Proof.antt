@@ -2,7 +2,7 @@
 use borrow.Author.Needs.{needs}
 use borrow.Author.Tests.{not-true, not-false}
 use mathlib.Core.Path.{_∙_}
-use Rattle.placement.proofs.Laws.HeaderLoops.{good-nodes, good-blocks}
+use Rattle.sizes.proofs.Laws.HeaderLoops.{good-nodes, good-blocks}
 use Rattle.table.proofs.Laws.Making.{make-short, make-seed, make-sizes, make-long, make-done, given-made}
 use Rattle.table.proofs.making.make.Statement.{statement}
 use Rattle.table.proofs.making.make.Tie as tie

@@ -1,7 +1,7 @@
 -- `table::making::sizes_of` meets its contract: each need follows from the laws listed. Assumes nothing.
 use borrow.Author.Needs.{needs}
 use Prim.Native.Nat.{_-_}
-use Rattle.placement.proofs.Laws.HeaderLoops.{Seeded}
+use Rattle.sizes.proofs.Laws.HeaderLoops.{Seeded}
 use Rattle.table.proofs.Laws.Seeds.{past-13, given-start, given-more, given-end}
 use Rattle.table.proofs.making.sizes_of.Statement.{statement}
 use Rattle.table.proofs.making.sizes_of.Tie as tie

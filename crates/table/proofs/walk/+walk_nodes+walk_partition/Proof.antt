@@ -18,10 +18,10 @@ use Rattle.table.proofs.walk.+walk_nodes+walk_partition.Lts-walk_nodes 
 use Rattle.table.proofs.walk.walk_partition.Reads as walk-partition
 use Rattle.table.proofs.walk.walk_partition.Kinds as walk-partition-kinds
 use Rattle.table.proofs.walk.+walk_nodes+walk_partition.Lts-walk_partition as walk-partition-lts
-use Rattle.placement.proofs.hash.hash.Reads as hash-reads
+use Rattle.sizes.proofs.hash.hash.Reads as hash-reads
 use Rattle.placement.proofs.labels.offset.Reads as offset-reads
-use Rattle.placement.proofs.numbers.be4.Reads as be4-reads
-use Rattle.placement.proofs.numbers.wide.Reads as wide-reads
+use Rattle.sizes.proofs.numbers.be4.Reads as be4-reads
+use Rattle.sizes.proofs.numbers.wide.Reads as wide-reads
 use Rattle.placement.proofs.search.ends_at_once.Reads as ends-at-once-reads
 use Rattle.table.proofs.walk.belongs.Reads as belongs-reads
 use Rattle.table.proofs.walk.chunk.Reads as chunk-reads

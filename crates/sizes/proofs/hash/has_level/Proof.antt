@@ -1,0 +1,10 @@
+-- `sizes::hash::has_level` meets its contract: each need follows from the laws listed. Assumes nothing.
+use borrow.Author.Needs.{needs}
+use Rattle.sizes.proofs.Laws.Hashes.{level-top, level-below}
+use Rattle.sizes.proofs.hash.has_level.Statement.{statement}
+use Rattle.sizes.proofs.hash.has_level.Tie as tie
+
+ruleset laws = (needs, level-top, level-below)
+
+pub has-level-spec : {M : Type 1} → statement M
+has-level-spec = tie.close (tie.spec (λ c κs. search laws) (λ c. search laws) (λ c κs. search laws) (λ c. search laws) (λ c. search laws) (λ c κs. search laws) (λ c. search laws) (λ c. search laws))

@@ -1,0 +1,5 @@
+pub mod Numbers
+pub mod Sizes
+pub mod Hash
+pub mod Header
+pub mod Parts
