@@ -17,6 +17,7 @@ use Rattle.skiplist.specs.Lists.{list-at, masked}
 use Rattle.skiplist.specs.Image.{image, orders-in, orders-good, fits}
 use Rattle.skiplist.specs.Questions.{reserve}
 use Rattle.skiplist.specs.Parts.{each, spread}
+use Rattle.table.specs.declared.Reply.{Reply}
 use Rattle.readings.specs.declared.Visit.{Visit}
 use Rattle.readings.specs.declared.calls.Sought.{Sought}
 use Rattle.readings.specs.declared.calls.Sought.the-variants.{Is, Nothing}
@@ -104,6 +105,10 @@ all-under s bs l ns = each (spread s (orders-in bs) l) ns
 unfoldable pub first-enough : (least : ℕ) → List Order → Sought
 first-enough l [] = Nothing
 first-enough l (o ∷ os) = cond (leb l (reserve o)) (Is o) (first-enough l os)
+
+-- an order as an answer
+abbrev pub reply-of : Order → Reply
+reply-of o = record { number = 0; key = o .key; total = o .total; displayed = o .displayed }
 
 -- THE FIRST of some orders, if it has the key
 unfoldable pub with-key : (key : ℕ) → List Order → Sought

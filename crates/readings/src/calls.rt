@@ -6,7 +6,7 @@ ghost use Prim.Native.Nat.{_≤_};
 ghost use Rattle.skiplist.specs.Image.{is-image, orders-in};
 ghost use Rattle.skiplist.specs.Questions.{first-no, is-key, between, asks-image, asks-range};
 ghost use Rattle.table.specs.Calls.{says, Look-says, Span-says, Seek-says};
-ghost use Rattle.readings.specs.Visit.{scan, starting, steps, first-enough};
+ghost use Rattle.readings.specs.Visit.{scan, starting, steps, first-enough, reply-of};
 use crate::Visit;
 use crate::descent::order_of;
 use crate::visits::visit_partition;
@@ -25,6 +25,18 @@ fn refused(number: u32) -> Reply
         key: 0,
         total: 0,
         displayed: 0,
+    }
+}
+
+// An order as an answer.
+fn answered(o: Order) -> Reply
+    ensures { λ r. ⌜ r ≡ reply-of o ⌝ }
+{
+    Reply {
+        number: 0,
+        key: o.key,
+        total: o.total,
+        displayed: o.displayed,
     }
 }
 
@@ -134,12 +146,7 @@ pub fn lookup(table: &[u8], key: u32) -> Reply
     let Sought::Is(o) = order_of(table, key) else {
         return refused(9);
     };
-    Reply {
-        number: 0,
-        key: o.key,
-        total: o.total,
-        displayed: o.displayed,
-    }
+    answered(o)
 }
 
 // Span: 4, 5, 10, 11. Counts before it writes.
@@ -174,10 +181,5 @@ pub fn seek(table: &[u8], lo: u32, hi: u32, reserve: u32) -> Reply
     let Sought::Is(o) = first_with(table, lo, hi, reserve) else {
         return refused(12);
     };
-    Reply {
-        number: 0,
-        key: o.key,
-        total: o.total,
-        displayed: o.displayed,
-    }
+    answered(o)
 }

@@ -20,7 +20,7 @@ use Rattle.table.specs.declared.Reply.{Reply}
 use Rattle.readings.specs.declared.calls.Sought.{Sought}
 use Rattle.readings.specs.declared.calls.Sought.the-variants.{Is, Nothing}
 use Rattle.table.specs.Calls.{says, check-number, total-of, displayed-of, Look-as, Look-says, Span-as, Span-says, Seek-as, Seek-says}
-use Rattle.readings.specs.Visit.{scan, starting, steps, first-enough}
+use Rattle.readings.specs.Visit.{scan, starting, steps, first-enough, reply-of}
 use Rattle.readings.proofs.Laws.Rows.{nothing}
 use Rattle.readings.proofs.Laws.Chunked.{orders-up}
 use Rattle.readings.proofs.Laws.Answers.{known-image, counted-all, written-all}
@@ -173,7 +173,7 @@ module _ (bs : List ℕ) (k : ℕ) (r : Reply) where
       unfolding Look-as
       look-9 z h = look-by 9 (look-number true true false image (sym eb ∙ e) (none-held k (orders-in bs) (first-empty (between k k (orders-in bs)) (sym z ∙ eq)))) h
 
-      pub look-found : (o : Order) → q ≡ Is o → r ≡ record { number = 0; key = o .key; total = o .total; displayed = o .displayed } → Look-says bs k r
+      pub look-found : (o : Order) → q ≡ Is o → r ≡ reply-of o → Look-says bs k r
       unfolding Look-as says
       look-found o z h =
           let f = first-is 0 (between k k (orders-in bs)) o (sym z ∙ eq) in
@@ -266,7 +266,7 @@ module _ (bs : List ℕ) (lo hi least : ℕ) (r : Reply) (n : ℕ) (en : n ≡ f
     pub seek-12 : q ≡ Nothing → says 12 0 0 0 r → Seek-says bs lo hi least r
     seek-12 e h = seek-by 12 (seek-number false (first-none least (between lo hi (orders-in bs)) (sym e ∙ eq))) (refused-seek 12 (omega arith) h)
 
-    pub seek-found : (o : Order) → q ≡ Is o → r ≡ record { number = 0; key = o .key; total = o .total; displayed = o .displayed } → Seek-says bs lo hi least r
+    pub seek-found : (o : Order) → q ≡ Is o → r ≡ reply-of o → Seek-says bs lo hi least r
     unfolding Seek-as
     seek-found o e h =
         let g = first-is least (between lo hi (orders-in bs)) o (sym e ∙ eq) in

@@ -20,9 +20,9 @@ returns-3 : tie.Need-returns-3
 returns-3 c = (look-9 _ _ _ (checked-yes _ _ (c .before .before .before .before .before .before .before .check .ensures .0) (c .before .before .before .before .before .before .if1 .left)) _ (c .before .before .before .before .before .is-key .ensures) (not-false _ (c .before .before .before .before .if2 .left)) _ (c .before .before .before .order-of .ensures) (c .before .enum-told .given .1) (c .refused3 .ensures), refl)
 
 returns-4 : tie.Need-returns-4
-returns-4 c = (look-found _ _ _ (checked-yes _ _ (c .before .before .before .before .before .before .before .check .ensures .0) (c .before .before .before .before .before .before .if1 .left)) _ (c .before .before .before .before .before .is-key .ensures) (not-false _ (c .before .before .before .before .if2 .left)) _ (c .before .before .before .order-of .ensures) _ (c .before .o .given .1) refl, refl)
+returns-4 c = (look-found _ _ _ (checked-yes _ _ (c .before .before .before .before .before .before .before .before .check .ensures .0) (c .before .before .before .before .before .before .before .if1 .left)) _ (c .before .before .before .before .before .before .is-key .ensures) (not-false _ (c .before .before .before .before .before .if2 .left)) _ (c .before .before .before .before .order-of .ensures) _ (c .before .before .o .given .1) (c .answered .ensures), refl)
 
 pub lookup-spec : {M : Type 1} → statement M
 lookup-spec =
     tie.close
-    (tie.spec (λ c κs. search needs) (λ c κs. search needs) returns (λ c κs. search needs) (λ c κs. search needs) returns-2 order-of-requires (λ c. search needs) (λ c. search needs) (λ c κs. search needs) returns-3 returns-4)
+    (tie.spec (λ c κs. search needs) (λ c κs. search needs) returns (λ c κs. search needs) (λ c κs. search needs) returns-2 order-of-requires (λ c. search needs) (λ c. search needs) (λ c κs. search needs) returns-3 (λ c κs. search needs) returns-4)

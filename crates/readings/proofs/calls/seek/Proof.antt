@@ -15,9 +15,9 @@ returns-2 : tie.Need-returns-2
 returns-2 c = (seek-12 _ _ _ _ _ _ (c .before .before .before .before .before .range .ensures) (c .before .before .before .before .if1 .left) _ (c .before .before .before .first-with .ensures) (c .before .enum-told .given .1) (c .refused2 .ensures), refl)
 
 returns-3 : tie.Need-returns-3
-returns-3 c = (seek-found _ _ _ _ _ _ (c .before .before .before .before .before .range .ensures) (c .before .before .before .before .if1 .left) _ (c .before .before .before .first-with .ensures) _ (c .before .o .given .1) refl, refl)
+returns-3 c = (seek-found _ _ _ _ _ _ (c .before .before .before .before .before .before .range .ensures) (c .before .before .before .before .before .if1 .left) _ (c .before .before .before .before .first-with .ensures) _ (c .before .before .o .given .1) (c .answered .ensures), refl)
 
 pub seek-spec : {M : Type 1} → statement M
 seek-spec =
     tie.close
-    (tie.spec (λ c κs. search needs) (λ c κs. search needs) returns first-with-requires (λ c. search needs) (λ c. search needs) (λ c κs. search needs) returns-2 returns-3)
+    (tie.spec (λ c κs. search needs) (λ c κs. search needs) returns first-with-requires (λ c. search needs) (λ c. search needs) (λ c κs. search needs) returns-2 (λ c κs. search needs) returns-3)
