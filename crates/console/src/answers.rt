@@ -1,8 +1,17 @@
 // The answers as lines of text. Each function gives how many bytes of the output are used.
 ghost use mathlib.Core.Path.{_≡_};
+ghost use mathlib.Core.Bool.{true};
+ghost use mathlib.Core.List.{[], _∷_, _++_, map};
 ghost use Prim.Native.Nat.{_+_, _*_, _≤_};
-ghost use lib.ListN.{length};
-ghost use Rattle.console.specs.Lent.{Lent};
+ghost use lib.ListN.{length, getD, take, drop};
+ghost use Rattle.lines.specs.declared.Call.{Call};
+ghost use Rattle.lines.specs.Text.{row, dash};
+ghost use Rattle.sizes.specs.Numbers.{field};
+ghost use Rattle.placement.specs.Decode.{node-in, nodes-from, block-of};
+ghost use Rattle.skiplist.specs.Image.{is-image};
+ghost use Rattle.console.specs.Answers.{show-lines, order-line, span-lines, Seek-lines, keys-of, block-line, image-lines, blocks-lines, Step};
+ghost use Rattle.console.specs.Lent.{Lent, Laid};
+ghost use Rattle.console.specs.Output.{room-at, Said, Prints};
 use crate::Desk;
 use crate::calls;
 use libc::STDOUT_FILENO;
@@ -11,6 +20,7 @@ use lines::Line;
 use lines::writing::put_dash;
 use lines::writing::put_mark;
 use lines::writing::put_row;
+use sizes::header::Header;
 use sizes::numbers::be2;
 use sizes::numbers::be4;
 use sizes::numbers::wide;
@@ -18,7 +28,7 @@ use sizes::numbers::wide;
 // Room for one line more: it has at most 37 numbers.
 fn room(out: &[u8], used: usize) -> usize
     requires { ⌜ Lent (now out) used ⌝ }
-    ensures { λ r. ⌜ r ≤ 65000 ⌝ }
+    ensures { λ r. ⌜ (r ≡ room-at used) × (r ≤ 65000) ⌝ }
 {
     if 65000 < used {
         io::write_all(STDOUT_FILENO, &out[0..used]);
@@ -29,7 +39,7 @@ fn room(out: &[u8], used: usize) -> usize
 
 fn say(out: &mut [u8], used: usize, first: u32, others: &[u32]) -> usize
     requires { ⌜ Lent (now out) used × (length (now others) ≤ 36) ⌝ }
-    ensures { λ r. ⌜ Lent (now (out .exit)) r ⌝ }
+    ensures { λ r. ⌜ Said (now (out .entry)) used (row first (now (others .entry)) ∷ []) (now (out .exit)) r ⌝ }
 {
     let at = room(out, used);
     put_row(out, at, first, others)
@@ -38,7 +48,7 @@ fn say(out: &mut [u8], used: usize, first: u32, others: &[u32]) -> usize
 // An answer of one number.
 fn say_number(out: &mut [u8], used: usize, number: u32) -> usize
     requires { ⌜ Lent (now out) used ⌝ }
-    ensures { λ r. ⌜ Lent (now (out .exit)) r ⌝ }
+    ensures { λ r. ⌜ Said (now (out .entry)) used (row number [] ∷ []) (now (out .exit)) r ⌝ }
 {
     let none = [0u32; 1];
     say(out, used, number, &none[0..0])
@@ -47,7 +57,7 @@ fn say_number(out: &mut [u8], used: usize, number: u32) -> usize
 // A line that asks for nothing.
 fn say_unknown(out: &mut [u8], used: usize) -> usize
     requires { ⌜ Lent (now out) used ⌝ }
-    ensures { λ r. ⌜ Lent (now (out .exit)) r ⌝ }
+    ensures { λ r. ⌜ Said (now (out .entry)) used ((63 ∷ 10 ∷ []) ∷ []) (now (out .exit)) r ⌝ }
 {
     let at = room(out, used);
     put_mark(out, at, b'?')
@@ -56,7 +66,7 @@ fn say_unknown(out: &mut [u8], used: usize) -> usize
 // An order: its key, total and displayed.
 fn say_order(out: &mut [u8], used: usize, found: &[u8], at: usize) -> usize
     requires { ⌜ Lent (now out) used × (at + 12 ≤ length (now found)) ⌝ }
-    ensures { λ r. ⌜ Lent (now (out .exit)) r ⌝ }
+    ensures { λ r. ⌜ Said (now (out .entry)) used (order-line (node-in (drop at (now (found .entry)))) ∷ []) (now (out .exit)) r ⌝ }
 {
     let quantities = [be4(found, at + 4), be4(found, at + 8)];
     say(out, used, be4(found, at), &quantities)
@@ -65,7 +75,7 @@ fn say_order(out: &mut [u8], used: usize, found: &[u8], at: usize) -> usize
 // n orders, one line each.
 fn say_orders(out: &mut [u8], used: usize, found: &[u8], n: u32) -> usize
     requires { ⌜ Lent (now out) used × (12 * n ≤ length (now found)) ⌝ }
-    ensures { λ r. ⌜ Lent (now (out .exit)) r ⌝ }
+    ensures { λ r. ⌜ Said (now (out .entry)) used (map order-line (nodes-from n (now (found .entry)))) (now (out .exit)) r ⌝ }
 {
     let mut place = used;
     let mut i: u32 = 0;
@@ -79,7 +89,7 @@ fn say_orders(out: &mut [u8], used: usize, found: &[u8], n: u32) -> usize
 // An empty block: its number and `-`.
 fn say_empty(out: &mut [u8], used: usize, number: u32) -> usize
     requires { ⌜ Lent (now out) used ⌝ }
-    ensures { λ r. ⌜ Lent (now (out .exit)) r ⌝ }
+    ensures { λ r. ⌜ Said (now (out .entry)) used (dash number ∷ []) (now (out .exit)) r ⌝ }
 {
     let at = room(out, used);
     put_dash(out, at, number)
@@ -88,7 +98,7 @@ fn say_empty(out: &mut [u8], used: usize, number: u32) -> usize
 // A block's level, chunk number, first key and count, at the front of a row.
 fn head_row(table: &[u8], at: usize, n: usize) -> [u32; 36]
     requires { ⌜ (at + 8 ≤ length (now table)) × (n ≤ 32) ⌝ }
-    ensures { λ r. ⌜ length r ≡ 36 ⌝ }
+    ensures { λ r. ⌜ (length r ≡ 36) × (take 4 r ≡ getD (now (table .entry)) at 0 ∷ field (at + 2) 2 (now (table .entry)) ∷ field (at + 4) 4 (now (table .entry)) ∷ n ∷ []) ⌝ }
 {
     let mut row = [0u32; 36];
     row[0] = wide(table[at]);
@@ -101,7 +111,7 @@ fn head_row(table: &[u8], at: usize, n: usize) -> [u32; 36]
 // The keys of n nodes, behind the front of a row.
 fn keys(table: &[u8], at: usize, n: usize, head: [u32; 36]) -> [u32; 36]
     requires { ⌜ (at + 12 * n ≤ length (now table)) × (n ≤ 32) × (length head ≡ 36) ⌝ }
-    ensures { λ r. ⌜ length r ≡ 36 ⌝ }
+    ensures { λ r. ⌜ (length r ≡ 36) × (take (4 + n) r ≡ take 4 head ++ keys-of (nodes-from n (drop at (now (table .entry))))) ⌝ }
 {
     let mut row = head;
     let mut i: usize = 0;
@@ -110,18 +120,6 @@ fn keys(table: &[u8], at: usize, n: usize, head: [u32; 36]) -> [u32; 36]
         i += 1;
     }
     row
-}
-
-// How many nodes a block has: no more than B.
-fn count_of(table: &[u8], at: usize, nodes: usize) -> usize
-    requires { ⌜ at + 2 ≤ length (now table) ⌝ }
-    ensures { λ r. ⌜ r ≤ nodes ⌝ }
-{
-    let n = wide(table[at + 1]) as usize;
-    if nodes < n {
-        return nodes;
-    }
-    n
 }
 
 // A block: its number, level, chunk number, first key, count, and the keys of its nodes.
@@ -133,27 +131,27 @@ fn say_block(
     nodes: usize,
     number: u32,
 ) -> usize
-    requires { ⌜ Lent (now out) used × (at + (8 + 12 * nodes) ≤ length (now table)) × (nodes ≤ 32) ⌝ }
-    ensures { λ r. ⌜ Lent (now (out .exit)) r ⌝ }
+    requires { ⌜ Lent (now out) used × (at + (8 + 12 * nodes) ≤ length (now table)) × (nodes ≤ 32) × (getD (now table) (at + 1) 0 ≤ nodes) ⌝ }
+    ensures { λ r. ⌜ Said (now (out .entry)) used (block-line number (block-of (take (8 + 12 * nodes) (drop at (now (table .entry))))) ∷ []) (now (out .exit)) r ⌝ }
 {
     if table[at] == 0 {
         return say_empty(out, used, number);
     }
-    let n = count_of(table, at, nodes);
+    let n = wide(table[at + 1]) as usize;
     let row = keys(table, at + 8, n, head_row(table, at, n));
     say(out, used, number, &row[0..4 + n])
 }
 
-// The blocks, one line each, as many as the table's length has.
-fn say_blocks(out: &mut [u8], used: usize, table: &[u8], long: usize, nodes: usize) -> usize
-    requires { ⌜ Lent (now out) used × Lent (now table) long × (nodes ≤ 32) ⌝ }
-    ensures { λ r. ⌜ Lent (now (out .exit)) r ⌝ }
+// The blocks, one line each.
+fn say_blocks(out: &mut [u8], used: usize, table: &[u8], nodes: usize, blocks: u32) -> usize
+    requires { ⌜ Lent (now out) used × Laid (now table) nodes blocks ⌝ }
+    ensures { λ r. ⌜ Said (now (out .entry)) used (image-lines (now (table .entry))) (now (out .exit)) r ⌝ }
 {
     let size = 8 + 12 * nodes;
     let mut place = used;
     let mut at: usize = 53;
     let mut number: u32 = 0;
-    while at + size <= long {
+    while number < blocks {
         place = say_block(out, place, table, at, nodes, number);
         at = at + size;
         number += 1;
@@ -161,33 +159,31 @@ fn say_blocks(out: &mut [u8], used: usize, table: &[u8], long: usize, nodes: usi
     place
 }
 
-// A block has 2..32 nodes.
-fn nodes_of(table: &[u8]) -> usize
-    requires { ⌜ length (now table) ≡ 65536 ⌝ }
-    ensures { λ r. ⌜ r ≤ 32 ⌝ }
+// The blocks of an image, as many as its header says, each of as many nodes.
+fn say_image(out: &mut [u8], used: usize, table: &[u8]) -> usize
+    requires { ⌜ Lent (now out) used × (is-image (now table) ≡ true) ⌝ }
+    ensures { λ r. ⌜ Said (now (out .entry)) used (image-lines (now (table .entry))) (now (out .exit)) r ⌝ }
 {
-    let n = wide(table[6]) as usize;
-    if 32 < n {
-        return 32;
-    }
-    n
+    let s = Header::read(table).sizes;
+    say_blocks(out, used, table, s.nodes as usize, s.blocks)
 }
 
 fn answer_blocks(out: &mut [u8], table: &[u8], d: Desk) -> usize
     requires { ⌜ Lent (now out) (d .used) × Lent (now table) (d .long) ⌝ }
-    ensures { λ r. ⌜ Lent (now (out .exit)) r ⌝ }
+    ensures { λ r. ⌜ Said (now (out .entry)) (d .used) (blocks-lines (take (d .long) (now (table .entry)))) (now (out .exit)) r ⌝ }
 {
     let n = calls::check(table, d.long);
     let used = say_number(out, d.used, n);
     if n != 0 {
         return used;
     }
-    say_blocks(out, used, table, d.long, nodes_of(table))
+    let long = d.long;
+    say_image(out, used, &table[0..long])
 }
 
 fn answer_show(out: &mut [u8], table: &[u8], d: Desk, key: u32) -> usize
     requires { ⌜ Lent (now out) (d .used) × Lent (now table) (d .long) ⌝ }
-    ensures { λ r. ⌜ Lent (now (out .exit)) r ⌝ }
+    ensures { λ r. ⌜ Said (now (out .entry)) (d .used) (show-lines (take (d .long) (now (table .entry))) key) (now (out .exit)) r ⌝ }
 {
     let r = calls::show(table, d.long, key);
     if r.number != 0 {
@@ -199,7 +195,7 @@ fn answer_show(out: &mut [u8], table: &[u8], d: Desk, key: u32) -> usize
 
 fn answer_seek(out: &mut [u8], table: &[u8], d: Desk, lo: u32, hi: u32, reserve: u32) -> usize
     requires { ⌜ Lent (now out) (d .used) × Lent (now table) (d .long) ⌝ }
-    ensures { λ r. ⌜ Lent (now (out .exit)) r ⌝ }
+    ensures { λ r. ⌜ Prints (Seek-lines (take (d .long) (now (table .entry))) lo hi reserve) (now (out .entry)) (d .used) (now (out .exit)) r ⌝ }
 {
     let r = calls::seek(table, d.long, lo, hi, reserve);
     if r.number != 0 {
@@ -211,7 +207,7 @@ fn answer_seek(out: &mut [u8], table: &[u8], d: Desk, lo: u32, hi: u32, reserve:
 
 fn answer_span(out: &mut [u8], table: &[u8], found: &mut [u8], d: Desk, lo: u32, hi: u32) -> usize
     requires { ⌜ Lent (now out) (d .used) × Lent (now table) (d .long) ⌝ }
-    ensures { λ r. ⌜ Lent (now (out .exit)) r ⌝ }
+    ensures { λ r. ⌜ Said (now (out .entry)) (d .used) (span-lines (take (d .long) (now (table .entry))) lo hi (length (now (found .entry)))) (now (out .exit)) r ⌝ }
 {
     let r = calls::span(table, d.long, lo, hi, found);
     if r.number != 0 {
@@ -225,7 +221,7 @@ fn answer_span(out: &mut [u8], table: &[u8], found: &mut [u8], d: Desk, lo: u32,
 // A make whose table is too long is no call. A refused make keeps the older table.
 fn answer_make(table: &mut [u8], out: &mut [u8], d: Desk, pieces: [u32; 15]) -> Desk
     requires { ⌜ Lent (now out) (d .used) × Lent (now table) (d .long) ⌝ }
-    ensures { λ r. ⌜ Lent (now (out .exit)) (r .used) × Lent (now (table .exit)) (r .long) ⌝ }
+    ensures { λ r. ⌜ Step Call.Make pieces 0 d (now (table .entry)) (now (out .entry)) r (now (table .exit)) (now (out .exit)) ⌝ }
 {
     let long = calls::wanted(pieces);
     if 65536 < long {
@@ -257,8 +253,8 @@ fn answer_call(
     call: Call,
     p: [u32; 15],
 ) -> usize
-    requires { ⌜ Lent (now out) (d .used) × Lent (now table) (d .long) ⌝ }
-    ensures { λ r. ⌜ Lent (now (out .exit)) r × Lent (now (table .exit)) (d .long) ⌝ }
+    requires { ⌜ Lent (now out) (d .used) × Lent (now table) (d .long) × (call ≡ Call.Make → ⊥) ⌝ }
+    ensures { λ r. ⌜ Step call p (length (now (found .entry))) d (now (table .entry)) (now (out .entry)) (record { long = d .long; used = r }) (now (table .exit)) (now (out .exit)) ⌝ }
 {
     match call {
         Call::Put => {
@@ -279,7 +275,7 @@ fn answer_call(
 
 pub fn answer(table: &mut [u8], found: &mut [u8], out: &mut [u8], d: Desk, line: Line) -> Desk
     requires { ⌜ Lent (now out) (d .used) × Lent (now table) (d .long) ⌝ }
-    ensures { λ r. ⌜ Lent (now (out .exit)) (r .used) × Lent (now (table .exit)) (r .long) ⌝ }
+    ensures { λ r. ⌜ Step (line .call) (line .pieces) (length (now (found .entry))) d (now (table .entry)) (now (out .entry)) r (now (table .exit)) (now (out .exit)) ⌝ }
 {
     let call = line.call;
     let pieces = line.pieces;

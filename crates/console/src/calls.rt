@@ -1,8 +1,10 @@
 // The calls on the table, which is the first `long` bytes of a buffer. No other file names the crates that have them.
 ghost use mathlib.Core.Path.{_≡_};
-ghost use Prim.Native.Nat.{_*_, _≤_};
-ghost use lib.ListN.{length, take};
-ghost use Rattle.table.specs.Calls.{check-number, Look-says, Seek-says};
+ghost use Prim.Native.Nat.{_≤_};
+ghost use lib.ListN.{length, take, replicate};
+ghost use Rattle.table.specs.Calls.{Put-says, Cancel-says, check-number, Look-says, Span-says, Seek-says};
+ghost use Rattle.console.specs.Asked.{piece, seed-asked, long-asked, Make-asked};
+ghost use Rattle.console.specs.Lent.{Front};
 use sizes::Sizes;
 use sizes::header::sizes_allowed;
 use sizes::header::table_length;
@@ -10,7 +12,9 @@ use sizes::numbers::put4;
 use table::Reply;
 
 // The sizes that a make is asked for.
-fn sizes_of(pieces: [u32; 15]) -> Sizes {
+fn sizes_of(pieces: [u32; 15]) -> Sizes
+    ensures { λ r. ⌜ (r .gamma ≡ piece pieces 1) × (r .nodes ≡ piece pieces 2) × (r .orders ≡ piece pieces 3) × (r .blocks ≡ piece pieces 4) × (r .seed ≡ replicate 10 0) ⌝ }
+{
     let seed = [0u32; 10];
     Sizes {
         gamma: pieces[1],
@@ -23,7 +27,7 @@ fn sizes_of(pieces: [u32; 15]) -> Sizes {
 
 // The bytes of a table of allowed sizes; 0 for sizes that are not allowed.
 pub fn wanted(pieces: [u32; 15]) -> usize
-    ensures { λ r. ⌜ r ≤ 4294967295 ⌝ }
+    ensures { λ r. ⌜ r ≡ long-asked pieces ⌝ }
 {
     let s = sizes_of(pieces);
     if sizes_allowed(s) {
@@ -34,7 +38,8 @@ pub fn wanted(pieces: [u32; 15]) -> usize
 
 // The ten seed numbers as bytes.
 fn write_seed(seed: &mut [u8], pieces: [u32; 15])
-    requires { ⌜ 40 ≤ length (now seed) ⌝ }
+    requires { ⌜ length (now seed) ≡ 40 ⌝ }
+    ensures { λ r. ⌜ now (seed .exit) ≡ seed-asked pieces ⌝ }
 {
     let mut i: usize = 0;
     while i < 10 {
@@ -45,7 +50,7 @@ fn write_seed(seed: &mut [u8], pieces: [u32; 15])
 
 pub fn make(table: &mut [u8], long: usize, pieces: [u32; 15]) -> u32
     requires { ⌜ long ≤ length (now table) ⌝ }
-    ensures { λ r. ⌜ length (now (table .exit)) ≡ length (now (table .entry)) ⌝ }
+    ensures { λ r. ⌜ Front long (now (table .entry)) (now (table .exit)) (Make-asked pieces r) ⌝ }
 {
     let mut seed = [0u8; 40];
     write_seed(&mut seed, pieces);
@@ -61,14 +66,14 @@ pub fn make(table: &mut [u8], long: usize, pieces: [u32; 15]) -> u32
 
 pub fn put(table: &mut [u8], long: usize, key: u32, total: u32, displayed: u32) -> u32
     requires { ⌜ long ≤ length (now table) ⌝ }
-    ensures { λ r. ⌜ length (now (table .exit)) ≡ length (now (table .entry)) ⌝ }
+    ensures { λ r. ⌜ Front long (now (table .entry)) (now (table .exit)) (Put-says key total displayed r) ⌝ }
 {
     edits::changes::put(&mut table[0..long], key, total, displayed)
 }
 
 pub fn cancel(table: &mut [u8], long: usize, key: u32) -> u32
     requires { ⌜ long ≤ length (now table) ⌝ }
-    ensures { λ r. ⌜ length (now (table .exit)) ≡ length (now (table .entry)) ⌝ }
+    ensures { λ r. ⌜ Front long (now (table .entry)) (now (table .exit)) (Cancel-says key r) ⌝ }
 {
     edits::changes::cancel(&mut table[0..long], key)
 }
@@ -82,7 +87,7 @@ pub fn show(table: &[u8], long: usize, key: u32) -> Reply
 
 pub fn span(table: &[u8], long: usize, lo: u32, hi: u32, found: &mut [u8]) -> Reply
     requires { ⌜ long ≤ length (now table) ⌝ }
-    ensures { λ r. ⌜ (12 * r .total ≤ length (now (found .entry))) × (length (now (found .exit)) ≡ length (now (found .entry))) ⌝ }
+    ensures { λ r. ⌜ Span-says (take long (now (table .entry))) lo hi r (now (found .entry)) (now (found .exit)) ⌝ }
 {
     readings::calls::span(&table[0..long], lo, hi, found)
 }

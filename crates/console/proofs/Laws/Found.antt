@@ -1,16 +1,18 @@
 -- What a span found fits the output that it was lent. Assumes nothing.
-use mathlib.Core.Path.{_≡_, refl, subst}
+use mathlib.Core.Path.{_≡_, refl, subst, _∙_}
 use mathlib.Core.Bool.{Bool, true, false, _&&_, cond}
-use mathlib.Core.List.{List}
+use mathlib.Core.List.{List, _++_}
 use Prim.Native.Nat.{ℕ, _*_, _-_, _≤_}
 use native.Mathlib.Nat.{sub-zero}
 use native.Mathlib.Omega.{arith}
 use lib.Dec.{leb}
-use lib.ListN.{length, take}
+use lib.ListN.{length, take, drop}
+use lib.Seq.{length-take-le, length-front, take-at, drop-at}
 use borrow.Author.Tests.{leb-true}
 use Rattle.skiplist.specs.Image.{is-image, orders-in}
 use Rattle.skiplist.specs.Questions.{first-no, is-key, between, asks-image, asks-range, asks-span}
 use Rattle.table.specs.declared.Reply.{Reply}
+use Rattle.console.specs.Lent.{Front}
 use Rattle.table.specs.Calls.{says, check-number, Look-says, Span-as, Span-says, Seek-says}
 
 module _ (x : List ℕ) (lo hi : ℕ) (r : Reply) (o z : List ℕ) where
@@ -45,5 +47,19 @@ module _ (n : ℕ) (x : List ℕ) where
   pub front-look : (k : ℕ) (r : Reply) → Look-says (take (n - 0) x) k r → Look-says (take n x) k r
   front-look k r h = subst (λ (m : ℕ). Look-says (take m x) k r) (sub-zero n) h
 
+  pub front-span : (lo hi : ℕ) (r : Reply) (o z : List ℕ) → Span-says (take (n - 0) x) lo hi r o z → Span-says (take n x) lo hi r o z
+  front-span lo hi r o z h = subst (λ (m : ℕ). Span-says (take m x) lo hi r o z) (sub-zero n) h
+
   pub front-seek : (lo hi l : ℕ) (r : Reply) → Seek-says (take (n - 0) x) lo hi l r → Seek-says (take n x) lo hi l r
   front-seek lo hi l r h = subst (λ (m : ℕ). Seek-says (take m x) lo hi l r) (sub-zero n) h
+
+-- a part that starts at 0 is lent, and comes back as z
+module _ (n : ℕ) (x z : List ℕ) (Says : (table table-now : List ℕ) → Type 0) where
+  pub front-back : n ≤ length x → length z ≡ length (take (n - 0) x) → Says (take (n - 0) x) z → Front n x (z ++ drop (n - 0) x) Says
+  front-back h l s =
+      let e : length z ≡ n = l ∙ rw sub-zero (length-take-le n x h) in
+      record {
+        says = rw (sub-zero, take-at z (drop n x) n e) (subst (λ (m : ℕ). Says (take m x) z) (sub-zero n) s);
+        behind = rw (sub-zero, drop-at z (drop n x) n e);
+        whole = length-front x z (n - 0) l;
+      }

@@ -1,14 +1,14 @@
 -- `console::answers::keys` meets its contract: each need follows from the laws listed. Assumes nothing.
 use borrow.Author.Needs.{needs}
+use Rattle.console.proofs.Laws.Blocks.{Keying, keying-start, keying-more, keying-end}
 use Prim.Native.Nat.{_-_}
-use Rattle.console.proofs.Laws.Buffers.{Keying, keying-start, keying-more}
 use Rattle.console.proofs.answers.keys.Statement.{statement}
 use Rattle.console.proofs.answers.keys.Tie as tie
 
-ruleset laws = (needs, keying-start, keying-more)
+ruleset laws = (needs, keying-start, keying-more, keying-end)
 
 abbrev Inv-loop : tie.InvT-loop
-Inv-loop table at n row₀ i₀ row i = Keying row n i
+Inv-loop table at n row₀ i₀ row i = Keying table at row₀ row n i
 
 abbrev μ-loop : tie.MeasureT-loop
 μ-loop table at n row₀ i₀ row i = n - i

@@ -1,14 +1,14 @@
 -- `console::answers::say_orders` meets its contract: each need follows from the laws listed. Assumes nothing.
 use borrow.Author.Needs.{needs}
 use Prim.Native.Nat.{_-_}
-use Rattle.console.proofs.Laws.Buffers.{Saying, saying-start, saying-more}
+use Rattle.console.proofs.Laws.Orders.{Saying, saying-start, saying-more, saying-end}
 use Rattle.console.proofs.answers.say_orders.Statement.{statement}
 use Rattle.console.proofs.answers.say_orders.Tie as tie
 
-ruleset laws = (needs, saying-start, saying-more)
+ruleset laws = (needs, saying-start, saying-more, saying-end)
 
 abbrev Inv-loop : tie.InvT-loop
-Inv-loop out₀ used found n place₀ i₀ out place i = Saying out place i n
+Inv-loop out₀ used found n place₀ i₀ out place i = Saying out₀ used found n out place i
 
 abbrev μ-loop : tie.MeasureT-loop
 μ-loop out₀ used found n place₀ i₀ out place i = n - i

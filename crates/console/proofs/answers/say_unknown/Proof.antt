@@ -1,10 +1,10 @@
 -- `console::answers::say_unknown` meets its contract: each need follows from the laws listed. Assumes nothing.
 use borrow.Author.Needs.{needs}
-use Rattle.console.proofs.Laws.Buffers.{lent-mark}
+use Rattle.console.proofs.Laws.Output.{said-mark}
 use Rattle.console.proofs.answers.say_unknown.Statement.{statement}
 use Rattle.console.proofs.answers.say_unknown.Tie as tie
 
-ruleset laws = (needs, lent-mark)
+ruleset laws = (needs, said-mark)
 
 pub say-unknown-spec : {M : Type 1} → statement M
 say-unknown-spec =

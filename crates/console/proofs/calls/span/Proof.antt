@@ -1,12 +1,13 @@
--- `console::calls::span` meets its contract: each need follows from the laws listed. Assumes nothing.
+-- `console::calls::span` meets its contract. Assumes nothing.
 use borrow.Author.Needs.{needs}
-use Rattle.console.proofs.Laws.Found.{span-room}
+use Rattle.console.proofs.Laws.Found.{front-span}
 use Rattle.console.proofs.calls.span.Statement.{statement}
 use Rattle.console.proofs.calls.span.Tie as tie
 
-ruleset laws = (needs, span-room)
+returns : tie.Need-returns
+returns c = front-span (c .before .before .before .before .before .before .before .args .long) _ _ _ _ _ _ (c .before .before .span .ensures .0)
 
 pub span-spec : {M : Type 1} → statement M
 span-spec =
     tie.close
-    (tie.spec (λ c. search laws) (λ c. search laws) (λ c. search laws) (λ c κs. search laws) (λ c. search laws) (λ c. search laws))
+    (tie.spec (λ c. search needs) (λ c. search needs) (λ c. search needs) (λ c κs. search needs) (λ c. search needs) returns)

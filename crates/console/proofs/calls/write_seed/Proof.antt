@@ -1,14 +1,14 @@
 -- `console::calls::write_seed` meets its contract: each need follows from the laws listed. Assumes nothing.
 use borrow.Author.Needs.{needs}
 use Prim.Native.Nat.{_-_}
-use Rattle.console.proofs.Laws.Buffers.{Seeding, seeding-start, seeding-more}
+use Rattle.console.proofs.Laws.Asked.{Seeding, seeding-start, seeding-more, seeding-end}
 use Rattle.console.proofs.calls.write_seed.Statement.{statement}
 use Rattle.console.proofs.calls.write_seed.Tie as tie
 
-ruleset laws = (needs, seeding-start, seeding-more)
+ruleset laws = (needs, seeding-start, seeding-more, seeding-end)
 
 abbrev Inv-loop : tie.InvT-loop
-Inv-loop seed₀ pieces i₀ seed i = Seeding seed₀ seed i
+Inv-loop seed₀ pieces i₀ seed i = Seeding pieces seed i
 
 abbrev μ-loop : tie.MeasureT-loop
 μ-loop seed₀ pieces i₀ seed i = 10 - i

@@ -1,0 +1,12 @@
+-- `console::answers::answer_seek` meets its contract: each need follows from the laws listed. Assumes nothing.
+use borrow.Author.Needs.{needs}
+use Rattle.console.proofs.Laws.Answers.{seek-no, seek-yes}
+use Rattle.console.proofs.answers.answer_seek.Statement.{statement}
+use Rattle.console.proofs.answers.answer_seek.Tie as tie
+
+ruleset laws = (needs, seek-no, seek-yes)
+
+pub answer-seek-spec : {M : Type 1} → statement M
+answer-seek-spec =
+    tie.close
+    (tie.spec (λ c κs. search laws) (λ c κs. search laws) (λ c. search laws) (λ c. search laws) (λ c. search laws) (λ c κs. search laws) (λ c. search laws) (λ c. search laws))

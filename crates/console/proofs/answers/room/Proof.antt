@@ -1,0 +1,12 @@
+-- `console::answers::room` meets its contract: each need follows from the laws listed. Assumes nothing.
+use borrow.Author.Needs.{needs}
+use Rattle.console.proofs.Laws.Output.{room-made, room-kept}
+use Rattle.console.proofs.answers.room.Statement.{statement}
+use Rattle.console.proofs.answers.room.Tie as tie
+
+ruleset laws = (needs, room-made, room-kept)
+
+pub room-spec : {M : Type 1} → statement M
+room-spec =
+    tie.close
+    (tie.spec (λ c. search laws) (λ c. search laws) (λ c. search laws) (λ c κs. search laws) (λ c. search laws) (λ c. search laws))
