@@ -8,7 +8,7 @@ rm -rf "$prefix"
 mkdir -p "$prefix/lib" "$prefix/share/man/man3"
 echo "not ours" | tee "$prefix/lib/other.a" "$prefix/share/man/man3/other.3" >/dev/null
 
-make --no-print-directory install PREFIX="$prefix" >build/install.log 2>&1 || { cat build/install.log; exit 1; }
+MAKEFLAGS= make --no-print-directory install PREFIX="$prefix" >build/install.log 2>&1 || { cat build/install.log; exit 1; }
 installed=$(find "$prefix" -type f ! -name 'other.*' | wc -l)
 
 cc=${CC:-cc}
@@ -58,7 +58,7 @@ program=$prefix/bin/balluchaw
 [ -x "$program" ] || program=build/reference/release/console
 grep '^[a-z]' "$kit/session" | "$program" | diff <(grep '^[0-9]' "$kit/session") -
 
-make --no-print-directory --silent uninstall PREFIX="$prefix"
+MAKEFLAGS= make --no-print-directory --silent uninstall PREFIX="$prefix"
 left=$(find "$prefix" ! -type d ! -name 'other.*')
 [ -z "$left" ] || { echo "left behind: $left"; exit 1; }
 [ "$(cat "$prefix"/lib/other.a "$prefix"/share/man/man3/other.3)" = $'not ours\nnot ours' ]
