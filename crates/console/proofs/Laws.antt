@@ -4,6 +4,7 @@ pub mod Asked
 pub mod Blocks
 pub mod Buffers
 pub mod Found
+pub mod Input
 pub mod Orders
 pub mod Output
 pub mod Steps

@@ -1,4 +1,5 @@
 pub mod Answers
 pub mod Asked
+pub mod Input
 pub mod Lent
 pub mod Output

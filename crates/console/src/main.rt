@@ -5,6 +5,7 @@ mod calls;
 ghost use mathlib.Core.Path.{_≡_};
 ghost use Prim.Native.Nat.{_<_};
 ghost use lib.ListN.{length};
+ghost use Rattle.console.specs.Input.{state, Turned, Taken, emptied, Taken-whole, Finished};
 ghost use Rattle.console.specs.Lent.{Lent};
 use answers::answer;
 use libc::STDIN_FILENO;
@@ -49,7 +50,7 @@ fn answer_next(
     r: Run,
 ) -> Next
     requires { ⌜ Lent (now out) (r .desk .used) × Lent (now table) (r .desk .long) × (at < length (now bytes)) ⌝ }
-    ensures { λ x. ⌜ Lent (now (out .exit)) (x .run .desk .used) × Lent (now (table .exit)) (x .run .desk .long) × (at < x .at) ⌝ }
+    ensures { λ x. ⌜ Lent (now (out .exit)) (x .run .desk .used) × Lent (now (table .exit)) (x .run .desk .long) × (at < x .at) × Turned (length (now (found .entry))) (now (bytes .entry)) at (state r (now (table .entry)) (now (out .entry))) (x .at) (state (x .run) (now (table .exit)) (now (out .exit))) ⌝ }
 {
     let went = advance(bytes, at, r.reader);
     let reader = went.reader;
@@ -78,7 +79,7 @@ fn answer_next(
 // Answers each line that ends in these bytes.
 fn answer_all(table: &mut [u8], found: &mut [u8], out: &mut [u8], bytes: &[u8], r: Run) -> Run
     requires { ⌜ Lent (now out) (r .desk .used) × Lent (now table) (r .desk .long) ⌝ }
-    ensures { λ x. ⌜ Lent (now (out .exit)) (x .desk .used) × Lent (now (table .exit)) (x .desk .long) ⌝ }
+    ensures { λ x. ⌜ Lent (now (out .exit)) (x .desk .used) × Lent (now (table .exit)) (x .desk .long) × Taken (length (now (found .entry))) (now (bytes .entry)) 0 (state r (now (table .entry)) (now (out .entry))) (state x (now (table .exit)) (now (out .exit))) ⌝ }
 {
     let mut run = r;
     let mut at: usize = 0;
@@ -93,7 +94,7 @@ fn answer_all(table: &mut [u8], found: &mut [u8], out: &mut [u8], bytes: &[u8], 
 // The waiting output is written.
 fn written(out: &[u8], r: Run) -> Run
     requires { ⌜ Lent (now out) (r .desk .used) ⌝ }
-    ensures { λ x. ⌜ Lent (now (out .entry)) (x .desk .used) × (x .desk .long ≡ r .desk .long) ⌝ }
+    ensures { λ x. ⌜ Lent (now (out .entry)) (x .desk .used) × (x .desk .long ≡ r .desk .long) × (x ≡ emptied r) ⌝ }
 {
     let used = r.desk.used;
     io::write_all(STDOUT_FILENO, &out[0..used]);
@@ -110,7 +111,7 @@ fn written(out: &[u8], r: Run) -> Run
 // Answers each line that ends in these bytes, and writes the answers.
 fn answer_some(table: &mut [u8], found: &mut [u8], out: &mut [u8], bytes: &[u8], r: Run) -> Run
     requires { ⌜ Lent (now out) (r .desk .used) × Lent (now table) (r .desk .long) ⌝ }
-    ensures { λ x. ⌜ Lent (now (out .exit)) (x .desk .used) × Lent (now (table .exit)) (x .desk .long) ⌝ }
+    ensures { λ x. ⌜ Lent (now (out .exit)) (x .desk .used) × Lent (now (table .exit)) (x .desk .long) × Taken-whole (length (now (found .entry))) (now (bytes .entry)) (state r (now (table .entry)) (now (out .entry))) (state x (now (table .exit)) (now (out .exit))) ⌝ }
 {
     let run = answer_all(table, found, out, bytes, r);
     written(out, run)
@@ -138,6 +139,7 @@ fn read_more(table: &mut [u8], found: &mut [u8], out: &mut [u8], r: Run, left: u
 // The last line may lack its line end.
 fn finish(table: &mut [u8], found: &mut [u8], out: &mut [u8], r: Run)
     requires { ⌜ Lent (now out) (r .desk .used) × Lent (now table) (r .desk .long) ⌝ }
+    ensures { λ x. ⌜ Finished (length (now (found .entry))) (state r (now (table .entry)) (now (out .entry))) (now (table .exit)) (now (out .exit)) ⌝ }
 {
     let reader = r.reader;
     if is_under_way(reader) {

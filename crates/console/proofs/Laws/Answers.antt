@@ -1,22 +1,18 @@
 -- What is printed for a reply is what its line has to print. Assumes nothing.
-use mathlib.Core.Path.{_≡_, refl, ap, sym, _∙_, subst}
+use mathlib.Core.Path.{_≡_, refl, sym, _∙_, subst}
 use mathlib.Core.Logic.{_≢_}
-use mathlib.Core.Bool.{Bool, true, false, _&&_, cond}
+use mathlib.Core.Bool.{Bool, true, false, cond}
 use mathlib.Core.List.{List, [], _∷_, _++_, map}
-use Prim.Native.Nat.{ℕ, zero, suc, _+_, _*_, _≤_, _<_}
+use Prim.Native.Nat.{ℕ, zero, suc}
 use native.Mathlib.Omega.{arith}
-use lib.ListN.{length, drop}
+use lib.ListN.{length}
 use Rattle.lines.specs.Text.{row}
-use Rattle.sizes.specs.Numbers.{Each}
-use Rattle.placement.specs.Chunks.{nodes-bytes}
 use Rattle.placement.specs.Decode.{nodes-from}
-use Rattle.placement.specs.declared.Order.{Order}
 use Rattle.skiplist.specs.Image.{is-image, orders-in}
 use Rattle.skiplist.specs.Questions.{Question, first-no, between, asks-image, asks-key, asks-span}
 use Rattle.table.specs.declared.Reply.{Reply}
 use Rattle.table.specs.Calls.{says, total-of, displayed-of, Look-as, Look-says, Span-as, Span-says, Seek-says}
 use Rattle.console.specs.Answers.{answer-lines, show-lines, order-line, span-lines, Seek-lines}
-use Rattle.console.specs.Lent.{Lent}
 use Rattle.console.specs.Output.{Said, Prints}
 use Rattle.console.proofs.Laws.Orders.{span-back}
 use Rattle.console.proofs.Laws.Output.{said-on}

@@ -2,26 +2,20 @@
 use mathlib.Core.Path.{_≡_, refl, ap, sym, _∙_, subst}
 use mathlib.Core.Bool.{Bool, true, false}
 use mathlib.Core.List.{List, [], _∷_, _++_, append-assoc, append-nil}
-use Prim.Native.Nat.{ℕ, zero, suc, _+_, _*_, _≤_, _<_}
+use Prim.Native.Nat.{ℕ, _+_, _*_, _≤_, _<_}
 use native.Mathlib.Numerals.{add-one}
 use native.Mathlib.Omega.{arith}
-use lib.ListN.{length, getD, take, drop, length-drop, length-append}
-use lib.Seq.{sets, sets-eq, length-sets, length-take-le, take-suc, take-at, take-all, getD-drop}
+use lib.ListN.{length, getD, take, drop, length-drop}
+use lib.Seq.{sets, length-sets, take-suc, take-all, getD-drop}
 use Rattle.sizes.specs.Numbers.{big, rows}
 use Rattle.sizes.specs.Sizes.{beta, sizes-good}
 use Rattle.sizes.specs.Header.{seed-bytes, block-long, table-long}
 use Rattle.sizes.specs.declared.Sizes.{Sizes}
 use Rattle.sizes.proofs.Laws.Numbers.{length-big}
-use Rattle.placement.proofs.Laws.Rows.{length-rows}
 use Rattle.skiplist.specs.Questions.{sizes}
 use Rattle.table.specs.Calls.{Make-says}
+use Rattle.console.proofs.Laws.Buffers.{take-sets-end}
 use Rattle.console.specs.Asked.{piece, seed-asked, sizes-asked, long-asked, Make-asked}
-
--- bytes stand at a place: what lies before their end
-pub take-sets-end : (l : List ℕ) (a : ℕ) (vs : List ℕ) → a + length vs ≤ length l → take (a + length vs) (sets l a vs) ≡ take a l ++ vs
-take-sets-end l a vs h =
-    let n : length (take a l ++ vs) ≡ a + length vs = length-append (take a l) vs ∙ rw (length-take-le a l (omega arith)) in
-    rw (sets-eq vs l a h) (take-at (take a l ++ vs) (drop (a + length vs) l) (a + length vs) n)
 
 -- THE SEED, number by number
 rows-snoc : (xs : List ℕ) (v : ℕ) → seed-bytes (xs ++ (v ∷ [])) ≡ seed-bytes xs ++ big 4 v

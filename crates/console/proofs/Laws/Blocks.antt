@@ -2,14 +2,13 @@
 use mathlib.Core.Path.{_≡_, refl, ap, sym, _∙_, subst}
 use mathlib.Core.Logic.{_≢_}
 use mathlib.Core.Bool.{Bool, true, false, cond}
-use mathlib.Core.List.{List, [], _∷_, _++_, append-assoc, append-nil, map, map-append}
+use mathlib.Core.List.{List, [], _∷_, _++_, append-assoc, append-nil, map-append}
 use Prim.Native.Nat.{ℕ, zero, suc, _+_, _*_, _-_, _≤_, _<_}
 use native.Mathlib.Numerals.{add-one}
 use native.Mathlib.Nat.{add-zero, zero-add, sub-zero, zero-mul, suc-mul}
 use native.Mathlib.Omega.{arith}
-use lib.Dec.{eqb}
 use lib.ListN.{length, getD, set, take, drop, replicate, length-set, length-map}
-use lib.Seq.{take-suc, take-suc-set, take-set-le, take-all, getD-drop, drop-drop}
+use lib.Seq.{take-suc-set, take-all, drop-drop}
 use borrow.Author.Tests.{eq-eqb, ne-eqb}
 use Rattle.lines.specs.Text.{row, dash}
 use Rattle.sizes.specs.Numbers.{field, rows-in}
@@ -25,7 +24,7 @@ use Rattle.sizes.proofs.Laws.Numbers.{field-drop, field-part}
 use Rattle.sizes.proofs.Laws.Parts.{getD-part}
 use Rattle.placement.proofs.Laws.Rows.{rows-count}
 use Rattle.sizes.proofs.Laws.Sizes.{limits, some-blocks}
-use Rattle.placement.proofs.Laws.Bridge.{Good, free, held, All-good, good-at}
+use Rattle.placement.proofs.Laws.Bridge.{Good, free, held, good-at}
 use Rattle.placement.proofs.Laws.Tables.{sound-blocks}
 use Rattle.placement.proofs.Laws.Edits.{block-bytes-at}
 use Rattle.sizes.proofs.Laws.Bytes.{offset-end}
@@ -33,7 +32,6 @@ use Rattle.skiplist.specs.Lists.{chunks}
 use Rattle.skiplist.specs.Image.{image, is-image, orders-in}
 use Rattle.skiplist.specs.Questions.{first-no, asks-image}
 use Rattle.skiplist.proofs.Image.{image-keeps}
-use Rattle.readings.specs.Visit.{Known}
 use Rattle.readings.proofs.Laws.Answers.{known-image}
 use Rattle.table.specs.Calls.{check-number}
 use Rattle.table.proofs.Laws.Standing.{block-at, nodes-part}

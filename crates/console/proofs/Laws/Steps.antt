@@ -16,10 +16,9 @@ use Rattle.lines.proofs.Call.{the-type}
 use Rattle.lines.specs.declared.Call.{Call}
 use Rattle.lines.specs.declared.Call.the-variants.{Bad, Make, Put, Cancel, Show, Span, Seek, Blocks}
 use Rattle.skiplist.specs.Image.{image}
-use Rattle.skiplist.specs.Book.{put, cancel, make-refusal}
 use Rattle.table.specs.Calls.{Make-says, Edit-says, Put-says, Cancel-says}
 use Rattle.console.specs.Answers.{answer-lines, mark-lines, make-number, make-lines, make-leaves, show-lines, span-lines, Seek-lines, blocks-lines, Answered, Step}
-use Rattle.console.specs.Asked.{piece, seed-asked, sizes-asked, long-asked, Make-asked}
+use Rattle.console.specs.Asked.{piece, sizes-asked, long-asked, Make-asked}
 use Rattle.console.specs.Lent.{Lent, Front}
 use Rattle.console.specs.Output.{Said, Prints}
 use Rattle.console.specs.declared.Desk.{Desk}

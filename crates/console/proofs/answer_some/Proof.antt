@@ -1,4 +1,4 @@
--- `console::answer_some` meets its contract: each need follows from the laws listed. Assumes nothing.
+-- `console::answer_some` meets its contract. Assumes nothing.
 use borrow.Author.Needs.{needs}
 use Rattle.console.proofs.Laws.Buffers.{lent-moved}
 use Rattle.console.proofs.answer_some.Statement.{statement}
@@ -6,7 +6,11 @@ use Rattle.console.proofs.answer_some.Tie as tie
 
 ruleset laws = (needs, lent-moved)
 
+returns : tie.Need-returns
+returns c =
+    (search laws, search laws, record { run = c .before .before .before .before .before .before .before .before .answer-all .result; taken = c .before .before .before .before .before .before .before .before .answer-all .ensures .2; written = c .written .ensures .2 })
+
 pub answer-some-spec : {M : Type 1} → statement M
 answer-some-spec =
     tie.close
-    (tie.spec (λ c κs. search laws) (λ c κs. search laws) (λ c. search laws) (λ c. search laws) (λ c. search laws) (λ c. search laws))
+    (tie.spec (λ c κs. search laws) (λ c κs. search laws) (λ c. search laws) (λ c. search laws) (λ c. search laws) returns)
