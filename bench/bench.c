@@ -13,7 +13,7 @@
 #include <stdlib.h>
 #include <string.h>
 
-enum { MOST_VARIANTS = 32, SMOKE_ROUNDS = 3 };
+enum { SMOKE_ROUNDS = 3 };
 
 /* CPU time for the checks of a configuration, for its calls, and for its calls together with the others'. */
 enum { CHECK_SECONDS = 1, CALL_SECONDS = 2, ALL_SECONDS = 5 };

@@ -2,6 +2,7 @@
 #include "timing.h"
 
 #include <math.h>
+#include <stdint.h>
 #include <stdio.h>
 #include <stdlib.h>
 #include <string.h>
@@ -28,11 +29,26 @@ static double batch(const variant *v, void *scene) {
     return taken;
 }
 
-/* All variants once; gives the CPU time of all of it, what is untimed included. */
+/* Puts the numbers 0 .. count - 1 in another order, by chance, the same in every run of the program. */
+static void shuffle(int *order, int count) {
+    static uint64_t state = 1;
+    for (int i = 0; i < count; i++) order[i] = i;
+    for (int i = count - 1; i > 0; i--) {
+        state = state * 6364136223846793005u + 1442695040888963407u;
+        int j = (int)((state >> 33) % (uint64_t)(i + 1)), kept = order[i];
+        order[i] = order[j];
+        order[j] = kept;
+    }
+}
+
+/* All variants once, each round in another order, so that none always finds the caches as the same other left them. Gives the CPU time of all of it, what is
+ * untimed included. */
 static double one_round(variant *variants, int count, void *scene, int round) {
+    int order[MOST_VARIANTS];
+    shuffle(order, count);
     double start = now();
     for (int i = 0; i < count; i++) {
-        variant *v = variants + i;
+        variant *v = variants + order[i];
         double sum = 0;
         for (int t = 0; t < v->turns; t++) sum += batch(v, scene);
         v->ns[round] = sum / ((double)v->turns * v->batch);

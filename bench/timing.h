@@ -1,8 +1,8 @@
-/* Variants take turns, round by round, and are timed by the thread's CPU time. */
+/* Variants take turns, round by round, each round in another order, and are timed by the thread's CPU time. */
 #ifndef TIMING_H
 #define TIMING_H
 
-enum { USUAL_ROUNDS = 41, LEAST_ROUNDS = 5, MOST_ROUNDS = 401 };
+enum { USUAL_ROUNDS = 41, LEAST_ROUNDS = 5, MOST_ROUNDS = 401, MOST_VARIANTS = 32 };
 
 /* One variant of an operation. Calls get the scene that take_turns was given. */
 typedef struct {
