@@ -115,7 +115,7 @@ static void measure_calls(scene *s, int rounds) {
     int count = add(variants, 0, calls, sizeof calls, s->of.held);
     if (s->of.others) count = add(variants, count, other_calls, sizeof other_calls, s->of.held);
     report_keep(variants, count, take_turns(variants, count, s, s->of.others ? ALL_SECONDS : CALL_SECONDS, rounds), 1);
-    measure_beyond(variants, s, rounds ? rounds : s->of.held > 10000 ? MOST_ROUNDS / 2 : MOST_ROUNDS);
+    measure_beyond(variants, s, rounds ? rounds : MOST_ROUNDS);
     same_bytes(s);
 }
 

@@ -2,7 +2,7 @@
 #ifndef TIMING_H
 #define TIMING_H
 
-enum { USUAL_ROUNDS = 41, LEAST_ROUNDS = 5, MOST_ROUNDS = 401, MOST_VARIANTS = 32 };
+enum { USUAL_ROUNDS = 41, LEAST_ROUNDS = 5, MOST_ROUNDS = 1001, MOST_VARIANTS = 32 };
 
 /* One variant of an operation. Calls get the scene that take_turns was given. */
 typedef struct {
