@@ -2,9 +2,9 @@
 use mathlib.Core.Path.{_≡_}
 use mathlib.Core.Bool.{Bool, true, false, _&&_, cond}
 use mathlib.Core.List.{List}
-use Prim.Native.Nat.{ℕ, zero, suc, _+_, _*_, _-_}
+use Prim.Native.Nat.{ℕ, zero, suc, _+_, _*_, _-_, _≤_, _<_}
 use lib.Dec.{eqb}
-use lib.ListN.{getD}
+use lib.ListN.{length, getD}
 use Rattle.sizes.specs.Sizes.{beta}
 use Rattle.sizes.specs.Header.{block-long, sizes-in, held-in, rule-1}
 use Rattle.sizes.specs.declared.Sizes.{Sizes}
@@ -17,6 +17,12 @@ use Rattle.table.specs.Walk.{opens-of}
 unfoldable pub zeros-from : List ℕ → (left at : ℕ) → Bool
 zeros-from bs zero a = true
 zeros-from bs (suc k) a = eqb (getD bs a 0) 0 && zeros-from bs k (suc a)
+
+-- which bytes of a block are looked at: from place 392 - u on it leaves out u bytes and has the others
+pub record Mask (ms : List ℕ) : Type 0 where
+  pub long : length ms ≡ 784
+  pub leaves : (k : ℕ) → k < 392 → getD ms k 0 ≡ 0
+  pub has : (k : ℕ) → 392 ≤ k → k < 784 → getD ms k 0 ≡ 255
 
 -- where the unused bytes of a block start: at once in an empty one
 unfoldable pub used-of : (level n : ℕ) → ℕ

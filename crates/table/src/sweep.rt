@@ -4,7 +4,7 @@ ghost use mathlib.Core.Bool.{Bool, cond};
 ghost use Prim.Native.Nat.{ℕ, _+_, _-_, _<_, _≤_};
 ghost use lib.ListN.{length};
 ghost use Rattle.placement.specs.Place.{Shaped};
-ghost use Rattle.table.specs.Check.{zeros-from, used-of, more-of, swept, ended};
+ghost use Rattle.table.specs.Check.{Mask, zeros-from, used-of, more-of, swept, ended};
 use crate::Seen;
 use crate::Tally;
 use sizes::Sizes;
@@ -31,26 +31,33 @@ fn more(full: u32, level: u32) -> u32
     full + 1
 }
 
-// Where a run of unused nodes ends that is looked at as one: 256 bytes on, or where the block ends.
-fn run(j: usize, long: usize) -> usize
-    requires { ⌜ (j < long) × (long ≤ 392) ⌝ }
-    ensures { λ r. ⌜ (j < r) × (r ≤ long) ⌝ }
+// For each place whether it is looked at: 392 zeros, as many as a block has bytes at most, then 392 times 255.
+fn mask() -> [u8; 784]
+    ensures { λ r. ⌜ Mask r ⌝ }
 {
-    if j + 256 < long {
-        return j + 256;
+    let mut m = [0u8; 784];
+    let mut j: usize = 392;
+    while j < 784 {
+        m[j] = 255;
+        j += 1;
     }
-    long
+    m
 }
 
-// Whether all bytes from a place up to another are zero. Every byte is looked at, so that many can be at once.
-fn zeros(table: &[u8], from: usize, end: usize) -> bool
-    requires { ⌜ end ≤ length (now table) ⌝ }
-    ensures { λ r. ⌜ r ≡ zeros-from (now (table .entry)) (end - from) from ⌝ }
+// Whether the bytes of a block are zero but for so many that are used. The mask leaves those out: the same steps are taken for every block, so that
+// many bytes are looked at at once and no jump depends on how many are used.
+fn zeros(table: &[u8], at: usize, long: usize, used: usize, mask: &[u8]) -> bool
+    requires { ⌜ (at + long ≤ length (now table)) × (long ≤ 392) × Mask (now mask) ⌝ }
+    ensures { λ r. ⌜ r ≡ zeros-from (now (table .entry)) (long - used) (at + used) ⌝ }
 {
+    if long <= used {
+        return true;
+    }
+    let off = 392 - used;
     let mut any: u8 = 0;
-    let mut j = from;
-    while j < end {
-        any = any | table[j];
+    let mut j: usize = 0;
+    while j < long {
+        any = any | (table[at + j] & mask[off + j]);
         j += 1;
     }
     any == 0
@@ -63,21 +70,17 @@ pub fn sweep(table: &[u8], s: Sizes) -> Tally
 {
     let long = placement::labels::block_length(s) as usize;
     let m = s.blocks;
+    let looked = mask();
     let mut clean = true;
     let mut full: u32 = 0;
     let mut i: u32 = 0;
-    'blocks: while i < m {
+    while i < m {
         let at = placement::labels::offset(s, i);
         let level = sizes::numbers::wide(table[at]);
         let n = sizes::numbers::wide(table[at + 1]);
-        let mut j = used(level, n);
-        while j < long {
-            let end = run(j, long);
-            if !zeros(table, at + j, at + end) {
-                clean = false;
-                break 'blocks;
-            }
-            j = end;
+        if !zeros(table, at, long, used(level, n), &looked) {
+            clean = false;
+            break;
         }
         full = more(full, level);
         i += 1;

@@ -4,17 +4,19 @@ use mathlib.Core.Bool.{Bool, true, false, _&&_, cond, and-true, and-assoc}
 use mathlib.Core.List.{List}
 use Prim.Native.Nat.{ℕ, zero, suc, _+_, _*_, _-_, _≤_, _<_}
 use lib.Dec.{eqb}
-use lib.Bits.{bitOr, or-add-and, and-le-l, and-le-r}
+use lib.Bits.{bitAnd, bitOr, or-add-and, and-le-l, and-le-r, and-zero-r, and-mask, or-zero-l}
 use borrow.Author.Tests.{eq-eqb, ne-eqb, eqb-true, eqb-false}
 use native.Mathlib.Omega.{arith}
-use native.Mathlib.Nat.{zero-add, add-zero, suc-add, add-suc, sub-zero}
+use native.Mathlib.Nat.{sub-zero, mod-eq-of-lt}
 use native.Mathlib.Numerals.{add-one}
-use lib.ListN.{getD}
+use lib.ListN.{length, set, getD, replicate, length-set, length-replicate, getD-replicate}
+use lib.Seq.{getD-set-same, getD-set-other}
 use Rattle.sizes.specs.Header.{block-long}
 use Rattle.sizes.specs.declared.Sizes.{Sizes}
+use Rattle.sizes.proofs.Laws.Round.{Which, which, less, same, more}
 use Rattle.table.specs.declared.Seen.{Seen}
 use Rattle.table.specs.declared.Tally.{Tally}
-use Rattle.table.specs.Check.{zeros-from, used-of, more-of, unused, block-clean, sweep-from, swept, ended}
+use Rattle.table.specs.Check.{Mask, zeros-from, used-of, more-of, unused, block-clean, sweep-from, swept, ended}
 
 -- small ones
 pub used-none : (l n : ℕ) → l ≡ 0 → 0 ≡ used-of l n
@@ -88,38 +90,80 @@ module _ (bs : List ℕ) (from end : ℕ) where
         let e : end - j ≡ 0 = omega arith in
         sym (z .rest ∙ rw (e, and-true))
 
--- what the loop over the unused nodes of a block keeps: u bytes are used, and the rest is looked at from j on
-pub record Running (w : ℕ) (bs : List ℕ) (at u j : ℕ) : Type 0 where
-  pub rest : zeros-from bs (w - u) (at + u) ≡ zeros-from bs (w - j) (at + j)
+-- what the loop of `mask` keeps: it has all places from 392 up to j
+pub record Marking (ms : List ℕ) (j : ℕ) : Type 0 where
+  pub long : length ms ≡ 784
+  pub leaves : (k : ℕ) → k < 392 → getD ms k 0 ≡ 0
+  pub has : (k : ℕ) → 392 ≤ k → k < j → getD ms k 0 ≡ 255
+  pub from : 392 ≤ j
 
-zeros-split : (bs : List ℕ) (a b p : ℕ) → zeros-from bs (a + b) p ≡ (zeros-from bs a p && zeros-from bs b (p + a))
+pub marking-start : Marking (replicate 784 0) 392
+marking-start = record { long = length-replicate {A = ℕ} 784 0; leaves = λ k h. getD-replicate {A = ℕ} 784 k 0 0 (omega arith); has = λ k l h. absurd (omega arith); from = omega arith }
+
+module _ (ms : List ℕ) (j : ℕ) (z : Marking ms j) where
+  pub marking-more : j < 784 → Marking (set ms j 255) (j + 1)
+  marking-more h =
+      record {
+        long = length-set ms j 255 ∙ z .long;
+        leaves = λ k l. getD-set-other ms j k 255 0 (λ e. omega (arith, z .from)) ∙ z .leaves k l;
+        has = λ k l r. go k l (which k j) r;
+        from = omega (arith, z .from);
+      }
+    where
+      go : (k : ℕ) → 392 ≤ k → Which k j → k < j + 1 → getD (set ms j 255) k 0 ≡ 255
+      go k l (less f) r = getD-set-other ms j k 255 0 (λ e. omega arith) ∙ z .has k l f
+      go k l (same f) r = rw f (getD-set-same ms j 255 0 (omega (arith, z .long)))
+      go k l (more f) r = absurd (omega arith)
+
+  pub marking-end : 784 ≤ j → Mask ms
+  marking-end h = record { long = z .long; leaves = z .leaves; has = λ k l r. z .has k l (omega arith) }
+
+-- a byte under the mask
+module _ (ms : List ℕ) (k : Mask ms) (u j x y : ℕ) (few : u ≤ 392) (in-block : j < 392) (ey : y ≡ getD ms (392 - u + j) 0) where
+  left-out : j < u → bitAnd x y ≡ 0
+  left-out h = rw (ey, k .leaves (392 - u + j) (omega arith)) (and-zero-r x)
+
+  looked-at : u ≤ j → x < 256 → bitAnd x y ≡ x
+  looked-at h b = rw (ey, k .has (392 - u + j) (omega arith) (omega arith)) (and-mask x 8 ∙ mod-eq-of-lt b)
+
+-- what the loop of `zeros` over a block keeps: none is looked at yet, or all of the unused ones up to a place
+pub data Masking (bs : List ℕ) (at w u j any : ℕ) : Type 0 where
+  not-yet : j ≤ u → any ≡ 0 → Masking bs at w u j any
+  under-way : u ≤ j → Zeroing bs (at + u) (at + w) (at + j) any → Masking bs at w u j any
+
+pub masking-start : (bs : List ℕ) (at w u : ℕ) → Masking bs at w u 0 0
+masking-start bs at w u = not-yet (omega arith) refl
+
+module _ (bs : List ℕ) (at w u : ℕ) (few : u < w) (most : w ≤ 392) (ms : List ℕ) (k : Mask ms) where
+  module _ (j any : ℕ) (z : Masking bs at w u j any) where
+    pub masking-more : j < w → (x y : ℕ) → x ≡ getD bs (at + j) 0 → x < 256 → y ≡ getD ms (392 - u + j) 0 → Masking bs at w u (j + 1) (bitOr any (bitAnd x y))
+    masking-more h x y ex bx ey = go z (which j u)
+      where
+        on : u ≤ j → Zeroing bs (at + u) (at + w) (at + j) any → Masking bs at w u (j + 1) (bitOr any (bitAnd x y))
+        on l q =
+            let e : at + (j + 1) ≡ at + j + 1 = omega arith in
+            under-way (omega arith) (rw (e, looked-at ms k u j x y (omega arith) (omega arith) ey l bx) (zeroing-more bs (at + u) (at + w) (at + j) any q (omega arith) x ex))
+
+        go : Masking bs at w u j any → Which j u → Masking bs at w u (j + 1) (bitOr any (bitAnd x y))
+        go (not-yet l e) (less f) = not-yet (omega arith) (rw (e, left-out ms k u j x y (omega arith) (omega arith) ey f) (or-zero-l 0))
+        go (not-yet l e) (same f) = on (omega arith) (rw (e, f) (zeroing-start bs (at + u) (at + w)))
+        go (not-yet l e) (more f) = absurd (omega arith)
+        go (under-way l q) s = on l q
+
+    pub masking-end : w ≤ j → eqb any 0 ≡ zeros-from bs (w - u) (at + u)
+    masking-end h = go z
+      where
+        go : Masking bs at w u j any → eqb any 0 ≡ zeros-from bs (w - u) (at + u)
+        go (not-yet l e) = absurd (omega arith)
+        go (under-way l q) =
+            let e : at + w - (at + u) ≡ w - u = omega arith in
+            rw e at (zeroing-end bs (at + u) (at + w) (at + j) any q (omega arith))
+
+pub none-unused : (bs : List ℕ) (at w u : ℕ) → w ≤ u → true ≡ zeros-from bs (w - u) (at + u)
 unfolding zeros-from
-zeros-split bs zero b p = rw (zero-add, add-zero)
-zeros-split bs (suc a) b p = rw (suc-add, zeros-split bs a b (suc p), suc-add, add-suc, and-assoc)
-
-module _ (w : ℕ) (bs : List ℕ) (at u : ℕ) where
-  pub running-start : Running w bs at u u
-  running-start = record { rest = refl }
-
-  module _ (j : ℕ) (z : Running w bs at u j) where
-    module _ (e : ℕ) (lo : j < e) (hi : e ≤ w) (t : Bool) (et : t ≡ zeros-from bs (at + e - (at + j)) (at + j)) where
-      turn : zeros-from bs (w - u) (at + u) ≡ (t && zeros-from bs (w - e) (at + e))
-      turn =
-          let a : w - j ≡ at + e - (at + j) + (w - e) = omega arith in
-          let b : at + j + (at + e - (at + j)) ≡ at + e = omega arith in
-          z .rest ∙ rw (a, zeros-split bs (at + e - (at + j)) (w - e) (at + j), b, ← et)
-
-      pub running-more : t ≡ true → Running w bs at u e
-      running-more q = record { rest = turn ∙ rw q }
-
-      running-stop : t ≡ false → zeros-from bs (w - u) (at + u) ≡ false
-      running-stop q = turn ∙ rw q
-
-    running-end : w ≤ j → zeros-from bs (w - u) (at + u) ≡ true
-    unfolding zeros-from
-    running-end h =
-        let e : w - j ≡ 0 = omega arith in
-        z .rest ∙ rw e
+none-unused bs at w u h =
+    let e : w - u ≡ 0 = omega arith in
+    rw e
 
 pub record Sweeping (s : Sizes) (w m : ℕ) (bs : List ℕ) (i full : ℕ) : Type 0 where
   pub within : i ≤ m
@@ -138,16 +182,15 @@ module _ (s : Sizes) (w m : ℕ) (bs : List ℕ) where
         let e : m - i ≡ 0 = omega arith in
         sym (h .rest ∙ rw (e, q))
 
-    module _ (lt : i < m) (at l u : ℕ) (b : Blocked w bs i at l u) (j : ℕ) (z : Running w bs at u j) where
-      sweeping-turn : (t : Bool) → zeros-from bs (w - u) (at + u) ≡ t → swept s bs ≡ cond t (sweep-from w bs (m - (i + 1)) (i + 1) (more-of full l)) (record { clean = false; full = full })
+    module _ (lt : i < m) (at l u : ℕ) (b : Blocked w bs i at l u) (t : Bool) (et : t ≡ zeros-from bs (w - u) (at + u)) where
+      sweeping-turn : swept s bs ≡ cond t (sweep-from w bs (m - (i + 1)) (i + 1) (more-of full l)) (record { clean = false; full = full })
       unfolding sweep-from
-      sweeping-turn t q =
+      sweeping-turn =
           let e : m - i ≡ suc (m - (i + 1)) = omega arith in
-          h .rest ∙ rw (e, b .clean-is, q, add-one, b .level-is)
+          h .rest ∙ rw (e, b .clean-is, ← et, add-one, b .level-is)
 
-      pub sweeping-stop : (e : ℕ) → j < e → e ≤ w → (t : Bool) → t ≡ zeros-from bs (at + e - (at + j)) (at + j) → t ≡ false
-          → _≡_ {A = Tally} (record { clean = false; full = full }) (swept s bs)
-      sweeping-stop e lo hi t et q = sym (sweeping-turn false (running-stop w bs at u j z e lo hi t et q))
+      pub sweeping-stop : t ≡ false → _≡_ {A = Tally} (record { clean = false; full = full }) (swept s bs)
+      sweeping-stop q = sym (sweeping-turn ∙ rw q)
 
-      pub sweeping-more : w ≤ j → (n : ℕ) → n ≡ more-of full l → n ≤ full + 1 → Sweeping s w m bs (i + 1) n
-      sweeping-more le n e f = record { within = omega arith; few = omega (arith, h .few); rest = sweeping-turn true (running-end w bs at u j z le) ∙ rw e }
+      pub sweeping-more : t ≡ true → (n : ℕ) → n ≡ more-of full l → n ≤ full + 1 → Sweeping s w m bs (i + 1) n
+      sweeping-more q n e f = record { within = omega arith; few = omega (arith, h .few); rest = sweeping-turn ∙ rw (q, e) }
