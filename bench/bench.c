@@ -70,11 +70,13 @@ static const variant other_calls[] = {
     {"cancel", "SQLite + VACUUM INTO", sqlite_cancel, sqlite_pick, sqlite_back, 1, 1, {0}},
     {"cancel", "SQLite WITHOUT ROWID + VACUUM INTO", clustered_cancel, sqlite_pick, sqlite_back, 1, 1, {0}},
     {"cancel", "SQLite integrity_check + VACUUM INTO", sqlite_cancel_checked, sqlite_pick, sqlite_back, 1, 1, {0}},
+    {"cancel", "SQLite WITHOUT ROWID integrity_check + VACUUM INTO", clustered_cancel_checked, sqlite_pick, sqlite_back, 1, 1, {0}},
     {"cancel", "LMDB + sorted copy", lmdb_cancel, lmdb_pick, lmdb_back, 1, 1, {0}},
     {"put", "BTreeMap + all its bytes", map_put, map_away, 0, 1, FEW, {0}},
     {"put", "SQLite + VACUUM INTO", sqlite_put, sqlite_away, sqlite_back, 1, 1, {0}},
     {"put", "SQLite WITHOUT ROWID + VACUUM INTO", clustered_put, sqlite_away, sqlite_back, 1, 1, {0}},
     {"put", "SQLite integrity_check + VACUUM INTO", sqlite_put_checked, sqlite_away, sqlite_back, 1, 1, {0}},
+    {"put", "SQLite WITHOUT ROWID integrity_check + VACUUM INTO", clustered_put_checked, sqlite_away, sqlite_back, 1, 1, {0}},
     {"put", "LMDB + sorted copy", lmdb_put, lmdb_away, 0, 1, 1, {0}},
 };
 

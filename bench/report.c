@@ -64,7 +64,7 @@ static void print_scene(FILE *to, const scene *s) {
 }
 
 static void print_row(FILE *to, const row *r) {
-    fprintf(to, "    %-38s %12.2f %12.2f %10.3f", r->who, r->median, r->best, r->ours);
+    fprintf(to, "    %-50s %12.2f %12.2f %10.3f", r->who, r->median, r->best, r->ours);
     if (r->is_beyond) fprintf(to, "   %.2f us beyond the check, +- %.2f", r->beyond, r->noise);
     fprintf(to, "\n");
 }
@@ -73,7 +73,7 @@ static void print_row(FILE *to, const row *r) {
 static void print_rows(FILE *to, int scene_number) {
     for (const row *r = rows; r < rows + row_count; r++) {
         if (r->scene != scene_number || strcmp(r->who, "balluchaw") != 0) continue;
-        fprintf(to, "  %-40s %12s %12s %10s   %d rounds\n", r->operation, r->unit, "best", "ours/it", r->rounds);
+        fprintf(to, "  %-52s %12s %12s %10s   %d rounds\n", r->operation, r->unit, "best", "ours/it", r->rounds);
         for (const row *other = r; other < rows + row_count; other++)
             if (other->scene == scene_number && strcmp(other->operation, r->operation) == 0) print_row(to, other);
     }
@@ -121,7 +121,7 @@ static void print_line(FILE *to, int i) {
 
 /* How many times as fast the archive is, for each scene in which the others were measured. */
 static void print_times(FILE *to, const char *operation, const char *who, const char *asked) {
-    fprintf(to, "%-7s %-40s", operation, who);
+    fprintf(to, "%-7s %-52s", operation, who);
     for (int i = 0; i < scene_count; i++) {
         const row *r = find(i, operation, who);
         if (r && scenes[i].of.others) fprintf(to, " %7.2f", 1 / r->ours);
@@ -132,18 +132,19 @@ static void print_times(FILE *to, const char *operation, const char *who, const 
 
 static void print_all_times(FILE *to) {
     static const char *asked = "   asked for: 10";
-    fprintf(to, "\n%-48s", "Times as fast as the others");
+    fprintf(to, "\n%-60s", "Times as fast as the others");
     for (int i = 0; i < scene_count; i++)
         if (scenes[i].of.others) fprintf(to, " %7u", scenes[i].of.held);
     fprintf(to, "   orders\n");
-    print_times(to, "check", "SQLite integrity_check", asked);
     print_times(to, "check", "SQLite WITHOUT ROWID integrity_check", asked);
+    print_times(to, "check", "SQLite integrity_check", "");
     print_times(to, "check", "reference", "");
     for (int k = 0; k < 2; k++) {
         const char *operation = k ? "cancel" : "put";
-        print_times(to, operation, "SQLite + VACUUM INTO", asked);
-        print_times(to, operation, "SQLite WITHOUT ROWID + VACUUM INTO", asked);
+        print_times(to, operation, "SQLite WITHOUT ROWID integrity_check + VACUUM INTO", asked);
         print_times(to, operation, "SQLite integrity_check + VACUUM INTO", "");
+        print_times(to, operation, "SQLite WITHOUT ROWID + VACUUM INTO", "");
+        print_times(to, operation, "SQLite + VACUUM INTO", "");
         print_times(to, operation, "LMDB + sorted copy", "");
         print_times(to, operation, "BTreeMap + all its bytes", "");
         print_times(to, operation, "reference", "");

@@ -113,6 +113,8 @@ int sqlite_cancel_checked(void *p) { return sqlite_check(p) | sqlite_cancel(p); 
 int clustered_check(void *p) { return (void)p, check(&bases[CLUSTERED]); }
 int clustered_put(void *p) { return put_and_vacuum(&bases[CLUSTERED], p); }
 int clustered_cancel(void *p) { return delete_and_vacuum(&bases[CLUSTERED], p); }
+int clustered_put_checked(void *p) { return clustered_check(p) | clustered_put(p); }
+int clustered_cancel_checked(void *p) { return clustered_check(p) | clustered_cancel(p); }
 
 void sqlite_pick(void *p) {
     pick(p);

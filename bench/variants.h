@@ -17,6 +17,7 @@ void map_open(const scene *s), map_close(void), map_away(void *p), map_back(void
 /* sqlite.c: a change is followed by VACUUM INTO; *_checked has an integrity_check before it; clustered_*: a table WITHOUT ROWID */
 int sqlite_check(void *p), sqlite_lookup(void *p), sqlite_span(void *p), sqlite_put(void *p), sqlite_cancel(void *p);
 int sqlite_put_checked(void *p), sqlite_cancel_checked(void *p), clustered_check(void *p), clustered_put(void *p), clustered_cancel(void *p);
+int clustered_put_checked(void *p), clustered_cancel_checked(void *p);
 void sqlite_open(const scene *s), sqlite_close_all(void), sqlite_away(void *p), sqlite_back(void *p), sqlite_pick(void *p);
 const char *sqlite_name(void);
 

@@ -53,6 +53,11 @@ probe look m w (suc k) i =
 unfoldable pub search-in : Sizes → List ℕ → Label → Found
 search-in s bs w = probe (label-in (block-long s) bs) (s .blocks) w (s .blocks) (home-of s w)
 
+-- the first of so many blocks from block i on that is empty or has a chunk of level l or more
+unfoldable pub past-lower : (look : ℕ → Label) → (l : ℕ) → (count i : ℕ) → ℕ
+past-lower look l zero i = i
+past-lower look l (suc k) i = cond (ltb 0 (look i .level) && ltb (look i .level) l) (past-lower look l k (suc i)) i
+
 -- REMOVAL: how far it is from block a on to block b; a chunk stays if its home lies past the hole, up to its block
 unfoldable pub distance-of : (m a b : ℕ) → ℕ
 distance-of m a b = (b + m - a) % m

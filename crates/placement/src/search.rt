@@ -1,12 +1,12 @@
 // The search for a label, and what stands in the block that it finds.
 ghost use mathlib.Core.Path.{_≡_};
-ghost use Prim.Native.Nat.{ℕ, _+_, _*_, _%_, _<_, _≤_};
+ghost use Prim.Native.Nat.{ℕ, _+_, _*_, _-_, _%_, _<_, _≤_};
 ghost use lib.Dec.{eqb};
 ghost use lib.ListN.{getD};
 ghost use Rattle.sizes.specs.Numbers.{field, over};
 ghost use Rattle.sizes.specs.Hash.{hash-from};
 ghost use Rattle.sizes.specs.Header.{block-long};
-ghost use Rattle.placement.specs.Place.{Shaped, label-in, home-of, search-in, free-in};
+ghost use Rattle.placement.specs.Place.{Shaped, label-in, home-of, probe, past-lower, search-in, free-in};
 use crate::Found;
 use crate::Label;
 use crate::labels::home;
@@ -17,27 +17,26 @@ use crate::labels::passes_at;
 use crate::labels::same;
 use sizes::Sizes;
 
-// The block after one, going round.
-fn next(i: u32, m: u32) -> u32
-    requires { ⌜ (i < m) × (m ≤ 65535) ⌝ }
-    ensures { λ r. ⌜ (r ≡ (i + 1) % m) × (r < m) ⌝ }
+// Block i of m, going round: behind the last comes the first.
+fn around(i: u32, m: u32) -> u32
+    requires { ⌜ (i ≤ m) × (0 < m) ⌝ }
+    ensures { λ r. ⌜ (r ≡ i % m) × (r < m) ⌝ }
 {
-    if i + 1 < m {
-        return i + 1;
+    if i < m {
+        return i;
     }
     0
 }
 
-// The block with a label, or nothing: from home on, to the first block that is empty or has that label or a larger one, at most once around.
-fn find_from(table: &[u8], s: Sizes, start: u32, want: Label) -> Found
-    requires { ⌜ Shaped s (now table) × (start ≡ home-of s want) × (start < s .blocks) ⌝ }
-    ensures { λ r. ⌜ r ≡ search-in s (now (table .entry)) want ⌝ }
+// The search for a label from a block on, going round: to the first block that is empty or has that label or a larger one, over so many blocks at most.
+fn find_from(table: &[u8], s: Sizes, start: u32, most: u32, want: Label) -> Found
+    requires { ⌜ Shaped s (now table) × (start < s .blocks) ⌝ }
+    ensures { λ r. ⌜ r ≡ probe (label-in (block-long s) (now (table .entry))) (s .blocks) want most start ⌝ }
 {
-    let m = s.blocks;
     let mut i = start;
-    let mut k: u32 = 0;
+    let mut left = most;
     let found = loop {
-        if m <= k {
+        if left == 0 {
             break Found::Nothing;
         }
         if !passes_at(table, s, i, want) {
@@ -46,25 +45,62 @@ fn find_from(table: &[u8], s: Sizes, start: u32, want: Label) -> Found
             }
             break Found::Nothing;
         }
-        i = next(i, m);
-        k += 1;
+        i = around(i + 1, s.blocks);
+        left -= 1;
     };
     found
 }
 
+// The first block from one on, up to the last of the table, that is empty or whose chunk is not of a lower level. One byte of each tells.
+fn past_lower(table: &[u8], s: Sizes, start: u32, level: u32) -> u32
+    requires { ⌜ Shaped s (now table) × (start < s .blocks) ⌝ }
+    ensures { λ r. ⌜ (r ≡ past-lower (label-in (block-long s) (now (table .entry))) level (s .blocks - start) start) × (start ≤ r) × (r ≤ s .blocks) ⌝ }
+{
+    let mut i = start;
+    while i < s.blocks {
+        let l = sizes::numbers::wide(table[offset(s, i)]);
+        if l == 0 {
+            return i;
+        }
+        if level <= l {
+            return i;
+        }
+        i += 1;
+    }
+    i
+}
+
+// The search from home on. A chunk of a high level may stand far behind its home: all chunks of lower levels in between are passed first.
+fn find_past(table: &[u8], s: Sizes, home: u32, want: Label) -> Found
+    requires { ⌜ Shaped s (now table) × (home ≡ home-of s want) × (home < s .blocks) ⌝ }
+    ensures { λ r. ⌜ r ≡ search-in s (now (table .entry)) want ⌝ }
+{
+    let i = past_lower(table, s, home, want.level);
+    find_from(table, s, around(i, s.blocks), s.blocks - (i - home), want)
+}
+
+// The block with a label, or nothing.
 pub fn find(table: &[u8], s: Sizes, want: Label) -> Found
     requires { ⌜ Shaped s (now table) ⌝ }
     ensures { λ r. ⌜ r ≡ search-in s (now (table .entry)) want ⌝ }
 {
-    find_from(table, s, home(s, want), want)
+    find_past(table, s, home(s, want), want)
 }
 
-// The same from the hash g of the first key, without a division: `round` is 2^32 over the number of blocks, rounded up.
+// The same from the hash g of the first key, without a division: `round` is 2^32 over the number of blocks, rounded up. For labels of any level ..
+pub fn find_high(table: &[u8], s: Sizes, round: u64, g: u32, want: Label) -> Found
+    requires { ⌜ Shaped s (now table) × (round ≡ over (s .blocks)) × (g ≡ hash-from 5 5 (s .seed) (want .first)) × (want .level ≤ 19) × (want .number ≤ 65535) ⌝ }
+    ensures { λ r. ⌜ r ≡ search-in s (now (table .entry)) want ⌝ }
+{
+    find_past(table, s, home_over(s, round, g, want), want)
+}
+
+// .. and where most are of level 1, so that a look ahead does not pay.
 pub fn find_over(table: &[u8], s: Sizes, round: u64, g: u32, want: Label) -> Found
     requires { ⌜ Shaped s (now table) × (round ≡ over (s .blocks)) × (g ≡ hash-from 5 5 (s .seed) (want .first)) × (want .level ≤ 19) × (want .number ≤ 65535) ⌝ }
     ensures { λ r. ⌜ r ≡ search-in s (now (table .entry)) want ⌝ }
 {
-    find_from(table, s, home_over(s, round, g, want), want)
+    find_from(table, s, home_over(s, round, g, want), s.blocks, want)
 }
 
 // Does the search for a label start at an empty block, and end there?

@@ -26,7 +26,8 @@ fn horner(a: u32, x: u64, r: u64) -> u64
     fold(a as u64 + x * r)
 }
 
-// A folded number below 5 · 2^31, reduced.
+// A folded number below 5 · 2^31, reduced. One more fold is enough but for a few numbers: a jump that is hardly ever taken, where a difference would be
+// chosen at every step.
 fn reduce(t: u64) -> u32
     requires { ⌜ t ≤ 10737418235 ⌝ }
     ensures { λ r. ⌜ (r ≡ t % 2147483647) × (r < 2147483647) ⌝ }
@@ -35,7 +36,7 @@ fn reduce(t: u64) -> u32
     if r < 2147483647 {
         return r as u32;
     }
-    (r - 2147483647) as u32
+    (t % 2147483647) as u32
 }
 
 // The polynomial of five numbers of the seed, from one on, without a division by p.

@@ -1,4 +1,4 @@
-// The header of a table: the sizes, the seed and the number of orders, read and written by one table of its fields.
+// The header of a table: the sizes, the seed and the number of orders, read and written by one table of its fields; the seed's ten numbers stand in a row.
 ghost use mathlib.Core.Path.{_≡_};
 ghost use mathlib.Core.Bool.{true};
 ghost use mathlib.Core.List.{_++_};
@@ -24,6 +24,8 @@ impl Header {
     pub const VERSION: u32 = 1;
     // The bytes of a header.
     pub const LENGTH: usize = 53;
+    // Where the seed starts.
+    pub const SEED: usize = 13;
     // The bytes of a block's head.
     pub const HEAD: u32 = 8;
     // Version, length, γ, B, N, M, n and the ten seed numbers.
@@ -47,7 +49,7 @@ impl Header {
         Field { at: 49, width: 4 },
     ];
 
-    // The seed numbers are the last ten fields.
+    // The seed numbers are the last ten fields, read where they stand: to look each up in the table of fields costs more than all the rest.
     pub fn read(table: &[u8]) -> Header
         requires { ⌜ 53 ≤ length (now table) ⌝ }
         ensures { λ r. ⌜ (r .sizes ≡ sizes-in (now (table .entry))) × (r .held ≡ held-in (now (table .entry))) ⌝ }
@@ -55,7 +57,7 @@ impl Header {
         let mut seed = [0u32; 10];
         let mut i: usize = 0;
         while i < 10 {
-            seed[i] = field(table, 7 + i);
+            seed[i] = numbers::be4(table, Header::SEED + 4 * i);
             i += 1;
         }
         Header {

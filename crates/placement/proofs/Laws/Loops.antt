@@ -1,11 +1,11 @@
 -- What the loops of this crate keep, and their turns. Assumes nothing.
 use mathlib.Core.Path.{_≡_, refl, sym, ap, _∙_}
 use mathlib.Core.List.{List, [], _∷_, _++_}
-use mathlib.Core.Bool.{Bool, true, false, _||_, cond}
+use mathlib.Core.Bool.{Bool, true, false, _&&_, _||_, cond, and-false}
 use Prim.Native.Nat.{ℕ, zero, suc, _+_, _*_, _-_, _/_, _%_, _≤_, _<_}
 use native.Mathlib.Nat.{le-refl, add-zero, sub-zero, pos-of-ne-zero, mod-lt, mod-eq-of-lt, mod-eq-sub-mod, mod-self, mod-add-mod, lt-of-lt-of-le}
 use native.Mathlib.Omega.{arith}
-use native.Mathlib.Numerals.{towards-suc}
+use native.Mathlib.Numerals.{towards-suc, add-one}
 use lib.Dec.{ltb, leb, eqb}
 use lib.ListN.{length, getD, replicate, length-append}
 use lib.Seq.{sets}
@@ -19,66 +19,170 @@ use Rattle.sizes.specs.declared.Sizes.{Sizes}
 use Rattle.placement.specs.declared.Label.{Label}
 use Rattle.placement.specs.declared.Found.{Found}
 use Rattle.placement.specs.declared.Found.the-variants.{At, Nothing}
-use Rattle.placement.specs.Place.{Shaped, label-in, before-label, same-label, passes-label, probe, search-in, distance-of, stays-at, bytes, Pulled, pull, settle, found-at, taken-out, free-in, head-bytes, block-with, inserted}
+use Rattle.placement.specs.Place.{Shaped, label-in, before-label, same-label, passes-label, probe, past-lower, search-in, distance-of, stays-at, bytes, Pulled, pull, settle, found-at, taken-out, free-in, head-bytes, block-with, inserted}
 use Rattle.sizes.proofs.Laws.Parts.{sets-append}
+use Rattle.sizes.proofs.Laws.Sizes.{and-parts}
 use Rattle.placement.specs.Place.{home-of}
 use Rattle.sizes.specs.Hash.{hash-from, g}
 
--- what the loop of `find` keeps: the search from its start goes on from the block that is k further
-pub record Probing (look : ℕ → Label) (m : ℕ) (w : Label) (home start k : ℕ) : Type 0 where
-  pub within : k ≤ m
-  pub rest : probe look m w m home ≡ probe look m w (m - k) (start + k)
+-- the search goes by where it stands on the way round
+probe-round : (look : ℕ → Label) (m : ℕ) (w : Label) (k i j : ℕ) → i % m ≡ j % m → probe look m w k i ≡ probe look m w k j
+unfolding probe
+probe-round look m w zero i j e = refl
+probe-round look m w (suc k) i j e =
+    let n : suc i % m ≡ suc j % m = ap (_% m) (sym (add-one i)) ∙ sym (mod-add-mod i m 1) ∙ ap (λ (x : ℕ). (x + 1) % m) e ∙ mod-add-mod j m 1 ∙ ap (_% m) (add-one j) in
+    rw (e, probe-round look m w k (suc i) (suc j) n)
 
-module _ (look : ℕ → Label) (m : ℕ) (w : Label) (home start : ℕ) where
-  pub probing-start : start ≡ home → Probing look m w home start 0
-  probing-start e = record { within = omega arith; rest = rw (e, add-zero, sub-zero) }
+-- what the loop of `find_from` keeps: the search from its start goes on from block i
+pub record Probing (look : ℕ → Label) (m : ℕ) (w : Label) (most start left i : ℕ) : Type 0 where
+  pub inside : i < m
+  pub rest : probe look m w most start ≡ probe look m w left i
 
-  module _ (k : ℕ) (i : Probing look m w home start k) where
-    pub probing-end : m ≤ k → Nothing ≡ probe look m w m home
+module _ (look : ℕ → Label) (m : ℕ) (w : Label) (most start : ℕ) where
+  pub probing-start : start < m → Probing look m w most start most start
+  probing-start h = record { inside = h; rest = refl }
+
+  module _ (left i : ℕ) (q : Probing look m w most start left i) where
+    pub probing-end : left ≡ 0 → Nothing ≡ probe look m w most start
     unfolding probe
-    probing-end l =
-        let f : m - k ≡ 0 = omega arith in
-        rw (i .rest, f)
+    probing-end z = sym (q .rest ∙ rw z)
 
-    module _ (p : ℕ) (ep : p ≡ (start + k) % m) (s : Bool) (es : s ≡ passes-label (look p) w) (lt : k < m) where
-      pub probing-more : s ≡ true → Probing look m w home start (k + 1)
+    module _ (s : Bool) (es : s ≡ passes-label (look i) w) (some : left ≡ 0 → ⊥) where
+      pub probing-more : s ≡ true → (n : ℕ) → n ≡ (i + 1) % m → n < m → Probing look m w most start (left - 1) n
       unfolding probe
-      probing-more e =
-          let f : m - k ≡ suc (m - (k + 1)) = omega arith in
-          let n : start + (k + 1) ≡ suc (start + k) = omega arith in
-          let q : passes-label (look ((start + k) % m)) w ≡ true = rw (← ep, ← es, e) in
-          record { within = omega arith; rest = i .rest ∙ rw (f, q, n) }
+      probing-more e n en h =
+          let f : left ≡ suc (left - 1) = let p = pos-of-ne-zero some in omega arith in
+          let r : suc i % m ≡ n % m = ap (_% m) (sym (add-one i)) ∙ sym en ∙ sym (mod-eq-of-lt h) in
+          let one : probe look m w (suc (left - 1)) i ≡ probe look m w (left - 1) (suc i) = rw (mod-eq-of-lt (q .inside), ← es, e) in
+          record { inside = h; rest = q .rest ∙ ap (λ (k : ℕ). probe look m w k i) f ∙ one ∙ probe-round look m w (left - 1) (suc i) n r }
 
-      module _ (e : s ≡ false) (l : Label) (t : Bool) (at : l ≡ look p) (et : t ≡ same-label l w) where
-        stopped : probe look m w m home ≡ cond t (At p) Nothing
+      module _ (e : s ≡ false) (l : Label) (t : Bool) (at : l ≡ look i) (et : t ≡ same-label l w) where
+        stopped : probe look m w most start ≡ cond t (At i) Nothing
         unfolding probe
         stopped =
-            let f : m - k ≡ suc (m - (k + 1)) = omega arith in
-            let q : passes-label (look ((start + k) % m)) w ≡ false = rw (← ep, ← es, e) in
-            i .rest ∙ rw (f, q, et, at, ← ep)
+            let f : left ≡ suc (left - 1) = let p = pos-of-ne-zero some in omega arith in
+            q .rest ∙ ap (λ (k : ℕ). probe look m w k i) f ∙ rw (mod-eq-of-lt (q .inside), ← es, e, et, at)
 
-        pub probing-same : t ≡ true → At p ≡ probe look m w m home
+        pub probing-same : t ≡ true → At i ≡ probe look m w most start
         probing-same h = sym (stopped ∙ rw h)
 
-        pub probing-other : t ≡ false → Nothing ≡ probe look m w m home
+        pub probing-other : t ≡ false → Nothing ≡ probe look m w most start
         probing-other h = sym (stopped ∙ rw h)
 
--- the block after one, going round
-pub next-inside : (i m : ℕ) → i + 1 < m → i + 1 ≡ (i + 1) % m
-next-inside i m h = sym (mod-eq-of-lt h)
+-- going round
+pub around-inside : (i m : ℕ) → i < m → i ≡ i % m
+around-inside i m h = sym (mod-eq-of-lt h)
 
-pub next-round : (i m : ℕ) → i < m → m ≤ i + 1 → 0 ≡ (i + 1) % m
-next-round i m h l =
-    let e : i + 1 ≡ m = omega arith in
+pub around-first : (i m : ℕ) → i ≤ m → m ≤ i → 0 ≡ i % m
+around-first i m h l =
+    let e : i ≡ m = omega arith in
     sym (rw e (mod-self m))
 
-pub index-start : (start m : ℕ) → start < m → start ≡ (start + 0) % m
-index-start start m h = sym (rw add-zero (mod-eq-of-lt h))
+-- A SEARCH PASSES all blocks of lower levels
+module _ (look : ℕ → Label) (m : ℕ) (w : Label) where
+  lower : (i : ℕ) → Bool
+  lower i = ltb 0 (look i .level) && ltb (look i .level) (w .level)
 
-pub index-next : (start k m p n : ℕ) → p ≡ (start + k) % m → n ≡ (p + 1) % m → n ≡ (start + (k + 1)) % m
-index-next start k m p n e f =
-    let a : start + (k + 1) ≡ start + k + 1 = omega arith in
-    f ∙ rw (e, mod-add-mod, a)
+  lower-passes : (i : ℕ) → lower i ≡ true → passes-label (look i) w ≡ true
+  unfolding lower passes-label before-label
+  lower-passes i e = let p = and-parts (ltb 0 (look i .level)) (ltb (look i .level) (w .level)) e in rw (p .0, p .1)
+
+  passed-one : (f i : ℕ) → i < m → 0 < f → lower i ≡ true → probe look m w f i ≡ probe look m w (f - 1) (suc i)
+  unfolding probe
+  passed-one f i h some e =
+      let n : f ≡ suc (f - 1) = omega arith in
+      ap (λ (k : ℕ). probe look m w k i) n ∙ rw (mod-eq-of-lt h, lower-passes i e)
+
+  past-least : (c i : ℕ) → i ≤ past-lower look (w .level) c i
+  unfolding past-lower
+  past-least zero i = le-refl i
+  past-least (suc c) i = go (ltb 0 (look i .level) && ltb (look i .level) (w .level)) (past-least c (suc i))
+    where
+      go : (b : Bool) → suc i ≤ past-lower look (w .level) c (suc i) → i ≤ cond b (past-lower look (w .level) c (suc i)) i
+      go true h = omega arith
+      go false h = le-refl i
+
+  past-probe : (c f i : ℕ) → i + c ≤ m → c ≤ f →
+      probe look m w f i ≡ probe look m w (f - (past-lower look (w .level) c i - i)) (past-lower look (w .level) c i)
+  unfolding past-lower lower
+  past-probe zero f i h g =
+      let e : f ≡ f - (i - i) = omega arith in
+      ap (λ (k : ℕ). probe look m w k i) e
+  past-probe (suc c) f i h g = go (lower i) refl (past-least c (suc i)) (past-probe c (f - 1) (suc i) (omega arith) (omega arith))
+    where
+      go : (b : Bool) → lower i ≡ b → suc i ≤ past-lower look (w .level) c (suc i) →
+          probe look m w (f - 1) (suc i) ≡ probe look m w (f - 1 - (past-lower look (w .level) c (suc i) - suc i)) (past-lower look (w .level) c (suc i)) →
+          probe look m w f i ≡ probe look m w (f - (cond b (past-lower look (w .level) c (suc i)) i - i)) (cond b (past-lower look (w .level) c (suc i)) i)
+      go true e l r =
+          let k : f - 1 - (past-lower look (w .level) c (suc i) - suc i) ≡ f - (past-lower look (w .level) c (suc i) - i) = omega arith in
+          passed-one f i (omega arith) (omega arith) e ∙ r ∙ ap (λ (n : ℕ). probe look m w n (past-lower look (w .level) c (suc i))) k
+      go false e l r =
+          let n : f ≡ f - (i - i) = omega arith in
+          ap (λ (k : ℕ). probe look m w k i) n
+
+-- the search for a label is the one from home on, round the whole table
+pub home-search : (s : Sizes) (bs : List ℕ) (w : Label) (home : ℕ) (r : Found) → home ≡ home-of s w →
+    r ≡ probe (label-in (block-long s) bs) (s .blocks) w (s .blocks) home → r ≡ search-in s bs w
+unfolding search-in
+home-search s bs w home r eh er = er ∙ ap (probe (label-in (block-long s) bs) (s .blocks) w (s .blocks)) eh
+
+-- .. and goes on from the first block that is not of a lower level
+pub past-search : (s : Sizes) (bs : List ℕ) (w : Label) (home i j : ℕ) (r : Found) → home ≡ home-of s w → home < s .blocks →
+    i ≡ past-lower (label-in (block-long s) bs) (w .level) (s .blocks - home) home → j ≡ i % s .blocks → j < s .blocks →
+    r ≡ probe (label-in (block-long s) bs) (s .blocks) w (s .blocks - (i - home)) j → r ≡ search-in s bs w
+past-search s bs w home i j r eh h ei ej hj er =
+    let look = label-in (block-long s) bs in
+    let m = s .blocks in
+    let there : probe look m w m home ≡ probe look m w (m - (i - home)) i =
+        past-probe look m w (m - home) m home (omega arith) (omega arith) ∙ ap (λ (x : ℕ). probe look m w (m - (x - home)) x) (sym ei) in
+    home-search s bs w home r eh (er ∙ probe-round look m w (m - (i - home)) j i (mod-eq-of-lt hj ∙ ej) ∙ sym there)
+
+-- what the loop of `past_lower` keeps
+pub record Lowering (look : ℕ → Label) (l m start i : ℕ) : Type 0 where
+  pub least : start ≤ i
+  pub most : i ≤ m
+  pub rest : past-lower look l (m - start) start ≡ past-lower look l (m - i) i
+
+module _ (look : ℕ → Label) (l m start : ℕ) where
+  pub lowering-start : start < m → Lowering look l m start start
+  lowering-start h = record { least = le-refl start; most = omega arith; rest = refl }
+
+  module _ (i : ℕ) (q : Lowering look l m start i) where
+    pub lowering-end : m ≤ i → i ≡ past-lower look l (m - start) start
+    unfolding past-lower
+    lowering-end h =
+        let e : m - i ≡ 0 = omega arith in
+        sym (q .rest ∙ ap (λ (k : ℕ). past-lower look l k i) e)
+
+    module _ (v : ℕ) (ev : v ≡ look i .level) (h : i < m) where
+      stops : (ltb 0 v && ltb v l) ≡ false → i ≡ past-lower look l (m - start) start
+      unfolding past-lower
+      stops z =
+          let e : m - i ≡ suc (m - (i + 1)) = omega arith in
+          sym (q .rest ∙ ap (λ (k : ℕ). past-lower look l k i) e ∙ rw (← ev, z))
+
+      pub lowering-empty : v ≡ 0 → i ≡ past-lower look l (m - start) start
+      lowering-empty z = stops (rw z)
+
+      pub lowering-high : l ≤ v → i ≡ past-lower look l (m - start) start
+      lowering-high g = stops (rw (le-ltb v l g) (and-false (ltb 0 v)))
+
+      pub lowering-more : (v ≡ 0 → ⊥) → v < l → Lowering look l m start (i + 1)
+      unfolding past-lower
+      lowering-more ne g =
+          let e : m - i ≡ suc (m - (i + 1)) = omega arith in
+          let b : (ltb 0 v && ltb v l) ≡ true = rw (lt-ltb 0 v (pos-of-ne-zero ne), lt-ltb v l g) in
+          let one : past-lower look l (suc (m - (i + 1))) i ≡ past-lower look l (m - (i + 1)) (suc i) = rw (← ev, b) in
+          record {
+            least = let a = q .least in omega arith;
+            most = omega arith;
+            rest = q .rest ∙ ap (λ (k : ℕ). past-lower look l k i) e ∙ one ∙ ap (past-lower look l (m - (i + 1))) (sym (add-one i));
+          }
+
+-- the level of the label in block i
+pub level-there : (w : ℕ) (bs : List ℕ) (i a v : ℕ) → a ≡ 53 + i * w → v ≡ getD bs a 0 → v ≡ label-in w bs i .level
+unfolding label-in
+level-there w bs i a v ea ev = ev ∙ ap (λ (x : ℕ). getD bs x 0) ea
 
 -- a block that the search finds is one of the table
 below : Found → (m : ℕ) → Type 0

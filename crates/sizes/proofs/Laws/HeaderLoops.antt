@@ -93,10 +93,6 @@ pub header-next : (k : ℕ) → k < 16 → header-at k + header-wide k ≡ heade
 unfolding upto
 header-next k h = eqb-true _ _ (each (λ k. eqb (header-at k + header-wide k) (header-at (k + 1))) 16 k refl h)
 
-pub seed-place : (i : ℕ) → i < 10 → header-at (7 + i) ≡ 13 + 4 * i
-unfolding upto
-seed-place i h = eqb-true _ _ (each (λ k. eqb (header-at (7 + k)) (13 + 4 * k)) 10 i refl h)
-
 pub seed-wide : (i : ℕ) → i < 10 → header-wide (7 + i) ≡ 4
 unfolding upto
 seed-wide i h = eqb-true _ _ (each (λ k. eqb (header-wide (7 + k)) 4) 10 i refl h)
@@ -212,9 +208,9 @@ module _ (bs : List ℕ) where
   seeded-start seed e = record { within = omega arith; count = e; is = refl }
 
   module _ (seed : List ℕ) (i : ℕ) (s : Seeded bs seed i) where
-    pub seeded-more : (v : ℕ) → i < 10 → v ≡ field (header-at (7 + i)) (header-wide (7 + i)) bs → Seeded bs (set seed i v) (i + 1)
+    pub seeded-more : (v : ℕ) → i < 10 → v ≡ field (13 + 4 * i) 4 bs → Seeded bs (set seed i v) (i + 1)
     seeded-more v h e =
-        let x : getD (seed-in 10 (drop 13 bs)) i 0 ≡ v = seed-number 10 i (drop 13 bs) h ∙ field-drop (4 * i) 4 13 bs ∙ sym (e ∙ rw (seed-place i h, seed-wide i h)) in
+        let x : getD (seed-in 10 (drop 13 bs)) i 0 ≡ v = seed-number 10 i (drop 13 bs) h ∙ field-drop (4 * i) 4 13 bs ∙ sym e in
         let l : i < length (seed-in 10 (drop 13 bs)) = omega (arith, seed-count 10 (drop 13 bs)) in
         let k : i < length seed = omega (arith, s .count) in
         record {

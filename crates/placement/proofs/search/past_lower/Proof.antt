@@ -1,0 +1,22 @@
+-- `placement::search::past_lower` meets its contract: each need follows from the laws listed. Assumes nothing.
+use borrow.Author.Needs.{needs}
+use Prim.Native.Nat.{_-_}
+use Rattle.sizes.specs.Header.{block-long}
+use Rattle.placement.specs.Place.{label-in}
+use Rattle.placement.proofs.Laws.Loops.{Lowering, lowering-start, lowering-end, lowering-empty, lowering-high, lowering-more, level-there}
+use Rattle.placement.proofs.search.past_lower.Statement.{statement}
+use Rattle.placement.proofs.search.past_lower.Tie as tie
+
+ruleset laws = (needs, lowering-start, lowering-end, lowering-empty, lowering-high, lowering-more, level-there)
+
+abbrev Inv-loop : tie.InvT-loop
+Inv-loop table s start level i₀ i = Lowering (label-in (block-long s) table) level (s .blocks) start i
+
+abbrev μ-loop : tie.MeasureT-loop
+μ-loop table s start level i₀ i = s .blocks - i
+
+pub past-lower-spec : {M : Type 1} → statement M
+past-lower-spec =
+    tie.close
+    (tie.spec Inv-loop μ-loop (λ c. search laws) (λ c κs. search laws) (λ c. search laws) (λ c κs. search laws) (λ c. search laws) (λ c. search laws)
+    (λ c. search laws) (λ c. search laws) (λ c. search laws) (λ c. search laws))
