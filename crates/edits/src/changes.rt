@@ -18,6 +18,7 @@ use levels::edit::put_in;
 use levels::edit::replace;
 use levels::growth::bottom;
 use levels::growth::growth;
+use levels::spots::reach;
 use levels::spots::scan;
 use placement::Order;
 use readings::calls::Sought;
@@ -27,6 +28,7 @@ use sizes::Sizes;
 use sizes::hash::highest;
 use sizes::hash::level_of;
 use sizes::header::Header;
+use sizes::numbers::over;
 use sizes::numbers::put2;
 use table::checking::check;
 use table::checking::examine;
@@ -71,7 +73,7 @@ fn put_held(table: &mut [u8], s: Sizes, top: u32, l: u32, o: Order)
         return;
     }
     let first = bottom(table, s, top, o.key);
-    let x = scan(table, s, 1, first, o.key);
+    let x = reach(table, s, over(s.blocks), 1, first, o.key);
     replace(table, s, first, x.below, o);
 }
 

@@ -32,6 +32,12 @@ Scans s bs k f y r =
     (F : Map) (n : ℕ) (hd : List ℕ) (ps qs : List Order) → Table s F n hd bs → 0 < k → Pieces F (s .nodes) k f 0 (ps ++ qs) → below y ps ≡ true → Up y qs →
     r ≡ record { below = length ps; last = last-from 0 ps; size = length (ps ++ qs) }
 
+-- .. as far as that takes: how many nodes are below it, and the last of them
+unfoldable pub Reaches : Sizes → List ℕ → (k f y : ℕ) → Spot → Type 0
+Reaches s bs k f y r =
+    (F : Map) (n : ℕ) (hd : List ℕ) (ps qs : List Order) → Table s F n hd bs → 0 < k → Pieces F (s .nodes) k f 0 (ps ++ qs) → below y ps ≡ true → Up y qs →
+    (r .below ≡ length ps) × (r .last ≡ last-from 0 ps)
+
 -- what an edit needs of a partition and a key at level k: numbers that bytes can hold, and a place in it
 pub record Room (s : Sizes) (k f : ℕ) (ps qs : List Order) (x : Spot) (o : Order) : Type 0 where
   pub level : 0 < k

@@ -7,8 +7,10 @@ ghost use Rattle.levels.specs.Edit.{Grows, Bottoms};
 ghost use Rattle.levels.specs.Scan.{Grown};
 use crate::Spot;
 use crate::spots::chunks_of;
+use crate::spots::reach;
 use crate::spots::scan;
 use sizes::Sizes;
+use sizes::numbers::over;
 
 // How many chunks a level has more once a key of level l is there.
 fn grown(s: Sizes, level: u32, l: u32, x: Spot) -> u32
@@ -44,13 +46,14 @@ pub fn growth(table: &[u8], s: Sizes, top: u32, l: u32, y: u32) -> u32
 
 // The first key of the partition of level 1 that has the nodes just below a key.
 pub fn bottom(table: &[u8], s: Sizes, top: u32, y: u32) -> u32
-    requires { ⌜ Shaped s (now table) ⌝ }
+    requires { ⌜ Shaped s (now table) × (top ≤ 19) ⌝ }
     ensures { λ r. ⌜ Bottoms s (now (table .entry)) top y r ⌝ }
 {
+    let round = over(s.blocks);
     let mut first: u32 = 0;
     let mut level = top;
     while 1 < level {
-        let x = scan(table, s, level, first, y);
+        let x = reach(table, s, round, level, first, y);
         first = x.last;
         level -= 1;
     }

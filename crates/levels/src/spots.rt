@@ -2,9 +2,10 @@
 ghost use mathlib.Core.Path.{_≡_};
 ghost use Prim.Native.Nat.{ℕ, _+_, _*_, _-_, _≤_, _<_};
 ghost use lib.ListN.{length};
+ghost use Rattle.sizes.specs.Numbers.{over};
 ghost use Rattle.placement.specs.Place.{Shaped};
 ghost use Rattle.skiplist.specs.Parts.{pieces};
-ghost use Rattle.levels.specs.Edit.{Scans};
+ghost use Rattle.levels.specs.Edit.{Scans, Reaches};
 ghost use Rattle.levels.specs.Scan.{passed, passes};
 use crate::Spot;
 use placement::Found;
@@ -12,7 +13,9 @@ use placement::Label;
 use placement::labels::offset;
 use placement::search::count_at;
 use placement::search::find;
+use placement::search::find_over;
 use sizes::Sizes;
+use sizes::hash::hash;
 use sizes::numbers::be4;
 
 // A node comes by: it is counted, and kept if it is below the key.
@@ -79,6 +82,52 @@ pub fn scan(table: &[u8], s: Sizes, level: u32, first: u32, y: u32) -> Spot
         }
         let at = offset(s, i) + 8;
         spot = pass_nodes(table, at, n, y, spot);
+        // A chunk comes only behind a full one.
+        if n < s.nodes {
+            return spot;
+        }
+        number += 1;
+    }
+    spot
+}
+
+// The same only as far as a node that is not below the key: none behind it is. `round` is 2^32 over the number of blocks, rounded up.
+pub fn reach(table: &[u8], s: Sizes, round: u64, level: u32, first: u32, y: u32) -> Spot
+    requires { ⌜ Shaped s (now table) × (round ≡ over (s .blocks)) × (level ≤ 19) ⌝ }
+    ensures { λ r. ⌜ Reaches s (now (table .entry)) level first y r ⌝ }
+{
+    let g = hash(s, 5, first);
+    let mut spot = Spot {
+        below: 0,
+        last: 0,
+        size: 0,
+    };
+    let mut number: u32 = 0;
+    while number < s.blocks {
+        let Found::At(i) = find_over(
+            table,
+            s,
+            round,
+            g,
+            Label {
+                level: level,
+                first: first,
+                number: number,
+            },
+        ) else {
+            return spot;
+        };
+        let n = count_at(table, s, i);
+        // No block of a table has more nodes than fit.
+        if s.nodes < n {
+            return spot;
+        }
+        let at = offset(s, i) + 8;
+        spot = pass_nodes(table, at, n, y, spot);
+        // A node that is not below the key came by.
+        if spot.below < spot.size {
+            return spot;
+        }
         // A chunk comes only behind a full one.
         if n < s.nodes {
             return spot;

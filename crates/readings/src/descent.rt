@@ -9,7 +9,7 @@ ghost use Rattle.skiplist.specs.Parts.{part};
 ghost use Rattle.readings.specs.Visit.{Known, first-enough, with-key};
 use crate::calls::Sought;
 use levels::growth::bottom;
-use levels::spots::scan;
+use levels::spots::reach;
 use placement::Found;
 use placement::Label;
 use placement::labels::offset;
@@ -19,6 +19,7 @@ use sizes::Sizes;
 use sizes::hash::highest;
 use sizes::hash::level_of;
 use sizes::header::Header;
+use sizes::numbers::over;
 use table::walk::node_of;
 
 // Node `below` of the partition of level 1 that `first` heads, if it has the key.
@@ -60,6 +61,6 @@ pub fn order_of(table: &[u8], key: u32) -> Sought
         return node_there(table, s, key, 0, key);
     }
     let first = bottom(table, s, top, key);
-    let x = scan(table, s, 1, first, key);
+    let x = reach(table, s, over(s.blocks), 1, first, key);
     node_there(table, s, first, x.below, key)
 }

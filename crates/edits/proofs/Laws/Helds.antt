@@ -18,12 +18,12 @@ use Rattle.skiplist.proofs.Descent.{tail-above}
 use Rattle.skiplist.proofs.Image.{image-keeps}
 use Rattle.skiplist.proofs.Edits.{beta-least, level-least, head-part, tail-part, part-in, part-left, part-right, part-other}
 use Rattle.levels.specs.declared.Spot.{Spot}
-use Rattle.levels.specs.Edit.{Scans, Replaces, Bottoms}
+use Rattle.levels.specs.Edit.{Reaches, Replaces, Bottoms}
 use Rattle.edits.specs.Change.{Put-held}
 use Rattle.table.proofs.Laws.MaskedKeys.{head-most, tail-most}
 use Rattle.edits.proofs.Laws.WayLevels.{as-pieces}
 use Rattle.edits.proofs.Laws.Settings.{all-up, front-below, behind-up, key-pos, some-nodes, few-orders, part-beside}
-use Rattle.edits.proofs.Laws.WaySpots.{Spotted, scanned}
+use Rattle.edits.proofs.Laws.WaySpots.{come-to}
 use Rattle.edits.proofs.Laws.Swaps.{swapped}
 
 module _ (s : Sizes) (top l : ℕ) (o : Order) (bs bs′ : List ℕ) where
@@ -46,10 +46,10 @@ module _ (s : Sizes) (top l : ℕ) (o : Order) (bs bs′ : List ℕ) where
           part-other s 1 xs y zs (all-up s xs y zs w) g (eqb-false (first-key (head-part s 1 xs)) g z) (λ q. n (sym e ∙ q))
           ∙ sym (part-other s 1 xs o zs (all-up s xs o zs v) g (eqb-false (first-key (head-part s 1 xs)) g z) n)
 
-  pub put-held-low : (f : ℕ) (x : Spot) → l ≤ 1 → Bottoms s bs top (o .key) f → Scans s bs 1 f (o .key) x → Replaces s f (x .below) o bs bs′ → Put-held s top l o bs bs′
+  pub put-held-low : (f : ℕ) (x : Spot) → l ≤ 1 → Bottoms s bs top (o .key) f → Reaches s bs 1 f (o .key) x → Replaces s f (x .below) o bs bs′ → Put-held s top l o bs bs′
   unfolding Put-held Bottoms
   put-held-low f x h b sc r xs y zs w v e te le i =
-      swapped s xs y o zs e w v (first-key (head-part s 1 xs)) (x .below) (head-part s 1 xs) (tail-part s 1 zs) bs bs′ (rw fe at r) i (seen .below)
+      swapped s xs y o zs e w v (first-key (head-part s 1 xs)) (x .below) (head-part s 1 xs) (tail-part s 1 zs) bs bs′ (rw fe at r) i seen
       (simp length-append (omega (arith, head-most s 1 xs, tail-most s 1 zs, few-orders s xs o zs v))) in-y (part-in s 1 xs o zs (all-up s xs o zs v) at-o)
       (λ g n. part-beside s xs y zs w 1 g at-y n ∙ sym (part-beside s xs o zs v 1 g at-o n))
     where
@@ -68,11 +68,11 @@ module _ (s : Sizes) (top l : ℕ) (o : Order) (bs bs′ : List ℕ) where
       fe : f ≡ first-key (head-part s 1 xs)
       fe = b xs (y ∷ zs) (w .sizes) (w .good) (w .fit) i (front-below s xs o zs v) (from, behind-up s xs y zs w) (key-pos s xs o zs v) te
 
-      seen : Spotted x (head-part s 1 xs) (y ∷ tail-part s 1 zs)
+      seen : x .below ≡ length (head-part s 1 xs)
       seen =
-          scanned s xs o zs v 1 (omega arith) (map-of (chunks s (xs ++ y ∷ zs))) (length (chunks s (xs ++ y ∷ zs))) (header s (length (xs ++ y ∷ zs))) bs
+          come-to s xs o zs v 1 (omega arith) (map-of (chunks s (xs ++ y ∷ zs))) (length (chunks s (xs ++ y ∷ zs))) (header s (length (xs ++ y ∷ zs))) bs
           (first-key (head-part s 1 xs)) x (y ∷ tail-part s 1 zs) (rw i (image-keeps s (xs ++ y ∷ zs) (w .sizes) (w .good) (w .fit))) (rw fe at sc)
           (rw map-append at
           (as-pieces s (xs ++ y ∷ zs) (some-nodes s xs y zs w) (all-up s xs y zs w) 1 (omega arith) (omega (arith, beta-least s)) (map-of (chunks s (xs ++ y ∷ zs)))
           (first-key (head-part s 1 xs)) (head-part s 1 xs ++ y ∷ tail-part s 1 zs) in-y (λ j. refl)))
-          (from, tail-above s 1 (suc (y .key)) zs (behind-up s xs y zs w))
+          (from, tail-above s 1 (suc (y .key)) zs (behind-up s xs y zs w)) .0

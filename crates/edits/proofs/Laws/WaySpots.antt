@@ -1,5 +1,6 @@
--- What a scan of a partition of an image's level tells, and what an edit there asks. Assumes nothing.
+-- What a reach and a scan of a partition of an image's level tell, and what an edit there asks. Assumes nothing.
 use mathlib.Core.Path.{_≡_, sym, ap, _∙_}
+use mathlib.Core.Bool.{true}
 use mathlib.Core.List.{List, _∷_, _++_, map}
 use Prim.Native.Nat.{ℕ, suc, _+_, _≤_, _<_}
 use native.Mathlib.Nat.{add-suc}
@@ -10,11 +11,12 @@ use Rattle.placement.specs.Maps.{Map, Table, Fine}
 use Rattle.sizes.specs.declared.Sizes.{Sizes}
 use Rattle.placement.specs.declared.Order.{Order}
 use Rattle.skiplist.specs.Lists.{masked, first-key}
-use Rattle.skiplist.proofs.Parts.{Up}
+use Rattle.skiplist.proofs.Parts.{Up, below}
 use Rattle.skiplist.proofs.Descent.{last-from, step-down, head-below}
 use Rattle.skiplist.proofs.Edits.{head-part}
 use Rattle.levels.specs.declared.Spot.{Spot}
-use Rattle.levels.specs.Edit.{Pieces, Scans, Room}
+use Rattle.levels.specs.Edit.{Pieces, Scans, Reaches, Room}
+use Rattle.levels.proofs.Laws.Scanning.{reached}
 use Rattle.edits.specs.Change.{Setting}
 use Rattle.table.proofs.Laws.MaskedKeys.{below-masked, up-masked, last-masked}
 use Rattle.edits.proofs.Laws.Settings.{front-up, front-below, key-pos, order-fine}
@@ -32,17 +34,30 @@ pub record Spotted (x : Spot) (ps qs : List Order) : Type 0 where
   pub size : x .size ≡ length ps + length qs
 
 module _ (s : Sizes) (xs : List Order) (o : Order) (zs : List Order) (w : Setting s xs o zs) (k : ℕ) (pos : 0 < k) where
+  lower : below (o .key) (map (masked k) (head-part s k xs)) ≡ true
+  lower = below-masked k (o .key) (head-part s k xs) (head-below s k (o .key) xs (key-pos s xs o zs w) (front-below s xs o zs w))
+
+  -- what a reach tells
+  pub come-to : (F : Map) (n : ℕ) (hd bs : List ℕ) (f : ℕ) (x : Spot) (qs : List Order) → Table s F n hd bs → Reaches s bs k f (o .key) x →
+      Pieces F (s .nodes) k f 0 (map (masked k) (head-part s k xs) ++ map (masked k) qs) → Up (o .key) qs →
+      (x .below ≡ length (head-part s k xs)) × (x .last ≡ last-from 0 (head-part s k xs))
+  unfolding Reaches
+  come-to F n hd bs f x qs t r p u =
+      let e = r F n hd (map (masked k) (head-part s k xs)) (map (masked k) qs) t pos p lower (up-masked k (o .key) qs u) in
+      (e .0 ∙ length-map (head-part s k xs) (masked k), e .1 ∙ last-masked k 0 (head-part s k xs))
+
+  -- .. and a scan
   pub scanned : (F : Map) (n : ℕ) (hd bs : List ℕ) (f : ℕ) (x : Spot) (qs : List Order) → Table s F n hd bs → Scans s bs k f (o .key) x →
       Pieces F (s .nodes) k f 0 (map (masked k) (head-part s k xs) ++ map (masked k) qs) → Up (o .key) qs → Spotted x (head-part s k xs) qs
   unfolding Scans
   scanned F n hd bs f x qs t sc p u =
-      let e = sc F n hd (map (masked k) (head-part s k xs)) (map (masked k) qs) t pos p
-      (below-masked k (o .key) (head-part s k xs) (head-below s k (o .key) xs (key-pos s xs o zs w) (front-below s xs o zs w)))
-      (up-masked k (o .key) qs u) in
+      let e = come-to F n hd bs f x qs t (reached s bs k f (o .key) x sc) p u in
       record {
-        below = ap (λ (z : Spot). z .below) e ∙ length-map (head-part s k xs) (masked k);
-        last = ap (λ (z : Spot). z .last) e ∙ last-masked k 0 (head-part s k xs);
-        size = ap (λ (z : Spot). z .size) e ∙ length-both k (head-part s k xs) qs;
+        below = e .0;
+        last = e .1;
+        size =
+            ap (λ (z : Spot). z .size) (sc F n hd (map (masked k) (head-part s k xs)) (map (masked k) qs) t pos p lower (up-masked k (o .key) qs u))
+            ∙ length-both k (head-part s k xs) qs;
       }
 
   pub room : (f : ℕ) (x : Spot) (ps qs : List Order) (y : Order) → k ≤ beta s → f < o .key → Fine y → length ps + length qs ≤ 65536 → Spotted x ps qs →

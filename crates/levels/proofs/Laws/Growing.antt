@@ -25,8 +25,9 @@ use Rattle.skiplist.proofs.Faithful.{map-is}
 use Rattle.skiplist.proofs.Masks.{map-take, map-drop}
 use Rattle.skiplist.proofs.Image.{image-keeps}
 use Rattle.levels.specs.declared.Spot.{Spot}
-use Rattle.levels.specs.Edit.{Pieces, Scans, Grows, Bottoms}
+use Rattle.levels.specs.Edit.{Pieces, Scans, Reaches, Grows, Bottoms}
 use Rattle.levels.specs.Scan.{Grown}
+use Rattle.levels.proofs.Laws.Scanning.{reached}
 
 -- THE CHUNKS of so many nodes
 module _ (b n : ℕ) where
@@ -150,26 +151,33 @@ module _ (s : Sizes) (bs : List ℕ) (y : ℕ) (xs zs : List Order) (w : Way s b
         ∙ map-take (masked k) (s .nodes) (drop (i * s .nodes) (head-part s k xs ++ tail-part s k zs))
         ∙ ap (take (s .nodes)) (map-drop (masked k) (i * s .nodes) (head-part s k xs ++ tail-part s k zs) ∙ ap (drop (i * s .nodes)) (map-both k (head-part s k xs) (tail-part s k zs)))
 
-    -- what a scan then says
-    pub seen : (x : Spot) → Scans s bs k f y x →
-        x ≡ record { below = length (head-part s k xs); last = last-from 0 (head-part s k xs); size = length (head-part s k xs) + length (tail-part s k zs) }
-    unfolding Scans
-    seen x h =
-        h (map-of (chunks s (xs ++ zs))) (length (chunks s (xs ++ zs))) (header s (length (xs ++ zs))) (map (masked k) (head-part s k xs)) (map (masked k) (tail-part s k zs))
-        (subst (λ (z : List ℕ). Table s (map-of (chunks s (xs ++ zs))) (length (chunks s (xs ++ zs))) (header s (length (xs ++ zs))) z) (sym (w .is)) (image-keeps s (xs ++ zs) (w .good) (w .orders) (w .fit))) lo there
-        (below-masked k y (head-part s k xs) (head-below s k y xs (w .pos) (w .low))) (up-masked k y (tail-part s k zs) (tail-above s k y zs (w .high)))
-        ∙ (λ i. record { below = a i; last = c i; size = b i })
-      where
-        a : length (map (masked k) (head-part s k xs)) ≡ length (head-part s k xs)
-        a = length-map (head-part s k xs) (masked k)
+    kept : Table s (map-of (chunks s (xs ++ zs))) (length (chunks s (xs ++ zs))) (header s (length (xs ++ zs))) bs
+    kept =
+        subst (Table s (map-of (chunks s (xs ++ zs))) (length (chunks s (xs ++ zs))) (header s (length (xs ++ zs)))) (sym (w .is))
+        (image-keeps s (xs ++ zs) (w .good) (w .orders) (w .fit))
 
-        b : length (map (masked k) (head-part s k xs) ++ map (masked k) (tail-part s k zs)) ≡ length (head-part s k xs) + length (tail-part s k zs)
-        b = simp (length-append, length-map)
+    lower : below y (map (masked k) (head-part s k xs)) ≡ true
+    lower = below-masked k y (head-part s k xs) (head-below s k y xs (w .pos) (w .low))
 
-        c : last-from 0 (map (masked k) (head-part s k xs)) ≡ last-from 0 (head-part s k xs)
-        c = last-masked k 0 (head-part s k xs)
+    upper : Up y (map (masked k) (tail-part s k zs))
+    upper = up-masked k y (tail-part s k zs) (tail-above s k y zs (w .high))
 
--- the partition that a scan comes to: after it, the one that its last node heads
+    module _ (x : Spot) where
+      -- what a reach then says
+      pub seen : Reaches s bs k f y x → (x .below ≡ length (head-part s k xs)) × (x .last ≡ last-from 0 (head-part s k xs))
+      unfolding Reaches
+      seen h =
+          let e = h _ _ _ (map (masked k) (head-part s k xs)) (map (masked k) (tail-part s k zs)) kept lo there lower upper in
+          (e .0 ∙ length-map (head-part s k xs) (masked k), e .1 ∙ last-masked k 0 (head-part s k xs))
+
+      -- .. and a scan
+      pub seen-size : Scans s bs k f y x → x .size ≡ length (head-part s k xs) + length (tail-part s k zs)
+      unfolding Scans
+      seen-size h =
+          ap (λ (z : Spot). z .size) (h _ _ _ (map (masked k) (head-part s k xs)) (map (masked k) (tail-part s k zs)) kept lo there lower upper)
+          ∙ simp (length-append, length-map)
+
+-- the partition that a reach comes to: after it, the one that its last node heads
 pub record Down (s : Sizes) (bs : List ℕ) (top y k first : ℕ) : Type 0 where
   pub within : k ≤ top
   pub so-far : (xs zs : List Order) → Way s bs y xs zs → top ≡ beta s → first ≡ first-key (head-part s k xs)
@@ -182,11 +190,11 @@ module _ (s : Sizes) (bs : List ℕ) (top y : ℕ) where
   }
 
   module _ (k first : ℕ) (d : Down s bs top y k first) where
-    pub down-more : 0 < k → (x : Spot) → Scans s bs k first y x → Down s bs top y (k - 1) (x .last)
-    down-more h x sc = record {
+    pub down-more : 0 < k → (x : Spot) → Reaches s bs k first y x → Down s bs top y (k - 1) (x .last)
+    down-more h x re = record {
       within = omega (arith, d .within);
       so-far = λ xs zs w e.
-          ap (λ (z : Spot). z .last) (seen s bs y xs zs w k h (omega (arith, d .within)) first (d .so-far xs zs w e) x sc)
+          seen s bs y xs zs w k h (omega (arith, d .within)) first (d .so-far xs zs w e) x re .1
           ∙ sym (step-down s (k - 1) xs (up-front xs zs 1 (rising s bs y xs zs w)) ∙ ap (λ (j : ℕ). last-from 0 (head-part s j xs)) up);
     }
       where
@@ -203,8 +211,8 @@ module _ (s : Sizes) (bs : List ℕ) (top y : ℕ) where
   lowering-start = record { down = down-start s bs top y; some = λ h. h }
 
   module _ (k first : ℕ) (d : Lowering s bs top y k first) where
-    pub lowering-more : 1 < k → (x : Spot) → Scans s bs k first y x → Lowering s bs top y (k - 1) (x .last)
-    lowering-more h x sc = record { down = down-more s bs top y k first (d .down) (omega arith) x sc; some = λ g. omega arith }
+    pub lowering-more : 1 < k → (x : Spot) → Reaches s bs k first y x → Lowering s bs top y (k - 1) (x .last)
+    lowering-more h x re = record { down = down-more s bs top y k first (d .down) (omega arith) x re; some = λ g. omega arith }
 
     pub lowering-end : k ≤ 1 → Bottoms s bs top y first
     unfolding Bottoms
@@ -232,14 +240,11 @@ module _ (s : Sizes) (bs : List ℕ) (top l y : ℕ) where
         r + count s k (xs ++ zs) ≡ count s k (xs ++ o ∷ zs)
     level-more h xs o zs w eo et el = go (ltb l k) refl (eqb k l) refl
       where
-        x-is : x ≡ record { below = length (head-part s k xs); last = last-from 0 (head-part s k xs); size = length (head-part s k xs) + length (tail-part s k zs) }
-        x-is = seen s bs y xs zs w k h (omega (arith, g .down .within)) first (g .down .so-far xs zs w et) x sc
-
         size : x .size ≡ length (head-part s k xs) + length (tail-part s k zs)
-        size = ap (λ (z : Spot). z .size) x-is
+        size = seen-size s bs y xs zs w k h (omega (arith, g .down .within)) first (g .down .so-far xs zs w et) x sc
 
         under : x .below ≡ length (head-part s k xs)
-        under = ap (λ (z : Spot). z .below) x-is
+        under = seen s bs y xs zs w k h (omega (arith, g .down .within)) first (g .down .so-far xs zs w et) x (reached s bs k first y x sc) .0
 
         left : suc (x .size - x .below) ≡ suc (length (tail-part s k zs))
         left = omega (arith, size, under)
@@ -271,7 +276,7 @@ module _ (s : Sizes) (bs : List ℕ) (top l y : ℕ) where
     pub growing-more : 0 < k → Growing s bs top l y (k - 1) (sum + r) (x .last)
     unfolding counts
     growing-more h = record {
-      down = down-more s bs top y k first (g .down) h x sc;
+      down = down-more s bs top y k first (g .down) h x (reached s bs k first y x sc);
       few = omega (arith, g .few, gr .few, g .down .within);
       more = λ xs o zs w eo et el.
           let a : top - (k - 1) ≡ suc (top - k) = omega (arith, g .down .within) in

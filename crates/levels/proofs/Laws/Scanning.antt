@@ -10,7 +10,7 @@ use native.Mathlib.Decide.{decLt}
 use native.Mathlib.Omega.{arith}
 use borrow.Author.Tests.{ltb-true, ne-eqb, lt-ltb, le-ltb}
 use lib.Dec.{ltb}
-use lib.ListN.{length, getD, take, drop, length-append, length-take, length-drop}
+use lib.ListN.{length, getD, take, drop, length-append, length-take, length-drop, take-append-drop}
 use lib.Seq.{take-all, take-add}
 use Rattle.sizes.specs.Numbers.{field}
 use Rattle.sizes.specs.Header.{block-long}
@@ -27,10 +27,10 @@ use Rattle.placement.specs.declared.Found.the-variants.{At, Nothing}
 use Rattle.sizes.proofs.Laws.Sizes.{some-nodes}
 use Rattle.placement.proofs.Laws.Tables.{find-told, count-most, count-some, remove-keeps}
 use Rattle.placement.proofs.Laws.Reading.{node-at, count-read, key-read}
-use Rattle.skiplist.proofs.Parts.{Up, below, and-left, and-right}
+use Rattle.skiplist.proofs.Parts.{Up, below, up-front, and-left, and-right}
 use Rattle.skiplist.proofs.Descent.{last-from}
 use Rattle.levels.specs.declared.Spot.{Spot}
-use Rattle.levels.specs.Edit.{Pieces, Scans}
+use Rattle.levels.specs.Edit.{Pieces, Scans, Reaches}
 use Rattle.levels.specs.Scan.{passed, passes}
 
 -- A NODE
@@ -137,6 +137,20 @@ passed-both y ps qs l u =
     ∙ passed-above y y qs (record { below = 0 + length ps; last = last-from 0 ps; size = 0 + length ps }) (omega arith) u
     ∙ (λ i. record { below = a i; last = last-from 0 ps; size = b i })
 
+-- .. or as many as it takes for one that is not below y
+passed-some : (y m : ℕ) (ps qs : List Order) (x : Spot) → below y ps ≡ true → Up y qs → x .size ≤ x .below → (w : Spot) → w ≡ passed-all y (take m (ps ++ qs)) x →
+    w .below < w .size → (w .below ≡ x .below + length ps) × (w .last ≡ last-from (x .last) ps)
+unfolding passed-all below last-from
+passed-some y m [] qs x l u e w ew h =
+    let z = ew ∙ passed-above y y (take m qs) x (omega arith) (up-front (take m qs) (drop m qs) y (rw take-append-drop u)) in
+    (omega (arith, ap (λ (v : Spot). v .below) z), ap (λ (v : Spot). v .last) z)
+passed-some y zero (p ∷ ps) qs x l u e w ew h = absurd (omega (arith, ap (λ (v : Spot). v .below) ew, ap (λ (v : Spot). v .size) ew))
+passed-some y (suc m) (p ∷ ps) qs x l u e w ew h =
+    let lt = ltb-true (p .key) y (and-left (ltb (p .key) y) (below y ps) l) in
+    let r = passed-some y m ps qs (record { below = x .below + 1; last = p .key; size = x .size + 1 }) (and-right (ltb (p .key) y) (below y ps) l) u (omega arith) w
+    (ew ∙ ap (passed-all y (take m (ps ++ qs))) (sym (passed-low (p .key) y x lt))) h in
+    (omega (arith, r .0), r .1)
+
 -- the keys that stand in bytes are those of some nodes
 keys-read : (bs : List ℕ) (y : ℕ) (ns : List Order) (a : ℕ) (x : Spot) → ((j : ℕ) → j < length ns → field (a + 12 * j) 4 bs ≡ node-at ns j .key) →
     passes bs (length ns) a y x ≡ passed-all y ns x
@@ -209,6 +223,12 @@ scanning-start s bs k f y =
     none : 0 ≡ 0 * s .nodes
     none = omega arith
 
+-- what a scan says, as far as a reach says it
+pub reached : (s : Sizes) (bs : List ℕ) (k f y : ℕ) (z : Spot) → Scans s bs k f y z → Reaches s bs k f y z
+unfolding Scans Reaches
+reached s bs k f y z sc F n hd ps qs t pos c low high =
+    let e = sc F n hd ps qs t pos c low high in (ap (λ (v : Spot). v .below) e, ap (λ (v : Spot). v .last) e)
+
 -- what a search found
 none-found : (s : Sizes) (F : Map) (w : Label) (bs : List ℕ) (r : Found) → r ≡ Nothing → Finds s F w bs r → nodes-of F w ≡ []
 none-found s F w bs Nothing e (is-none q) = q
@@ -233,6 +253,13 @@ module _ (s : Sizes) (bs : List ℕ) (k f y i : ℕ) (z : Spot) (p : Scanning s 
   unfolding Scans
   scanning-end h F n hd ps qs t pos c low high =
       all-came ps qs (omega (arith, chunks-most s k f pos F n hd bs (ps ++ qs) t c, mul-le-mul-right (s .nodes) h)) low high (p .so-far F n hd (ps ++ qs) t pos c)
+
+  -- a node that is not below y came by
+  pub scanning-past : z .below < z .size → Reaches s bs k f y z
+  unfolding Reaches
+  scanning-past h F n hd ps qs t pos c low high =
+      let r = passed-some y (i * s .nodes) ps qs start low high (omega arith) z (p .so-far F n hd (ps ++ qs) t pos c) h in
+      (omega (arith, r .0), r .1)
 
   module _ (r : Found) (er : r ≡ search-in s bs (record { level = k; first = f; number = i })) where
     finds : (F : Map) (n : ℕ) (hd : List ℕ) → Table s F n hd bs → 0 < k → Finds s F (record { level = k; first = f; number = i }) bs r

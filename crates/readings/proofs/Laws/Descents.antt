@@ -28,7 +28,7 @@ use Rattle.skiplist.proofs.Descent.{tail-above}
 use Rattle.skiplist.proofs.Edits.{beta-least, level-least, head-part, tail-part, part-at, part-right, tail-same}
 use Rattle.table.specs.Walk.{node-of}
 use Rattle.levels.specs.declared.Spot.{Spot}
-use Rattle.levels.specs.Edit.{Scans, Bottoms}
+use Rattle.levels.specs.Edit.{Reaches, Bottoms}
 use Rattle.levels.proofs.Laws.Chunking.{drop-past}
 use Rattle.levels.proofs.Laws.Growing.{Way, seen}
 use Rattle.readings.specs.Visit.{Known, first-enough, with-key}
@@ -171,7 +171,7 @@ module _ (s : Sizes) (bs : List ℕ) (w : Known s bs) (k : ℕ) (pos : 1 ≤ k) 
           ∙ sym (ap (first-enough 0) (between-absent k xs zs b v) ∙ first-nothing))
 
   -- .. and one of level 1 stands behind the nodes below it
-  pub order-low : (l : ℕ) → l ≡ level s k → l ≤ 1 → (top f : ℕ) → top ≡ beta s → Bottoms s bs top k f → (x : Spot) → Scans s bs 1 f k x →
+  pub order-low : (l : ℕ) → l ≡ level s k → l ≤ 1 → (top f : ℕ) → top ≡ beta s → Bottoms s bs top k f → (x : Spot) → Reaches s bs 1 f k x →
       (r : Sought) → r ≡ with-key k (drop (x .below) (part s (orders-in bs) 1 f)) → r ≡ first-enough 0 (between k k (orders-in bs))
   unfolding Bottoms
   order-low l el h top f te bo x sc r e = e ∙ go (place k 1 (orders-in bs) (orders-up s bs w))
@@ -185,8 +185,7 @@ module _ (s : Sizes) (bs : List ℕ) (w : Known s bs) (k : ℕ) (pos : 1 ≤ k) 
           let is : bs ≡ image s (xs ++ zs) = sym (rw q at (w .bytes)) in
           let fe = bo xs zs (w .sizes-made) good fit is b u (omega arith) te in
           let way : Way s bs k xs zs = record { good = w .sizes-made; orders = good; fit = fit; is = is; low = b; high = u; pos = omega arith } in
-          let z = seen s bs k xs zs way 1 (omega arith) (omega (arith, beta-least s)) f fe x sc in
-          ap (λ (j : ℕ). drop j (part s (orders-in bs) 1 f)) (ap (λ (y : Spot). y .below) z)
+          ap (λ (j : ℕ). drop j (part s (orders-in bs) 1 f)) (seen s bs k xs zs way 1 (omega arith) (omega (arith, beta-least s)) f fe x sc .0)
           ∙ ap (drop (length (head-part s 1 xs))) (rw (q, fe) (part-at s 1 xs zs u1))
           ∙ drop-at (head-part s 1 xs) (tail-part s 1 zs) (length (head-part s 1 xs)) refl
 
