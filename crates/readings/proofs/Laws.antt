@@ -3,6 +3,7 @@ pub mod Visits
 pub mod Rows
 pub mod Chunked
 pub mod Tours
+pub mod Wholes
 pub mod Tallies
 pub mod Answers
 pub mod Replies

@@ -3,7 +3,7 @@
 use mathlib.Core.Path.{_≡_}
 use mathlib.Core.Bool.{Bool, true, false, _&&_, cond}
 use mathlib.Core.List.{List, [], _∷_, _++_, map}
-use Prim.Native.Nat.{ℕ, zero, suc, _+_, _*_}
+use Prim.Native.Nat.{ℕ, zero, suc, _+_, _*_, _-_, _≤_, _<_}
 use lib.Dec.{ltb, leb, eqb}
 use lib.ListN.{length}
 use lib.Seq.{sets}
@@ -84,6 +84,16 @@ pub record Row (s : Sizes) (os : List Order) (l : ℕ) (ns : List Order) : Type 
   pub behind : List Order
   pub there : list-at s l os ≡ before ++ (own ++ behind)
   pub is : ns ≡ map (masked l) own
+
+-- nodes from a place on that are all in the range of a visit that counts or writes, the first and the last by their keys, with room for their rows
+pub record Whole (bs : List ℕ) (a j : ℕ) (v : Visit) (room : ℕ) : Type 0 where
+  pub counts : v .seeks ≡ false
+  pub goes-on : v .ended ≡ false
+  pub some : 0 < j
+  pub low : v .lo ≤ field a 4 bs
+  pub high : field (a + 12 * (j - 1)) 4 bs ≤ v .hi
+  pub few : v .found + j ≤ 65535
+  pub held : v .writes ≡ true → 12 * (v .found + j) ≤ room
 
 -- the next node of a chunk does not come after the lowest key
 unfoldable pub passed-in : List ℕ → (at left lo : ℕ) → Bool

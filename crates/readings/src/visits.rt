@@ -1,11 +1,12 @@
 // Visits: the orders of a table in a range of keys, by rising keys. A partition opens its nodes, and each node opens its partition one level down.
 ghost use mathlib.Core.Path.{_≡_};
+ghost use mathlib.Core.Bool.{true};
 ghost use Prim.Native.Nat.{_+_, _*_, _-_, _≤_};
 ghost use lib.ListN.{length, drop};
 ghost use Rattle.sizes.specs.Sizes.{beta};
 ghost use Rattle.placement.specs.Decode.{nodes-from};
 ghost use Rattle.skiplist.specs.Image.{orders-in};
-ghost use Rattle.readings.specs.Visit.{scan, next-found, more-found, ended-visit, wanted-by, row-in, step-by, steps, Known, Row, passed-in, passed-front, under, all-under};
+ghost use Rattle.readings.specs.Visit.{scan, next-found, more-found, ended-visit, wanted-by, row-in, step-by, steps, Known, Row, Whole, passed-in, passed-front, under, all-under};
 use crate::Visit;
 use placement::Found;
 use placement::Label;
@@ -97,8 +98,86 @@ fn step(o: Order, v: Visit, output: &mut [u8]) -> Visit
     more_found(o, v)
 }
 
-// A partition: its chunks, one after the other, a next one only behind a full one. At level 0 a node stands for itself.
-// A chunk's number has two bytes.
+// Are the nodes from a place on all in the range, and is there room for their rows? Keys rise, so the first and the last of them tell.
+fn whole(table: &[u8], at: usize, left: u32, v: Visit, room: usize) -> bool
+    requires { ⌜ at + 12 * left ≤ length (now table) ⌝ }
+    ensures { λ r. ⌜ (r ≡ true → Whole (now (table .entry)) at left v room) ⌝ }
+{
+    if v.seeks {
+        return false;
+    }
+    if v.ended {
+        return false;
+    }
+    if left == 0 {
+        return false;
+    }
+    if sizes::numbers::be4(table, at) < v.lo {
+        return false;
+    }
+    if v.hi < sizes::numbers::be4(table, at + 12 * ((left - 1) as usize)) {
+        return false;
+    }
+    if 65535 < v.found as u64 + left as u64 {
+        return false;
+    }
+    if !v.writes {
+        return true;
+    }
+    12 * ((v.found + left) as usize) <= room
+}
+
+// They come by together: a node has the bytes of its row.
+fn visit_whole(table: &[u8], s: Sizes, at: usize, left: u32, v: Visit, output: &mut [u8]) -> Visit
+    requires { ⌜ Known s (now table) × Whole (now table) at left v (length (now output)) × (at + 12 * left ≤ length (now table)) × Row s (orders-in (now table)) 1 (nodes-from left (drop at (now table))) ⌝ }
+    ensures { λ r. ⌜ scan r (now (output .exit)) ≡ steps (all-under s (now (table .entry)) 0 (nodes-from left (drop at (now (table .entry))))) (scan v (now (output .entry))) ⌝ }
+{
+    let last = table::walk::node_of(table, at + 12 * ((left - 1) as usize));
+    let w = Visit {
+        lo: v.lo,
+        hi: v.hi,
+        least: v.least,
+        writes: v.writes,
+        seeks: v.seeks,
+        found: v.found + left,
+        ended: v.ended,
+        key: last.key,
+        total: last.total,
+        displayed: last.displayed,
+    };
+    if !v.writes {
+        return w;
+    }
+    sizes::numbers::bring(
+        output,
+        12 * (v.found as usize),
+        table,
+        at,
+        12 * (left as usize),
+    );
+    w
+}
+
+// The nodes of a chunk of level 1 are orders: they come by together or one after the other.
+fn visit_orders(table: &[u8], s: Sizes, at: usize, left: u32, v: Visit, output: &mut [u8]) -> Visit
+    requires { ⌜ Known s (now table) × (at + 12 * left ≤ length (now table)) × Row s (orders-in (now table)) 1 (nodes-from left (drop at (now table))) ⌝ }
+    ensures { λ r. ⌜ scan r (now (output .exit)) ≡ steps (all-under s (now (table .entry)) 0 (nodes-from left (drop at (now (table .entry))))) (scan v (now (output .entry))) ⌝ }
+{
+    if whole(table, at, left, v, output.len()) {
+        return visit_whole(table, s, at, left, v, output);
+    }
+    let mut w = v;
+    let mut place = at;
+    let mut k = left;
+    while 0 < k {
+        w = step(table::walk::node_of(table, place), w, output);
+        place += 12;
+        k -= 1;
+    }
+    w
+}
+
+// A partition: its chunks, one after the other, a next one only behind a full one. A chunk's number has two bytes.
 pub fn visit_partition(
     table: &[u8],
     s: Sizes,
@@ -107,12 +186,9 @@ pub fn visit_partition(
     v: Visit,
     output: &mut [u8],
 ) -> Visit
-    requires { ⌜ Known s (now table) × (level ≤ beta s) × (v .lo ≤ v .hi) ⌝ }
+    requires { ⌜ Known s (now table) × (1 ≤ level) × (level ≤ beta s) × (v .lo ≤ v .hi) ⌝ }
     ensures { λ r. ⌜ scan r (now (output .exit)) ≡ steps (under s (now (table .entry)) level o) (scan v (now (output .entry))) ⌝ }
 {
-    if level == 0 {
-        return step(o, v, output);
-    }
     let mut w = v;
     let mut number: u32 = 0;
     while number < 65536 {
@@ -141,7 +217,7 @@ pub fn visit_partition(
     w
 }
 
-// The nodes of a chunk: each opens its partition one level down, but for those at the front that end before the range starts.
+// The nodes of a chunk, but for those at the front that end before the range starts. Above level 1 each opens its partition one level down.
 pub fn visit_nodes(
     table: &[u8],
     s: Sizes,
@@ -155,9 +231,12 @@ pub fn visit_nodes(
     ensures { λ r. ⌜ scan r (now (output .exit)) ≡ steps (all-under s (now (table .entry)) (level - 1) (nodes-from left (drop at (now (table .entry))))) (scan v (now (output .entry))) ⌝ }
 {
     let n = skipped(table, at, left, v.lo);
-    let mut w = v;
     let mut place = at + 12 * (n as usize);
     let mut k = left - n;
+    if level == 1 {
+        return visit_orders(table, s, place, k, v, output);
+    }
+    let mut w = v;
     while 0 < k {
         if w.ended {
             return w;

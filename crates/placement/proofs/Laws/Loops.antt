@@ -134,7 +134,7 @@ past-search s bs w home i j r eh h ei ej hj er =
     let look = label-in (block-long s) bs in
     let m = s .blocks in
     let there : probe look m w m home ≡ probe look m w (m - (i - home)) i =
-        past-probe look m w (m - home) m home (omega arith) (omega arith) ∙ ap (λ (x : ℕ). probe look m w (m - (x - home)) x) (sym ei) in
+    past-probe look m w (m - home) m home (omega arith) (omega arith) ∙ ap (λ (x : ℕ). probe look m w (m - (x - home)) x) (sym ei) in
     home-search s bs w home r eh (er ∙ probe-round look m w (m - (i - home)) j i (mod-eq-of-lt hj ∙ ej) ∙ sym there)
 
 -- what the loop of `past_lower` keeps

@@ -45,6 +45,15 @@ length-kept os v w x z e = ap (λ (q : Scan). length (q .output)) e ∙ steps-le
 pub step-long : (o : Order) (v w : Visit) (x z : List ℕ) → scan w z ≡ step-by o (scan v x) → length z ≡ length x
 step-long o v w x z e = ap (λ (q : Scan). length (q .output)) e ∙ step-length o (scan v x)
 
+-- at level 1, and above it
+pub row-one : (s : Sizes) (os : List Order) (l : ℕ) (ns : List Order) → l ≡ 1 → Row s os l ns → Row s os 1 ns
+row-one s os l ns e r = subst (λ (i : ℕ). Row s os i ns) e r
+
+pub two-least : (l : ℕ) → 1 ≤ l → (l ≡ 1 → ⊥) → 1 ≤ l - 1
+two-least zero h ne = absurd (omega arith)
+two-least (suc zero) h ne = absurd (ne refl)
+two-least (suc (suc l)) h ne = omega arith
+
 -- NODES
 module _ (s : Sizes) (bs : List ℕ) (l a j : ℕ) where
   nodes-next : (j ≡ 0 → ⊥) → nodes-from j (drop a bs) ≡ node-of bs a ∷ nodes-from (j - 1) (drop (a + 12) bs)
@@ -125,6 +134,12 @@ module _ (s : Sizes) (bs : List ℕ) (l a j : ℕ) where
   module _ (x : Scan) (k place : ℕ) (w : Visit) (z : List ℕ) (p : Nodding s bs l a j x k place (scan w z)) where
     pub nodding-ended : w .ended ≡ true → scan w z ≡ steps (all-under s bs (l - 1) (nodes-from j (drop a bs))) x
     nodding-ended e = visit-ended s bs l place k w z e ∙ sym (p .rest)
+
+    pub nodding-orders : l ≡ 1 → (r : Visit) (y : List ℕ) → scan r y ≡ steps (all-under s bs 0 (nodes-from k (drop place bs))) (scan w z) →
+        scan r y ≡ steps (all-under s bs (l - 1) (nodes-from j (drop a bs))) x
+    nodding-orders e r y h =
+        let o : 0 ≡ l - 1 = omega arith in
+        h ∙ ap (λ (i : ℕ). steps (all-under s bs i (nodes-from k (drop place bs))) (scan w z)) o ∙ sym (p .rest)
 
     pub nodding-end : k ≤ 0 → scan w z ≡ steps (all-under s bs (l - 1) (nodes-from j (drop a bs))) x
     nodding-end h = visit-none s bs l place k w z (omega arith) ∙ sym (p .rest)
@@ -236,23 +251,19 @@ abbrev left-of : Sizes → List ℕ → (l : ℕ) → Order → (i : ℕ) → Li
 left-of s bs l o i = drop (i * s .nodes) (part s (orders-in bs) l (o .key))
 
 pub record Going (s : Sizes) (bs : List ℕ) (l : ℕ) (o : Order) (x : Scan) (i : ℕ) (y : Scan) : Type 0 where
-  pub above : l ≡ 0 → ⊥
+  pub above : 1 ≤ l
   pub range : y .visit .lo ≤ y .visit .hi
   pub long : length (y .output) ≡ length (x .output)
   pub rest : steps (under s bs l o) x ≡ steps (all-under s bs (l - 1) (left-of s bs l o i)) y
 
 module _ (s : Sizes) (bs : List ℕ) (l : ℕ) (o : Order) (v : Visit) (x : List ℕ) where
-  pub going-zero : l ≡ 0 → (w : Visit) (z : List ℕ) → scan w z ≡ step-by o (scan v x) → scan w z ≡ steps (under s bs l o) (scan v x)
-  unfolding steps under spread
-  going-zero e w z h = h ∙ ap (λ (i : ℕ). steps (spread s (orders-in bs) i o) (scan v x)) (sym e)
-
-  pub going-start : (l ≡ 0 → ⊥) → v .lo ≤ v .hi → Going s bs l o (scan v x) 0 (scan v x)
+  pub going-start : 1 ≤ l → v .lo ≤ v .hi → Going s bs l o (scan v x) 0 (scan v x)
   unfolding under all-under spread
-  going-start ne h =
+  going-start low h =
       let e : l ≡ suc (l - 1) = omega arith in
       let z : 0 * s .nodes ≡ 0 = zero-mul (s .nodes) in
       record {
-        above = ne;
+        above = low;
         range = h;
         long = refl;
         rest =
@@ -270,19 +281,16 @@ module _ (s : Sizes) (bs : List ℕ) (l : ℕ) (o : Order) (v : Visit) (x : List
     nothing-left e = sym (g .rest ∙ ap (λ (ns : List Order). steps (all-under s bs (l - 1) ns) (scan w y)) e)
 
     module _ (k : Known s bs) (high : l ≤ beta s) where
-      low : 1 ≤ l
-      low = let h = g .above in omega arith
-
       pub going-end : 65536 ≤ i → scan w y ≡ steps (under s bs l o) (scan v x)
-      going-end h = nothing-left (chunk-end s bs k l (o .key) i low high h)
+      going-end h = nothing-left (chunk-end s bs k l (o .key) i (g .above) high h)
 
       module _ (r : Found) (er : r ≡ search-in s bs (record { level = l; first = o .key; number = i })) where
         pub going-none : r ≡ Nothing → scan w y ≡ steps (under s bs l o) (scan v x)
-        going-none e = nothing-left (chunk-none s bs k l (o .key) i low high r er e)
+        going-none e = nothing-left (chunk-none s bs k l (o .key) i (g .above) high r er e)
 
         module _ (b : ℕ) (eb : r ≡ At b) where
           got : Read s bs l b (piece s bs l (o .key) i)
-          got = chunk-read s bs k l (o .key) i low high r er b eb
+          got = chunk-read s bs k l (o .key) i (g .above) high r er b eb
 
           pub chunk-inside : b < s .blocks
           chunk-inside = got .inside
@@ -304,7 +312,7 @@ module _ (s : Sizes) (bs : List ℕ) (l : ℕ) (o : Order) (v : Visit) (x : List
               opens-same : all-under s bs (l - 1) (nodes-from n (drop (at + 8) bs)) ≡ each (spread s (orders-in bs) (l - 1)) (piece s bs l (o .key) i)
               unfolding all-under
               opens-same =
-                  let e : l ≡ suc (l - 1) = omega (arith, low) in
+                  let e : l ≡ suc (l - 1) = omega (arith, g .above) in
                   ap (each (spread s (orders-in bs) (l - 1))) nodes-are
                   ∙ ap (λ (q : ℕ). each (spread s (orders-in bs) (l - 1)) (map (masked q) (piece s bs l (o .key) i))) e
                   ∙ each-masked s (orders-in bs) (orders-up s bs k) (l - 1) (piece s bs l (o .key) i)

@@ -7,7 +7,7 @@ use Rattle.sizes.specs.Numbers.{field}
 use Rattle.sizes.specs.Header.{seed-in}
 use Rattle.sizes.specs.declared.Sizes.{Sizes}
 use Rattle.sizes.proofs.Laws.Numbers.{field-drop}
-use Rattle.sizes.proofs.Laws.HeaderLoops.{Seeded, seeded-start, seeded-more, seeded-end, seed-place, seed-wide}
+use Rattle.sizes.proofs.Laws.HeaderLoops.{Seeded, seeded-start, seeded-more, seeded-end}
 use Rattle.skiplist.specs.Questions.{sizes}
 
 abbrev pub past-13 : List ℕ → List ℕ
@@ -21,7 +21,7 @@ module _ (bs : List ℕ) where
     pub given-more : (v : ℕ) → i < 10 → v ≡ field (4 * i) 4 bs → Seeded (past-13 bs) (set seed i v) (i + 1)
     given-more v h e =
         let f : field (4 * i) 4 bs ≡ field (13 + 4 * i) 4 (past-13 bs) = field-drop (4 * i) 4 13 (past-13 bs) in
-        seeded-more (past-13 bs) seed i s v h (e ∙ f ∙ sym (rw (seed-place i h, seed-wide i h)))
+        seeded-more (past-13 bs) seed i s v h (e ∙ f)
 
     pub given-end : (c b n m : ℕ) → 10 ≤ i → _≡_ {A = Sizes} (record { gamma = c; nodes = b; orders = n; blocks = m; seed = seed }) (sizes c b n m bs)
     unfolding sizes

@@ -12,7 +12,7 @@ highest-requires : tie.Need-highest-requires
 highest-requires c κs = known-sizes _ _ (known-at _ _ (c .before .before .before .before .pre .0) (c .before .read .ensures .0))
 
 visit-partition-requires : tie.Need-visit-partition-requires
-visit-partition-requires c κs = (known-at _ _ (c .before .before .before .before .before .before .pre .0) (c .before .before .before .read .ensures .0), search needs, c .before .before .before .before .before .before .pre .2)
+visit-partition-requires c κs = (known-at _ _ (c .before .before .before .before .before .before .pre .0) (c .before .before .before .read .ensures .0), search needs, search needs, c .before .before .before .before .before .before .pre .2)
 
 same-length : tie.Need-same-length
 same-length c = length-kept _ _ _ _ _ (c .before .before .visit-partition .ensures)

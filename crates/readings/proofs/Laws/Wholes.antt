@@ -1,0 +1,220 @@
+-- Orders of a chunk of level 1 that are all in the range of a visit: they come by together. Assumes nothing.
+use mathlib.Core.Path.{_≡_, refl, sym, ap, _∙_, subst}
+use mathlib.Core.Bool.{Bool, true, false, cond, true≢false}
+use mathlib.Core.List.{List, [], _∷_, _++_, map, append-nil}
+use Prim.Native.Nat.{ℕ, zero, suc, _+_, _*_, _-_, _≤_, _<_}
+use native.Mathlib.Omega.{arith}
+use native.Mathlib.Nat.{add-zero, pos-of-ne-zero}
+use borrow.Author.Tests.{le-leb, le-ltb, leb-true}
+use lib.Dec.{leb}
+use lib.ListN.{length, take, drop, length-drop}
+use lib.Seq.{sets, length-sets}
+use Rattle.sizes.specs.Numbers.{field, rows, rows-in}
+use Rattle.sizes.specs.declared.Sizes.{Sizes}
+use Rattle.sizes.proofs.Laws.Numbers.{Bytes, bytes-drop, field-drop}
+use Rattle.sizes.proofs.Laws.Parts.{sets-append}
+use Rattle.placement.specs.Chunks.{node-bytes, nodes-bytes}
+use Rattle.placement.specs.Decode.{node-in, nodes-from}
+use Rattle.placement.specs.declared.Order.{Order}
+use Rattle.placement.proofs.Laws.Bridge.{node-long}
+use Rattle.placement.proofs.Laws.Decoding.{nodes-again, nodes-count}
+use Rattle.skiplist.specs.Lists.{front, at-least, list-at, masked}
+use Rattle.skiplist.specs.Image.{orders-in}
+use Rattle.skiplist.proofs.Parts.{Up, up-from, up-front, at-least-up}
+use Rattle.skiplist.proofs.Walk.{each, spread}
+use Rattle.table.specs.Walk.{node-of}
+use Rattle.table.proofs.Laws.MaskedKeys.{up-masked}
+use Rattle.readings.specs.declared.Visit.{Visit}
+use Rattle.readings.specs.Visit.{Scan, scan, next-found, more-found, wanted-by, row-in, step-by, steps, Known, Row, Whole, all-under}
+use Rattle.readings.proofs.Laws.Visits.{next-more, wanted-all, told}
+use Rattle.readings.proofs.Laws.Chunked.{nodes-split, orders-up}
+use Rattle.readings.proofs.Laws.Tours.{step-long}
+
+-- A NODE OF LEVEL 1 stands for itself
+pub all-orders : (s : Sizes) (bs : List ℕ) (ns : List Order) → all-under s bs 0 ns ≡ ns
+unfolding all-under each spread
+all-orders s bs [] = refl
+all-orders s bs (n ∷ ns) = ap (λ (z : List Order). n ∷ z) (all-orders s bs ns)
+
+-- THEIR KEYS rise
+up-behind : (xs zs : List Order) (a : ℕ) → Up a (xs ++ zs) → Up 0 zs
+up-behind [] zs a u = up-from zs (omega arith) u
+up-behind (x ∷ xs) zs a u = up-behind xs zs (suc (x .key)) (u .1)
+
+row-up : (s : Sizes) (os : List Order) (l : ℕ) (ns : List Order) → Up 1 os → Row s os l ns → Up 0 ns
+unfolding list-at front
+row-up s os l ns u r =
+    let w : Up 0 (list-at s l os) = (omega arith, at-least-up s l 1 os u) in
+    subst (Up 0) (sym (r .is)) (up-masked l 0 (r .own) (up-front (r .own) (r .behind) 0 (up-behind (r .before) (r .own ++ r .behind) 0 (subst (Up 0) (r .there) w))))
+
+-- the one that comes last
+last-of : Order → List Order → Order
+last-of o [] = o
+last-of o (p ∷ ps) = last-of p ps
+
+last-up : (o : Order) (os : List Order) (a : ℕ) → Up a (o ∷ os) → o .key ≤ last-of o os .key
+unfolding last-of
+last-up o [] a u = omega arith
+last-up o (p ∷ ps) a u = let h = last-up p ps (suc (o .key)) (u .1) in omega (arith, u .1 .0)
+
+-- so many more are found, the last of them this one
+abbrev jumped : Visit → (n : ℕ) → Order → Visit
+jumped v n o =
+    record { lo = v .lo; hi = v .hi; least = v .least; writes = v .writes; seeks = v .seeks; found = v .found + n; ended = v .ended; key = o .key; total = o .total; displayed = o .displayed }
+
+-- rows are written, or not
+abbrev rowed : Bool → List ℕ → (at : ℕ) → List Order → List ℕ
+rowed b x a ns = cond b (sets x a (nodes-bytes ns)) x
+
+-- ONE that is in the range
+module _ (o : Order) (v : Visit) (x : List ℕ) (seeks : v .seeks ≡ false) (goes-on : v .ended ≡ false) (low : v .lo ≤ o .key) (high : o .key ≤ v .hi) (few : v .found < 65535)
+    (room : v .writes ≡ true → 12 * (v .found + 1) ≤ length x) where
+  found-one : more-found o v ≡ jumped v 1 o
+  unfolding more-found
+  found-one = λ i. record { lo = v .lo; hi = v .hi; least = v .least; writes = v .writes; seeks = v .seeks; found = sym (next-more (v .found) few) i; ended = (seeks ∙ sym goes-on) i; key = o .key; total = o .total; displayed = o .displayed }
+
+  one-row : (b : Bool) → v .writes ≡ b → cond b (row-in x (12 * v .found) o) x ≡ rowed b x (12 * v .found) (o ∷ [])
+  unfolding row-in rows
+  one-row false e = refl
+  one-row true e = rw (le-leb (12 * v .found + 12) (length x) (omega (arith, room e)), append-nil)
+
+  step-one : (b : Bool) → v .writes ≡ b → step-by o (scan v x) ≡ scan (jumped v 1 o) (rowed b x (12 * v .found) (o ∷ []))
+  step-one b e =
+      told o v x false false true b goes-on (le-ltb (v .hi) (o .key) high) (sym (wanted-all v o low seeks)) e
+      ∙ ap (λ (z : List ℕ). scan (more-found o v) z) (one-row b e)
+      ∙ ap (λ (w : Visit). scan w (rowed b x (12 * v .found) (o ∷ []))) found-one
+
+-- .. and more
+rows-join : (b : Bool) (x : List ℕ) (n : ℕ) (o : Order) (os : List Order) → rowed b (rowed b x (12 * n) (o ∷ [])) (12 * (n + 1)) os ≡ rowed b x (12 * n) (o ∷ os)
+unfolding rows
+rows-join false x n o os = refl
+rows-join true x n o os =
+    let e : 12 * n + 12 ≡ 12 * (n + 1) = omega arith in
+    rw append-nil (sym (sets-append x (12 * n) (node-bytes o) (nodes-bytes os) ∙ ap (λ (k : ℕ). sets (sets x (12 * n) (node-bytes o)) (12 * n + k) (nodes-bytes os)) (node-long o) ∙ ap (λ (k : ℕ). sets (sets x (12 * n) (node-bytes o)) k (nodes-bytes os)) e))
+
+row-room : (b : Bool) (x : List ℕ) (a : ℕ) (ns : List Order) → length (rowed b x a ns) ≡ length x
+row-room false x a ns = refl
+row-room true x a ns = length-sets x a (nodes-bytes ns)
+
+-- ALL OF THEM
+steps-whole : (o : Order) (os : List Order) (v : Visit) (x : List ℕ) (b : Bool) → v .writes ≡ b → v .seeks ≡ false → v .ended ≡ false → Up (v .lo) (o ∷ os) → last-of o os .key ≤ v .hi →
+    v .found + suc (length os) ≤ 65535 → (v .writes ≡ true → 12 * (v .found + suc (length os)) ≤ length x) →
+    steps (o ∷ os) (scan v x) ≡ scan (jumped v (suc (length os)) (last-of o os)) (rowed b x (12 * v .found) (o ∷ os))
+unfolding steps last-of
+steps-whole o [] v x b eb k g u h f r = step-one o v x k g (u .0) h (omega arith) (λ e. omega (arith, r e)) b eb
+steps-whole o (p ∷ ps) v x b eb k g u h f r =
+    let one = step-one o v x k g (u .0) (omega (arith, last-up o (p ∷ ps) (v .lo) u)) (omega arith) (λ e. omega (arith, r e)) b eb in
+    let y = rowed b x (12 * v .found) (o ∷ []) in
+    let more = steps-whole p ps (jumped v 1 o) y b eb k g (up-from (p ∷ ps) (omega (arith, u .0)) (u .1)) h (omega arith) (λ e. omega (arith, r e, row-room b x (12 * v .found) (o ∷ []))) in
+    let n : v .found + 1 + suc (length ps) ≡ v .found + suc (suc (length ps)) = omega arith in
+    ap (steps (p ∷ ps)) one
+    ∙ more
+    ∙ ap (λ (z : List ℕ). scan (jumped (jumped v 1 o) (suc (length ps)) (last-of p ps)) z) (rows-join b x (v .found) o (p ∷ ps))
+    ∙ (λ i. scan (record { lo = v .lo; hi = v .hi; least = v .least; writes = v .writes; seeks = v .seeks; found = n i; ended = v .ended; key = last-of p ps .key; total = last-of p ps .total; displayed = last-of p ps .displayed }) (rowed b x (12 * v .found) (o ∷ p ∷ ps)))
+
+-- NODES IN BYTES: the last of them
+node-key : (bs : List ℕ) (a : ℕ) → node-of bs a .key ≡ field a 4 bs
+unfolding node-of node-in
+node-key bs a = field-drop 0 4 a bs ∙ ap (λ (i : ℕ). field i 4 bs) (add-zero a)
+
+last-node : (bs : List ℕ) (a j : ℕ) → last-of (node-of bs a) (nodes-from j (drop (a + 12) bs)) ≡ node-of bs (a + 12 * j)
+unfolding last-of rows-in
+last-node bs a zero = let e : a ≡ a + 12 * 0 = omega arith in ap (node-of bs) e
+last-node bs a (suc j) =
+    let e : a + 12 + 12 * j ≡ a + 12 * suc j = omega arith in
+    ap (last-of (node-of bs a)) (nodes-split bs (a + 12) j) ∙ last-node bs (a + 12) j ∙ ap (node-of bs) e
+
+-- what `visit_whole` gives
+module _ (s : Sizes) (bs : List ℕ) (a j : ℕ) (v : Visit) (x : List ℕ) (k : Known s bs) (w : Whole bs a j v (length x)) (room : a + 12 * j ≤ length bs)
+    (row : Row s (orders-in bs) 1 (nodes-from j (drop a bs))) (o : Order) (eo : o ≡ node-of bs (a + 12 * (j - 1))) where
+  ns : List Order
+  ns = nodes-from (j - 1) (drop (a + 12) bs)
+
+  parts : nodes-from j (drop a bs) ≡ node-of bs a ∷ ns
+  unfolding ns
+  parts =
+      let e : j ≡ suc (j - 1) = omega (arith, w .some) in
+      ap (λ (i : ℕ). nodes-from i (drop a bs)) e ∙ nodes-split bs a (j - 1)
+
+  many : suc (length ns) ≡ j
+  unfolding ns
+  many = omega (arith, nodes-count (j - 1) (drop (a + 12) bs), w .some)
+
+  last : last-of (node-of bs a) ns ≡ o
+  unfolding ns
+  last = last-node bs a (j - 1) ∙ sym eo
+
+  rising : Up (v .lo) (node-of bs a ∷ ns)
+  rising =
+      let u = subst (Up 0) parts (row-up s (orders-in bs) 1 (nodes-from j (drop a bs)) (orders-up s bs k) row) in
+      (omega (arith, w .low, node-key bs a), u .1)
+
+  high : last-of (node-of bs a) ns .key ≤ v .hi
+  high = omega (arith, w .high, ap (λ (q : Order). q .key) (last ∙ eo), node-key bs (a + 12 * (j - 1)))
+
+  together : (b : Bool) → v .writes ≡ b → steps (all-under s bs 0 (nodes-from j (drop a bs))) (scan v x) ≡ scan (jumped v j o) (rowed b x (12 * v .found) (nodes-from j (drop a bs)))
+  together b eb =
+      ap (λ (z : List Order). steps z (scan v x)) (all-orders s bs (nodes-from j (drop a bs)) ∙ parts)
+      ∙ steps-whole (node-of bs a) ns v x b eb (w .counts) (w .goes-on) rising high (omega (arith, w .few, many)) (λ e. omega (arith, w .held e, many))
+      ∙ ap (λ (z : List Order). scan (jumped v (suc (length ns)) (last-of (node-of bs a) ns)) (rowed b x (12 * v .found) z)) (sym parts)
+      ∙ ap (λ (q : Order). scan (jumped v (suc (length ns)) q) (rowed b x (12 * v .found) (nodes-from j (drop a bs)))) last
+      ∙ ap (λ (n : ℕ). scan (jumped v n o) (rowed b x (12 * v .found) (nodes-from j (drop a bs)))) many
+
+  pub whole-counts : v .writes ≡ false → scan (jumped v j o) x ≡ steps (all-under s bs 0 (nodes-from j (drop a bs))) (scan v x)
+  whole-counts e = sym (together false e)
+
+  pub whole-writes : v .writes ≡ true → Bytes bs → (z : List ℕ) → z ≡ sets x (12 * v .found) (take (12 * j) (drop a bs)) →
+      scan (jumped v j o) z ≡ steps (all-under s bs 0 (nodes-from j (drop a bs))) (scan v x)
+  whole-writes e b z ez =
+      let l : length (drop a bs) ≡ length bs - a = length-drop a bs in
+      ap (scan (jumped v j o)) (ez ∙ ap (sets x (12 * v .found)) (sym (nodes-again j (drop a bs) (omega arith) (bytes-drop a bs b)))) ∙ sym (together true e)
+
+-- ONE AFTER THE OTHER: k of the j nodes from a on are left, from a place on
+pub record Coming (bs : List ℕ) (a j : ℕ) (x : Scan) (k place : ℕ) (y : Scan) : Type 0 where
+  pub room : place + 12 * k ≤ length bs
+  pub long : length (y .output) ≡ length (x .output)
+  pub rest : steps (nodes-from j (drop a bs)) x ≡ steps (nodes-from k (drop place bs)) y
+
+module _ (bs : List ℕ) (a j : ℕ) where
+  pub coming-start : (v : Visit) (z : List ℕ) → a + 12 * j ≤ length bs → Coming bs a j (scan v z) j a (scan v z)
+  coming-start v z h = record { room = h; long = refl; rest = refl }
+
+  module _ (x : Scan) (k place : ℕ) (w : Visit) (z : List ℕ) (p : Coming bs a j x k place (scan w z)) where
+    pub coming-more : 0 < k → (n : Order) → n ≡ node-of bs place → (w′ : Visit) (z′ : List ℕ) → scan w′ z′ ≡ step-by n (scan w z) → Coming bs a j x (k - 1) (place + 12) (scan w′ z′)
+    unfolding steps
+    coming-more h n en w′ z′ ew =
+        let e : k ≡ suc (k - 1) = omega arith in
+        record {
+          room = omega (arith, p .room);
+          long = step-long n w w′ z z′ ew ∙ p .long;
+          rest =
+              p .rest
+              ∙ ap (λ (i : ℕ). steps (nodes-from i (drop place bs)) (scan w z)) e
+              ∙ ap (λ (ns : List Order). steps ns (scan w z)) (nodes-split bs place (k - 1))
+              ∙ ap (steps (nodes-from (k - 1) (drop (place + 12) bs))) (sym (ew ∙ ap (λ (o : Order). step-by o (scan w z)) en));
+        }
+
+    pub coming-end : (s : Sizes) → k ≤ 0 → scan w z ≡ steps (all-under s bs 0 (nodes-from j (drop a bs))) x
+    unfolding steps rows-in
+    coming-end s h =
+        let e : k ≡ 0 = omega arith in
+        sym
+        (ap (λ (ns : List Order). steps ns x) (all-orders s bs (nodes-from j (drop a bs)))
+        ∙ p .rest
+        ∙ ap (λ (i : ℕ). steps (nodes-from i (drop place bs)) (scan w z)) e)
+
+-- what `whole` says
+module _ (bs : List ℕ) (a j : ℕ) (v : Visit) (m : ℕ) where
+  pub not-whole : false ≡ true → Whole bs a j v m
+  not-whole e = absurd (true≢false (sym e))
+
+  module _ (seeks : v .seeks ≡ false) (ended : v .ended ≡ false) (ne : j ≡ 0 → ⊥) (k : ℕ) (ek : k ≡ field a 4 bs) (lo : v .lo ≤ k) (h : ℕ) (eh : h ≡ field (a + 12 * (j - 1)) 4 bs) (hi : h ≤ v .hi)
+      (few : v .found + j ≤ 65535) where
+    made : (v .writes ≡ true → 12 * (v .found + j) ≤ m) → Whole bs a j v m
+    made f = record { counts = seeks; goes-on = ended; some = pos-of-ne-zero ne; low = omega arith; high = omega arith; few = few; held = f }
+
+    pub whole-counted : v .writes ≡ false → Whole bs a j v m
+    whole-counted e = made (λ w. absurd (true≢false (sym w ∙ e)))
+
+    pub whole-written : leb (12 * (v .found + j)) m ≡ true → Whole bs a j v m
+    whole-written e = made (λ w. leb-true (12 * (v .found + j)) m e)
