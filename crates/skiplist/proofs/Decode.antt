@@ -20,7 +20,8 @@ use Rattle.placement.proofs.Laws.Rows.{rows-back}
 use Rattle.placement.proofs.Laws.Cells.{join, head-label, cut-join}
 use Rattle.placement.proofs.Laws.Bridge.{label-of, Good, free, held, All-good, good-none, good-more, node-long, head-of, all-join, even-all}
 
-node-back : (o : Order) (r : List ℕ) → Fine o → node-in (node-bytes o ++ r) ≡ o
+-- one order, and a row of orders, read back
+pub node-back : (o : Order) (r : List ℕ) → Fine o → node-in (node-bytes o ++ r) ≡ o
 unfolding node-in node-bytes field big
 node-back o r f =
     let k = field-big 4 (o .key) [] (f .key) in
@@ -28,7 +29,7 @@ node-back o r f =
     let d = field-big 4 (o .displayed) [] (f .displayed) in
     λ i. record { key = k i; total = t i; displayed = d i }
 
-nodes-back : (ns : List Order) (r : List ℕ) → Fines ns → nodes-from (length ns) (nodes-bytes ns ++ r) ≡ ns
+pub nodes-back : (ns : List Order) (r : List ℕ) → Fines ns → nodes-from (length ns) (nodes-bytes ns ++ r) ≡ ns
 nodes-back = rows-back 12 node-bytes node-long node-in Fine node-back
 
 nodes-past : (s : Sizes) (c : Chunk) → nodes-from (length (c .nodes)) (drop 8 (block-bytes s (holds c))) ≡ nodes-from (length (c .nodes)) (nodes-bytes (c .nodes) ++ replicate (12 * (s .nodes - length (c .nodes))) 0)

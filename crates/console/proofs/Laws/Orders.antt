@@ -10,18 +10,17 @@ use lib.ListN.{length, drop}
 use borrow.Author.Tests.{leb-true, ltb-true}
 use lib.Seq.{drop-drop}
 use Rattle.lines.specs.Text.{row}
-use Rattle.sizes.specs.Numbers.{big, field, rows-in}
+use Rattle.sizes.specs.Numbers.{field, rows-in}
 use Rattle.sizes.specs.Sizes.{prime}
-use Rattle.placement.specs.Chunks.{node-bytes, nodes-bytes}
+use Rattle.placement.specs.Chunks.{nodes-bytes}
 use Rattle.placement.specs.Maps.{Fine, Fines}
 use Rattle.placement.specs.Decode.{node-in, nodes-from}
 use Rattle.placement.specs.declared.Order.{Order}
-use Rattle.sizes.proofs.Laws.Numbers.{field-big, field-drop}
-use Rattle.placement.proofs.Laws.Rows.{rows-back}
-use Rattle.placement.proofs.Laws.Bridge.{node-long}
+use Rattle.sizes.proofs.Laws.Numbers.{field-drop}
 use Rattle.skiplist.specs.Image.{quantities-good, orders-good, orders-in, is-image}
 use Rattle.skiplist.specs.Questions.{between}
 use Rattle.skiplist.proofs.Parts.{and-left, and-right, Good, good-parts}
+use Rattle.skiplist.proofs.Decode.{nodes-back}
 use Rattle.skiplist.proofs.Third.{image-parts}
 use Rattle.console.specs.Answers.{order-line}
 use Rattle.console.specs.Lent.{Lent}
@@ -87,15 +86,7 @@ fines a lo hi (o ∷ os) e = go (good-parts a o os e) (λ e′. fines (suc (o .k
     go w ih true = (fine a o os w, ih (w .others))
     go w ih false = ih (w .others)
 
-node-back : (o : Order) (r : List ℕ) → Fine o → node-in (node-bytes o ++ r) ≡ o
-unfolding node-in node-bytes field big
-node-back o r f =
-    let k = field-big 4 (o .key) [] (f .key) in
-    let t = field-big 4 (o .total) [] (f .total) in
-    let d = field-big 4 (o .displayed) [] (f .displayed) in
-    λ i. record { key = k i; total = t i; displayed = d i }
-
 pub span-back : (x : List ℕ) (lo hi : ℕ) (r : List ℕ) → is-image x ≡ true
     → nodes-from (length (between lo hi (orders-in x))) (nodes-bytes (between lo hi (orders-in x)) ++ r) ≡ between lo hi (orders-in x)
 span-back x lo hi r e =
-    rows-back 12 node-bytes node-long node-in Fine node-back (between lo hi (orders-in x)) r (fines 1 lo hi (orders-in x) (image-parts x e .orders-kept .good))
+    nodes-back (between lo hi (orders-in x)) r (fines 1 lo hi (orders-in x) (image-parts x e .orders-kept .good))
