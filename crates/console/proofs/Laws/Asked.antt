@@ -14,7 +14,7 @@ use Rattle.sizes.specs.declared.Sizes.{Sizes}
 use Rattle.sizes.proofs.Laws.Numbers.{length-big}
 use Rattle.skiplist.specs.Questions.{sizes}
 use Rattle.table.specs.Calls.{Make-says}
-use Rattle.console.proofs.Laws.Buffers.{take-sets-end}
+use Rattle.placement.proofs.Laws.Cells.{take-sets-end}
 use Rattle.console.specs.Asked.{piece, seed-asked, sizes-asked, long-asked, Make-asked}
 
 -- THE SEED, number by number

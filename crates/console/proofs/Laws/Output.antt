@@ -12,7 +12,7 @@ use Rattle.lines.specs.Text.{Put, row, dash}
 use Rattle.lines.proofs.Laws.Writing.{put-long, row-short, dash-short}
 use Rattle.console.specs.Lent.{Lent}
 use Rattle.console.specs.Output.{Waiting, waiting, room-at, handed-on, with-line, told, handed, text, Said}
-use Rattle.console.proofs.Laws.Buffers.{take-sets-end}
+use Rattle.placement.proofs.Laws.Cells.{take-sets-end}
 
 -- ROOM for a line
 pub room-kept : (used r : ℕ) → used ≤ 65000 → r ≡ used → r ≡ room-at used

@@ -1,16 +1,17 @@
 -- Rows of nodes in bytes: what copies and writes of whole nodes do to the nodes that a row begins with. Assumes nothing.
 use mathlib.Core.Path.{_≡_, refl, sym, ap, _∙_}
 use mathlib.Core.List.{List, [], _∷_, _++_, append-assoc, append-nil}
-use Prim.Native.Nat.{ℕ, zero, suc, _+_, _*_, _-_, _≤_, _<_}
+use Prim.Native.Nat.{ℕ, zero, suc, _+_, _*_, _≤_}
 use native.Mathlib.Nat.{zero-add, suc-add}
 use native.Mathlib.Omega.{arith}
-use lib.ListN.{length, take, drop, length-append, length-take, length-drop}
-use lib.Seq.{sets, sets-eq, take-at, drop-at, take-nil, drop-nil, take-all, take-take, take-add, length-take-le, take-append-add, drop-append-add}
+use lib.ListN.{length, take, drop, length-append}
+use lib.Seq.{sets, take-nil, drop-nil, take-all, take-take, take-append-add, drop-append-add}
 use Rattle.sizes.specs.Numbers.{big, rows}
 use Rattle.placement.specs.Chunks.{node-bytes, nodes-bytes}
 use Rattle.placement.specs.declared.Order.{Order}
 use Rattle.sizes.proofs.Laws.Parts.{sets-append}
 use Rattle.sizes.proofs.Laws.Numbers.{length-big}
+use Rattle.placement.proofs.Laws.Cells.{take-sets-end}
 use Rattle.skiplist.specs.Lists.{masked}
 use borrow.Author.Tests.{eq-eqb, ne-eqb}
 use Rattle.levels.specs.Pour.{Front}
@@ -53,11 +54,6 @@ drop-take : {A : Type 0} (a c : ℕ) (l : List A) → take c (drop a l) ≡ drop
 drop-take zero c l = ap (λ (k : ℕ). take k l) (sym (zero-add c))
 drop-take (suc a) c [] = rw (suc-add, take-nil)
 drop-take (suc a) c (x ∷ l) = rw suc-add (drop-take a c l)
-
-take-sets-end : (l : List ℕ) (a : ℕ) (vs : List ℕ) → a + length vs ≤ length l → take (a + length vs) (sets l a vs) ≡ take a l ++ vs
-take-sets-end l a vs h =
-    let e : length (take a l ++ vs) ≡ a + length vs = length-append (take a l) vs ∙ rw (length-take-le a l (omega arith)) in
-    rw (sets-eq vs l a h) (take-at (take a l ++ vs) (drop (a + length vs) l) (a + length vs) e)
 
 pub front-none : (cs : List ℕ) → Front cs []
 unfolding Front rows

@@ -16,6 +16,12 @@ use Rattle.placement.specs.declared.Label.{Label}
 use Rattle.sizes.specs.Numbers.{rows-in}
 use Rattle.sizes.proofs.Laws.Numbers.{field-part}
 
+-- a list put into a list: what stands before its end
+pub take-sets-end : {A : Type 0} (l : List A) (a : ℕ) (vs : List A) → a + length vs ≤ length l → take (a + length vs) (sets l a vs) ≡ take a l ++ vs
+take-sets-end l a vs h =
+    let e : length (take a l ++ vs) ≡ a + length vs = length-append (take a l) vs ∙ rw (length-take-le a l (omega arith)) in
+    rw (sets-eq vs l a h) (take-at (take a l ++ vs) (drop (a + length vs) l) (a + length vs) e)
+
 unfoldable pub join : List (List ℕ) → List ℕ
 join [] = []
 join (x ∷ xs) = x ++ join xs
