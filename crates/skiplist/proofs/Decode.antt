@@ -21,7 +21,7 @@ use Rattle.placement.proofs.Laws.Cells.{join, head-label, cut-join}
 use Rattle.placement.proofs.Laws.Bridge.{label-of, Good, free, held, All-good, good-none, good-more, node-long, head-of, all-join, even-all}
 
 -- one order, and a row of orders, read back
-pub node-back : (o : Order) (r : List ℕ) → Fine o → node-in (node-bytes o ++ r) ≡ o
+node-back : (o : Order) (r : List ℕ) → Fine o → node-in (node-bytes o ++ r) ≡ o
 unfolding node-in node-bytes field big
 node-back o r f =
     let k = field-big 4 (o .key) [] (f .key) in

@@ -304,48 +304,49 @@ spots-tail s l (z ∷ zs) pre os e = go (spots-tail s l zs (pre ++ z ∷ []) os 
     go ih true false f = rw f (record { before = pre; behind = zs; is = e }, ih)
     go ih false r f = ih
 
+-- nodes that head a partition of level l: the front, and orders of a level above
+abbrev pub Heading : Sizes → List Order → (l : ℕ) → Order → Type 0
+Heading s os l x = (x ≡ front) ⊎ (Spot x os × (l < level s (x .key)))
+
+pub record Headed (s : Sizes) (os : List Order) (l : ℕ) (x : Order) : Type 0 where
+  pub ns : List Order
+  pub is : part s os l (x .key) ≡ x ∷ ns
+  pub exact : Exact s l ns
+  pub spots : Spots ns os
+
+pub headed : (s : Sizes) (os : List Order) → Up 1 os → (l : ℕ) (x : Order) → Heading s os l x → Headed s os l x
+unfolding front
+headed s os u l x (inl e) =
+    record {
+      ns = tail-part s l os;
+      is = subst (λ (z : Order). part s os l (z .key) ≡ z ∷ tail-part s l os) (sym e) (part-front s (λ a b. []) l os u);
+      exact = exact-tail s l os;
+      spots = spots-tail s l os [] os refl;
+    }
+headed s os u l x (inr w) =
+    let zs = w .0 .behind in
+    let xs = w .0 .before in
+    record {
+      ns = tail-part s l zs;
+      is = ap (λ (z : List Order). part s z l (x .key)) (w .0 .is) ∙ part-right s l xs x zs (subst (Up 1) (w .0 .is) u) (w .1);
+      exact = exact-tail s l zs;
+      spots = spots-tail s l zs (xs ++ x ∷ []) os (w .0 .is ∙ sym (append-assoc xs (x ∷ []) zs));
+    }
+
 module _ (s : Sizes) (os : List Order) (u : Up 1 os) where
-  abbrev IsNode : (l : ℕ) → Order → Type 0
-  IsNode l x = (x ≡ front) ⊎ (Spot x os × (l < level s (x .key)))
-
-  record Opened (l : ℕ) (x : Order) : Type 0 where
-    ns : List Order
-    is : part s os l (x .key) ≡ x ∷ ns
-    exact : Exact s l ns
-    spots : Spots ns os
-
-  opened-here : (l : ℕ) (x : Order) → IsNode l x → Opened l x
-  unfolding front
-  opened-here l x (inl e) =
-      record {
-        ns = tail-part s l os;
-        is = subst (λ (z : Order). part s os l (z .key) ≡ z ∷ tail-part s l os) (sym e) (part-front s (λ a b. []) l os u);
-        exact = exact-tail s l os;
-        spots = spots-tail s l os [] os refl;
-      }
-  opened-here l x (inr w) =
-      let zs = w .0 .behind in
-      let xs = w .0 .before in
-      record {
-        ns = tail-part s l zs;
-        is = ap (λ (z : List Order). part s z l (x .key)) (w .0 .is) ∙ part-right s l xs x zs (subst (Up 1) (w .0 .is) u) (w .1);
-        exact = exact-tail s l zs;
-        spots = spots-tail s l zs (xs ++ x ∷ []) os (w .0 .is ∙ sym (append-assoc xs (x ∷ []) zs));
-      }
-
-  nodes-part : (l : ℕ) → ((x : Order) → IsNode l x → Walks s (part s os) l x (spread s os l x)) → (ns : List Order) → Exact s (suc l) ns → Spots ns os → Nodes s (part s os) (Walks s (part s os) l) ns (each (spread s os l) ns)
+  nodes-part : (l : ℕ) → ((x : Order) → Heading s os l x → Walks s (part s os) l x (spread s os l x)) → (ns : List Order) → Exact s (suc l) ns → Spots ns os → Nodes s (part s os) (Walks s (part s os) l) ns (each (spread s os l) ns)
   unfolding each
   nodes-part l f [] e w = refl
   nodes-part l f (n ∷ ns) e w = (spread s os l n, each (spread s os l) ns, refl, f n (inr (w .0, omega (arith, e .0))), nodes-part l f ns (e .1) (w .1))
 
-  pub walks-part : (l : ℕ) (x : Order) → IsNode l x → Walks s (part s os) l x (spread s os l x)
+  pub walks-part : (l : ℕ) (x : Order) → Heading s os l x → Walks s (part s os) l x (spread s os l x)
   unfolding spread each
   walks-part zero x h = refl
   walks-part (suc l) x h =
-      let w = opened-here (suc l) x h in
+      let w = headed s os u (suc l) x h in
       (x, w .ns, w .is, refl, w .exact, (spread s os l x, each (spread s os l) (w .ns), ap (each (spread s os l)) (w .is), walks-part l x (lower h), nodes-part l (walks-part l) (w .ns) (w .exact) (w .spots)))
     where
-      lower : IsNode (suc l) x → IsNode l x
+      lower : Heading s os (suc l) x → Heading s os l x
       lower (inl e) = inl e
       lower (inr v) = inr (v .0, omega (arith, v .1))
 

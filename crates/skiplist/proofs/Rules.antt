@@ -19,6 +19,7 @@ use Rattle.placement.proofs.Laws.Store.{before-store}
 use Rattle.placement.proofs.Laws.Placed.{Rising, store-count, nothing, one-placement}
 use Rattle.placement.proofs.Laws.Labels.{labels-chain, labels-strict, home-inside}
 use Rattle.placement.proofs.Laws.Maps.{one-place}
+use Rattle.placement.proofs.Laws.Tables.{how-many-most}
 use Rattle.sizes.proofs.Laws.Sizes.{some-blocks}
 use Rattle.skiplist.specs.Lists.{chunks, blocks}
 use Rattle.skiplist.specs.Image.{image, orders-in, orders-good, fits, is-image}
@@ -29,12 +30,6 @@ use Rattle.skiplist.proofs.Rising.{chunks-rising}
 use Rattle.skiplist.proofs.Third.{image-parts}
 use Rattle.skiplist.proofs.Readback.{reads-back}
 use Rattle.skiplist.proofs.Arranged.{blocks-placing}
-
-most : (bs : List (Block Chunk)) → how-many bs ≤ length bs
-unfolding how-many
-most [] = omega arith
-most (empty ∷ bs) = omega (arith, most bs)
-most (holds c ∷ bs) = omega (arith, most bs)
 
 inside : (bs : List (Block Chunk)) (j : ℕ) (c : Chunk) → getD bs j empty ≡ holds c → j < length bs
 inside [] j c e = absurd (true≢false cc)
@@ -69,7 +64,7 @@ module _ (s : Sizes) (os : List Order) (x : List ℕ) (w : Rules s os x) where
   ruled c k h e l g = w .smaller ((home s c + k) % s .blocks) c e l (λ u le q. omega (arith, steps-apart (s .blocks) (home s c) u k (omega arith) h q))
 
   room : length (chunks s os) ≤ s .blocks
-  room = omega (arith, fewer (s .blocks) some (chunks s os) (w .table) (w .number) (chunks-rising s os (w .good)) stands, most (w .table), w .number)
+  room = omega (arith, fewer (s .blocks) some (chunks s os) (w .table) (w .number) (chunks-rising s os (w .good)) stands, how-many-most (w .table), w .number)
 
   rules-fit : fits s os ≡ true
   rules-fit = fits-make s os (w .few) room

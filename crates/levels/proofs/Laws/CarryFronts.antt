@@ -2,7 +2,6 @@
 use mathlib.Core.Path.{_≡_, refl, sym, ap, _∙_}
 use mathlib.Core.List.{List, [], _∷_, _++_, append-assoc, append-nil}
 use Prim.Native.Nat.{ℕ, zero, suc, _+_, _*_, _≤_}
-use native.Mathlib.Nat.{zero-add, suc-add}
 use native.Mathlib.Omega.{arith}
 use lib.ListN.{length, take, drop, length-append}
 use lib.Seq.{sets, take-nil, drop-nil, take-all, take-take, take-append-add, drop-append-add}
@@ -11,14 +10,11 @@ use Rattle.placement.specs.Chunks.{node-bytes, nodes-bytes}
 use Rattle.placement.specs.declared.Order.{Order}
 use Rattle.sizes.proofs.Laws.Parts.{sets-append}
 use Rattle.sizes.proofs.Laws.Numbers.{length-big}
-use Rattle.placement.proofs.Laws.Cells.{take-sets-end}
+use Rattle.placement.proofs.Laws.Cells.{take-sets-end, drop-take}
+use Rattle.placement.proofs.Laws.Bridge.{node-long, nodes-long}
 use Rattle.skiplist.specs.Lists.{masked}
 use borrow.Author.Tests.{eq-eqb, ne-eqb}
 use Rattle.levels.specs.Pour.{Front}
-
-node-long : (o : Order) → length (node-bytes o) ≡ 12
-unfolding node-bytes big
-node-long o = refl
 
 pub nodes-append : (a b : List Order) → nodes-bytes (a ++ b) ≡ nodes-bytes a ++ nodes-bytes b
 unfolding rows
@@ -28,11 +24,6 @@ nodes-append (o ∷ a) b = rw (nodes-append a b, append-assoc)
 pub nodes-one : (o : Order) → nodes-bytes (o ∷ []) ≡ node-bytes o
 unfolding rows
 nodes-one o = append-nil (node-bytes o)
-
-pub nodes-long : (a : List Order) → length (nodes-bytes a) ≡ 12 * length a
-unfolding rows
-nodes-long [] = refl
-nodes-long (o ∷ a) = length-append (node-bytes o) (nodes-bytes a) ∙ omega (arith, node-long o, nodes-long a)
 
 pub nodes-take : (n : ℕ) (a : List Order) → take (12 * n) (nodes-bytes a) ≡ nodes-bytes (take n a)
 unfolding rows
@@ -50,11 +41,6 @@ nodes-drop (suc n) (o ∷ a) =
     let e : 12 * suc n ≡ length (node-bytes o) + 12 * n = omega (arith, node-long o) in
     rw (e, drop-append-add, nodes-drop n a)
 
-drop-take : {A : Type 0} (a c : ℕ) (l : List A) → take c (drop a l) ≡ drop a (take (a + c) l)
-drop-take zero c l = ap (λ (k : ℕ). take k l) (sym (zero-add c))
-drop-take (suc a) c [] = rw (suc-add, take-nil)
-drop-take (suc a) c (x ∷ l) = rw suc-add (drop-take a c l)
-
 pub front-none : (cs : List ℕ) → Front cs []
 unfolding Front rows
 front-none cs = refl
@@ -65,11 +51,11 @@ unfolding Front
 front-part cs c a n f h =
     let e : 12 * a + 12 * n ≡ 12 * (a + n) = omega arith in
     let m : 12 * (a + n) ≤ 12 * length c = omega arith in
-    drop-take (12 * a) (12 * n) cs
+    sym (drop-take (12 * a) (12 * n) cs)
     ∙ ap (λ (z : ℕ). drop (12 * a) (take z cs)) e
     ∙ ap (drop (12 * a)) (sym (take-take (12 * (a + n)) (12 * length c) cs m) ∙ ap (take (12 * (a + n))) f ∙ nodes-take (a + n) c)
     ∙ nodes-drop a (take (a + n) c)
-    ∙ ap (λ (z : List Order). nodes-bytes z) (sym (drop-take a n c))
+    ∙ ap (λ (z : List Order). nodes-bytes z) (drop-take a n c)
 
 pub front-first : (cs : List ℕ) (c : List Order) (n : ℕ) → Front cs c → n ≤ length c → take (12 * n) (drop 0 cs) ≡ nodes-bytes (take n c)
 front-first cs c n f h = front-part cs c 0 n f (omega arith)

@@ -1,24 +1,22 @@
 -- The quantities of one node changed in place. Assumes nothing.
-use mathlib.Core.Path.{_≡_, refl, sym, ap, _∙_, subst}
+use mathlib.Core.Path.{_≡_, refl, sym, ap, _∙_}
 use mathlib.Core.Logic.{_≢_}
-use mathlib.Core.Bool.{true, false, true≢false}
+use mathlib.Core.Bool.{true≢false}
 use mathlib.Core.List.{List, [], _∷_, _++_, append-assoc}
 use Prim.Native.Nat.{ℕ, zero, suc, _+_, _*_, _-_, _/_, _%_, _≤_, _<_}
 use native.Mathlib.Decide.{ℕ-discrete, decLt}
 use native.Mathlib.Nat.{zero-add, add-assoc, mod-lt, suc-mul, mul-le-mul-right}
 use native.Mathlib.Omega.{arith}
-use lib.ListN.{length, take, drop, replicate, length-append, length-drop, length-take, take-append-drop}
+use lib.ListN.{length, take, drop, replicate, length-append, length-drop, take-append-drop}
 use lib.Seq.{sets, sets-eq, length-sets, take-at, drop-at, take-add, take-take, drop-drop, drop-append-le, length-take-le}
 use Rattle.sizes.specs.Numbers.{big, rows}
-use Rattle.placement.specs.Blocks.{holds}
 use Rattle.sizes.specs.Header.{block-long}
 use Rattle.sizes.specs.Parts.{block-in, put-block}
-use Rattle.placement.specs.Chunks.{block-bytes, node-bytes, nodes-bytes}
-use Rattle.placement.specs.Place.{Shaped, search-in, block-with, head-bytes}
-use Rattle.placement.specs.Maps.{Map, Table, Fine, Fines, Finds, is-at, is-none, Holdable, labelled, nodes-of, with-nodes}
+use Rattle.placement.specs.Chunks.{node-bytes, nodes-bytes}
+use Rattle.placement.specs.Place.{search-in, block-with, head-bytes}
+use Rattle.placement.specs.Maps.{Map, Table, Fine, Finds, is-at, is-none, Holdable, labelled, with-nodes}
 use Rattle.sizes.specs.declared.Sizes.{Sizes}
 use Rattle.placement.specs.declared.Order.{Order}
-use Rattle.placement.specs.declared.Label.{Label}
 use Rattle.placement.specs.declared.Found.{Found}
 use Rattle.placement.specs.declared.Found.the-variants.{At, Nothing}
 use Rattle.sizes.proofs.Laws.Numbers.{length-big}
@@ -27,8 +25,10 @@ use Rattle.sizes.proofs.Laws.Bytes.{block-end}
 use Rattle.placement.proofs.Laws.Edits.{block-written}
 use Rattle.placement.proofs.Laws.Tables.{find-told, write-keeps, shaped}
 use Rattle.skiplist.proofs.Count.{pieces}
+use Rattle.placement.proofs.Laws.Bridge.{nodes-long}
+use Rattle.placement.proofs.Laws.Loops.{length-head}
 use Rattle.levels.specs.Edit.{Pieces, Elsewhere, Comes-in, Replaces}
-use Rattle.levels.proofs.Laws.CarryFronts.{nodes-append, nodes-one, nodes-long}
+use Rattle.levels.proofs.Laws.CarryFronts.{nodes-append}
 use Rattle.levels.proofs.Laws.Flushes.{fines-take, fines-drop, fines-append, not-none}
 use Rattle.levels.specs.Pour.{at}
 use Rattle.levels.proofs.Laws.Pouring.{with-same, with-other}
@@ -79,10 +79,6 @@ sets-inside l a z w v h g =
     regroup : take a l ++ take z (take w (drop a l)) ++ v ++ (drop (z + length v) (take w (drop a l)) ++ drop w (drop a l))
         ≡ take a l ++ (take z (take w (drop a l)) ++ v ++ drop (z + length v) (take w (drop a l))) ++ drop w (drop a l)
     regroup = simp append-assoc
-
-head-long : (w : Label) (n : ℕ) → length (head-bytes w n) ≡ 8
-unfolding head-bytes big
-head-long w n = refl
 
 -- A BLOCK with one node's quantities changed
 module _ (H Z : List ℕ) (A B : List Order) (y o : Order) (same : y .key ≡ o .key) (a : ℕ) (ea : a ≡ length H + 12 * length A + 4) where
@@ -178,7 +174,7 @@ module _ (s : Sizes) (f m : ℕ) (o : Order) (bs : List ℕ) (two : 2 ≤ s .nod
           ap (λ (u : List ℕ). sets u (8 + 12 * r + 4) (big 4 (o .total) ++ big 4 (o .displayed)))
           (block-was ∙ ap (λ (u : List Order). head-bytes (at 1 f i) (length (F 1 f i)) ++ nodes-bytes u ++ replicate (block-long s - 8 - 12 * length (F 1 f i)) 0) as-was)
           ∙ node-changed (head-bytes (at 1 f i) (length (F 1 f i))) (replicate (block-long s - 8 - 12 * length (F 1 f i)) 0) (take r (F 1 f i)) (drop (suc r) (F 1 f i)) y o key (8 + 12 * r + 4)
-          (omega (arith, la, head-long (at 1 f i) (length (F 1 f i))))
+          (omega (arith, la, length-head (at 1 f i) (length (F 1 f i))))
 
       bytes-are : bs₂ ≡ put-block (block-long s) bs j (block-with (block-long s) (at 1 f i) (length (take r (F 1 f i) ++ o ∷ drop (suc r) (F 1 f i))) (nodes-bytes (take r (F 1 f i) ++ o ∷ drop (suc r) (F 1 f i))))
       unfolding put-block block-in

@@ -93,17 +93,17 @@ pieces-some b (suc n) h g =
         less (suc x) b = omega (arith, less x b, suc-mul x (suc b))
 
 -- half as many as nodes, where a chunk has two or more
+pub number-half : (b m : ℕ) → 2 ≤ b → 2 * (m / b) ≤ m
+number-half b m h = omega (arith, div-mul-le-self m b, less (m / b) b h)
+  where
+    less : (x b : ℕ) → 2 ≤ b → 2 * x ≤ x * b
+    less zero b h = omega arith
+    less (suc x) b h = omega (arith, less x b h, suc-mul x b)
+
 pub pieces-half : (b n : ℕ) → 2 ≤ b → 2 * pieces b n ≤ n + 1
 unfolding pieces
 pieces-half b zero h = omega arith
-pieces-half b (suc n) h = omega (arith, half n b h, div-mul-le-self n b)
-  where
-    half : (n b : ℕ) → 2 ≤ b → 2 * (n / b) ≤ n / b * b
-    half n b h = less (n / b) b h
-      where
-        less : (x b : ℕ) → 2 ≤ b → 2 * x ≤ x * b
-        less zero b h = omega arith
-        less (suc x) b h = omega (arith, less x b h, suc-mul x b)
+pieces-half b (suc n) h = omega (arith, number-half b n h)
 
 -- a quotient of a carry below two chunks
 pub quotient-none : (b n : ℕ) → n < b → n / b ≡ 0

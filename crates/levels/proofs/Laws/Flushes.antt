@@ -1,13 +1,12 @@
 -- A full chunk written from a carry. Assumes nothing.
 use mathlib.Core.Path.{_≡_, refl, sym, ap, _∙_, subst}
 use mathlib.Core.Logic.{_≢_}
-use mathlib.Core.Bool.{true, false, true≢false}
+use mathlib.Core.Bool.{true≢false}
 use mathlib.Core.List.{List, [], _∷_, _++_}
-use Prim.Native.Nat.{ℕ, zero, suc, _+_, _*_, _-_, _≤_, _<_}
+use Prim.Native.Nat.{ℕ, zero, suc, _*_, _-_, _≤_, _<_}
 use native.Mathlib.Omega.{arith}
-use lib.ListN.{length, take, drop, length-take, length-drop}
+use lib.ListN.{length, take, drop, length-drop}
 use lib.Seq.{sets, take-all, length-take-le}
-use Rattle.sizes.specs.Numbers.{rows}
 use Rattle.sizes.specs.Header.{block-long}
 use Rattle.placement.specs.Chunks.{nodes-bytes}
 use Rattle.placement.specs.Place.{free-in, label-in, home-of, inserted}
@@ -18,10 +17,10 @@ use Rattle.placement.specs.declared.Label.{Label}
 use Rattle.placement.specs.declared.Found.{Found}
 use Rattle.placement.proofs.Laws.Tables.{insert-keeps}
 use Rattle.sizes.proofs.Laws.Sizes.{some-nodes}
-use Rattle.levels.specs.Pour.{Front, one, Writable, Flushed, waits, writes, Flushes, Put, Puts}
+use Rattle.levels.specs.Pour.{one, Writable, waits, writes, Flushes, Puts}
 use Rattle.levels.proofs.Laws.Takes.{one-some}
 use Rattle.placement.proofs.Laws.Maps.{Label-is, is, isnt, label-is}
-use Rattle.levels.proofs.Laws.CarryFronts.{front-none, front-part, front-first, front-more, nodes-long}
+use Rattle.levels.proofs.Laws.CarryFronts.{front-none, front-part, front-first, front-more}
 
 pub fines-take : (n : ℕ) (c : List Order) → Fines c → Fines (take n c)
 fines-take zero c f = tt

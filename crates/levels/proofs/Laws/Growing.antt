@@ -1,7 +1,7 @@
 -- Laws of a growth: the chunks of so many nodes, what a key adds at a level, and the way down to it. Assumes nothing.
 use mathlib.Core.Path.{_≡_, refl, sym, ap, _∙_, subst}
 use mathlib.Core.Bool.{Bool, true, false}
-use mathlib.Core.List.{List, [], _∷_, _++_, map}
+use mathlib.Core.List.{List, _∷_, _++_, map, map-append}
 use Prim.Native.Nat.{ℕ, zero, suc, _+_, _*_, _-_, _/_, _≤_, _<_}
 use native.Mathlib.Nat.{div-le-self, div-lt-iff-lt-mul, div-mul-le-self, lt-div-mul-add, le-div-iff-mul-le}
 use native.Mathlib.Omega.{arith}
@@ -17,12 +17,12 @@ use Rattle.placement.specs.declared.Order.{Order}
 use Rattle.sizes.proofs.Laws.Sizes.{some-nodes}
 use Rattle.skiplist.specs.Lists.{masked, first-key, chunks}
 use Rattle.skiplist.specs.Image.{image, orders-good, fits}
-use Rattle.skiplist.proofs.Parts.{Up, below, up-from, up-front, good-up, and-left, and-right, part}
+use Rattle.skiplist.proofs.Parts.{Up, below, up-from, up-front, good-up, part}
 use Rattle.skiplist.proofs.Edits.{head-part, tail-part, part-at, beta-least}
 use Rattle.skiplist.proofs.Descent.{last-from, step-down, start-top, head-below, tail-above}
 use Rattle.skiplist.proofs.Count.{pieces, pieces-up, pieces-cut, count, counts, count-low, count-same, count-high, length-chunks}
 use Rattle.skiplist.proofs.Faithful.{map-is}
-use Rattle.skiplist.proofs.Masks.{map-take, map-drop}
+use Rattle.skiplist.proofs.Masks.{map-take, map-drop, below-masked, up-masked, last-masked}
 use Rattle.skiplist.proofs.Image.{image-keeps}
 use Rattle.levels.specs.declared.Spot.{Spot}
 use Rattle.levels.specs.Edit.{Pieces, Scans, Reaches, Grows, Bottoms}
@@ -105,27 +105,6 @@ module _ (b : ℕ) (pos : 0 < b) (k l : ℕ) (x : Spot) where
       few = omega (arith, pieces-twice b (x .below) (x .size - x .below) pos, ap (pieces b) both, ep, behind, er);
     }
 
--- MASKED NODES have the same keys
-module _ (l : ℕ) where
-  below-masked : (k : ℕ) (xs : List Order) → below k xs ≡ true → below k (map (masked l) xs) ≡ true
-  unfolding below masked
-  below-masked k [] e = refl
-  below-masked k (x ∷ xs) e = rw (and-left (ltb (x .key) k) (below k xs) e) (below-masked k xs (and-right (ltb (x .key) k) (below k xs) e))
-
-  up-masked : (a : ℕ) (xs : List Order) → Up a xs → Up a (map (masked l) xs)
-  unfolding masked
-  up-masked a [] u = tt
-  up-masked a (x ∷ xs) u = (u .0, up-masked (suc (x .key)) xs (u .1))
-
-  last-masked : (k : ℕ) (xs : List Order) → last-from k (map (masked l) xs) ≡ last-from k xs
-  unfolding last-from masked
-  last-masked k [] = refl
-  last-masked k (x ∷ xs) = last-masked (x .key) xs
-
-  map-both : (xs zs : List Order) → map (masked l) (xs ++ zs) ≡ map (masked l) xs ++ map (masked l) zs
-  map-both [] zs = refl
-  map-both (x ∷ xs) zs = rw (map-both xs zs)
-
 -- THE WAY DOWN to a key y in the image of xs, below it, and zs, not below it
 pub record Way (s : Sizes) (bs : List ℕ) (y : ℕ) (xs zs : List Order) : Type 0 where
   pub good : made s ≡ true
@@ -149,7 +128,7 @@ module _ (s : Sizes) (bs : List ℕ) (y : ℕ) (xs zs : List Order) (w : Way s b
         ∙ map-is s k f i (xs ++ zs) (some-nodes s (w .good)) rising (omega arith) hi
         ∙ ap (λ (l : List Order). map (masked k) (take (s .nodes) (drop (i * s .nodes) l))) (ap (part s (xs ++ zs) k) ef ∙ part-at s k xs zs rising)
         ∙ map-take (masked k) (s .nodes) (drop (i * s .nodes) (head-part s k xs ++ tail-part s k zs))
-        ∙ ap (take (s .nodes)) (map-drop (masked k) (i * s .nodes) (head-part s k xs ++ tail-part s k zs) ∙ ap (drop (i * s .nodes)) (map-both k (head-part s k xs) (tail-part s k zs)))
+        ∙ ap (take (s .nodes)) (map-drop (masked k) (i * s .nodes) (head-part s k xs ++ tail-part s k zs) ∙ ap (drop (i * s .nodes)) (map-append (masked k) (head-part s k xs) (tail-part s k zs)))
 
     kept : Table s (map-of (chunks s (xs ++ zs))) (length (chunks s (xs ++ zs))) (header s (length (xs ++ zs))) bs
     kept =

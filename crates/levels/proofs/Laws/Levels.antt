@@ -1,37 +1,29 @@
 -- What the edits of one level do: a key put into its partition or taken out of it, a partition split or joined. Assumes nothing.
-use mathlib.Core.Path.{_≡_, refl, sym, ap, _∙_, subst}
-use mathlib.Core.Logic.{_≢_}
+use mathlib.Core.Path.{_≡_, refl, sym, ap, _∙_}
 use mathlib.Core.Bool.{Bool, true, false, cond}
-use mathlib.Core.List.{List, [], _∷_, _++_, append-assoc, append-nil}
-use Prim.Native.Nat.{ℕ, zero, suc, _+_, _*_, _-_, _/_, _%_, _≤_, _<_}
-use native.Mathlib.Decide.{ℕ-discrete, decLt}
-use native.Mathlib.Nat.{zero-add, div-add-mod', mod-lt, div-mul-le-self, suc-mul, zero-mul, mul-le-mul-right}
+use mathlib.Core.List.{List, [], _∷_, _++_, append-assoc}
+use Prim.Native.Nat.{ℕ, suc, _+_, _*_, _-_, _/_, _%_, _≤_, _<_}
+use native.Mathlib.Nat.{div-add-mod', mod-lt}
 use native.Mathlib.Numerals.{add-one}
 use native.Mathlib.Omega.{arith}
 use lib.Dec.{eqb}
-use lib.ListN.{length, take, drop, length-append, length-drop, length-take}
-use lib.Seq.{sets, length-sets, append-snoc, take-all, take-nil, drop-nil, length-take-le}
-use Rattle.sizes.specs.Header.{block-long}
+use lib.ListN.{length, take, drop, length-append, length-drop}
+use lib.Seq.{sets, length-sets, append-snoc, take-all, length-take-le}
 use Rattle.placement.specs.Chunks.{node-bytes, nodes-bytes}
-use Rattle.placement.specs.Place.{free-in, label-in, home-of, inserted}
-use Rattle.placement.specs.Maps.{Map, Table, Fine, Fines, labelled, nodes-of, with-nodes, cleared}
+use Rattle.placement.specs.Maps.{Fine}
 use Rattle.sizes.specs.declared.Sizes.{Sizes}
 use Rattle.placement.specs.declared.Order.{Order}
-use Rattle.placement.specs.declared.Label.{Label}
-use Rattle.placement.specs.declared.Found.{Found}
 use Rattle.placement.proofs.Laws.Tables.{count-most}
 use Rattle.skiplist.specs.Lists.{masked}
-use Rattle.skiplist.proofs.Count.{pieces, pieces-cut}
+use Rattle.skiplist.proofs.Count.{pieces}
 use Rattle.levels.specs.declared.Spot.{Spot}
-use Rattle.levels.specs.Edit.{Pieces, Elsewhere-both, Room, Comes-in, Splits, Puts-in, Puts-below, Cancels-in, Cancels-below}
+use Rattle.levels.specs.Edit.{Puts-in, Cancels-in}
 use Rattle.levels.specs.Pour.{at, Front, Reads}
 use Rattle.levels.specs.Shift.{Shifts}
 use Rattle.levels.proofs.Laws.CarryFronts.{front-none, front-part, front-first, front-more, nodes-one}
-use Rattle.levels.proofs.Laws.Takes.{one-some, one-none}
-use Rattle.levels.proofs.Laws.Flushes.{fines-take, fines-drop, fines-append, fines-there, not-none}
-use Rattle.levels.proofs.Laws.Chunking.{pieces-none, pieces-skip, pieces-up-to, pieces-half, pieces-first, pieces-full, one-pieces, drop-next, drop-past, take-past}
-use Rattle.levels.proofs.Laws.Pouring.{cleared-same, cleared-other, with-same, with-other}
-use Rattle.levels.proofs.Laws.Replacing.{pieces-at, pieces-from, pieces-join, chunk-low, rest-chunks, pieces-three, kept-long, from-number, chunk-long, kept-most, kept-before, kept-behind, held-inside, held-behind, change-shiftable, change-in}
+use Rattle.levels.proofs.Laws.Flushes.{fines-take, fines-drop, fines-append, fines-there}
+use Rattle.levels.proofs.Laws.Chunking.{pieces-up-to, number-half, pieces-half}
+use Rattle.levels.proofs.Laws.Replacing.{pieces-at, from-number, chunk-long, kept-most, kept-before, kept-behind, held-inside, held-behind, change-shiftable, change-in}
 
 -- SMALL FACTS
 pub fine-masked : (k : ℕ) (o : Order) → Fine o → Fine (masked k o)
@@ -51,13 +43,6 @@ module _ (b m p i r : ℕ) (two : 2 ≤ b) (ei : i ≡ m / b) (er : r ≡ m % b)
   split-less = rw er (mod-lt m (omega arith))
 
 -- the number of a chunk, and of those after it, fit
-pub number-half : (b m : ℕ) → 2 ≤ b → 2 * (m / b) ≤ m
-number-half b m h = omega (arith, div-mul-le-self m b, less (m / b) b h)
-  where
-    less : (x b : ℕ) → 2 ≤ b → 2 * x ≤ x * b
-    less zero b h = omega arith
-    less (suc x) b h = omega (arith, less x b h, suc-mul x b)
-
 pub numbers-fit : (b m w i count : ℕ) → 2 ≤ b → m < 4294967296 → w < 4294967296 → i ≡ m / b → count ≡ pieces b w - (i + 1) → i + 1 + count < 4294967296
 numbers-fit b m w i count two hm hw ei ec = omega (arith, number-half b m two, pieces-half b w two)
 

@@ -1,13 +1,13 @@
 -- A partition split before a key, and a partition joined to the one before it. Assumes nothing.
 use mathlib.Core.Path.{_≡_, refl, sym, ap, _∙_, subst}
 use mathlib.Core.List.{List, [], _∷_, _++_, append-assoc}
-use Prim.Native.Nat.{ℕ, zero, suc, _+_, _*_, _-_, _/_, _%_, _≤_, _<_}
+use Prim.Native.Nat.{ℕ, suc, _+_, _*_, _-_, _/_, _%_, _≤_, _<_}
 use native.Mathlib.Decide.{ℕ-discrete, decLt}
 use native.Mathlib.Nat.{suc-mul, zero-mul, mul-le-mul-right}
 use native.Mathlib.Numerals.{add-one}
 use native.Mathlib.Omega.{arith}
 use lib.ListN.{length, take, drop, length-append, length-drop, length-take, take-append-drop}
-use lib.Seq.{sets, take-all, take-nil, drop-nil, length-take-le, drop-append-le}
+use lib.Seq.{sets, take-all, take-nil, drop-nil, drop-append-le}
 use Rattle.placement.specs.Chunks.{node-bytes, nodes-bytes}
 use Rattle.placement.specs.Maps.{Map, Table, Fines, with-nodes, cleared}
 use Rattle.sizes.specs.declared.Sizes.{Sizes}
@@ -16,16 +16,16 @@ use Rattle.placement.proofs.Laws.Tables.{count-most}
 use Rattle.skiplist.specs.Lists.{masked}
 use Rattle.skiplist.proofs.Count.{pieces, pieces-cut}
 use Rattle.levels.specs.declared.Spot.{Spot}
-use Rattle.levels.specs.Edit.{Pieces, Elsewhere-both, Room, Splits, Puts-below, Cancels-below}
-use Rattle.levels.specs.Pour.{at, Front, one, Reads, Taken, Takes, Pourable, Poured, Pours}
+use Rattle.levels.specs.Edit.{Pieces, Elsewhere-both, Splits, Puts-below, Cancels-below}
+use Rattle.levels.specs.Pour.{at, one, Reads, Taken, Takes, Pourable, Poured, Pours}
 use Rattle.levels.specs.Shift.{Stored, Stores}
 use Rattle.levels.proofs.Laws.CarryFronts.{front-none, front-part, front-more}
-use Rattle.levels.proofs.Laws.Takes.{one-some, one-none}
+use Rattle.levels.proofs.Laws.Takes.{one-some}
 use Rattle.levels.proofs.Laws.Flushes.{fines-drop, fines-append, fines-there, not-none}
-use Rattle.levels.proofs.Laws.Chunking.{pieces-none, pieces-skip, pieces-up-to, pieces-half, pieces-full, one-pieces, drop-past, take-past}
+use Rattle.levels.proofs.Laws.Chunking.{pieces-none, pieces-skip, pieces-up-to, number-half, pieces-half, pieces-full, one-pieces, drop-past, take-past}
 use Rattle.levels.proofs.Laws.Pouring.{cleared-same, cleared-other, with-same, with-other}
-use Rattle.levels.proofs.Laws.Replacing.{pieces-at, pieces-from, pieces-join, chunk-low, rest-chunks, pieces-three, kept-long, from-number, chunk-long, kept-most, kept-before, kept-behind}
-use Rattle.levels.proofs.Laws.Levels.{fine-masked, split-sum, split-less, number-half, carry-split}
+use Rattle.levels.proofs.Laws.Replacing.{pieces-at, pieces-from, pieces-join, chunk-low, rest-chunks, pieces-three, from-number, chunk-long, kept-most, kept-before, kept-behind}
+use Rattle.levels.proofs.Laws.Levels.{fine-masked, split-sum, split-less, carry-split}
 
 -- the last chunk of a list: number i, of the r nodes past i whole chunks
 module _ (b i r : ℕ) (ps : List Order) (e : i * b + r ≡ length ps) (h : r < b) where

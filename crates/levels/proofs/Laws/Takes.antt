@@ -1,8 +1,8 @@
 -- A chunk taken out of a table, its nodes behind those of a carry. Assumes nothing.
 use mathlib.Core.Path.{_≡_, refl, sym, ap, _∙_, subst}
 use mathlib.Core.Logic.{_≢_}
-use mathlib.Core.Bool.{true, false, true≢false}
-use mathlib.Core.List.{List, [], _∷_, _++_, append-nil}
+use mathlib.Core.Bool.{true≢false}
+use mathlib.Core.List.{List, [], _∷_, append-nil}
 use Prim.Native.Nat.{ℕ, zero, suc, _+_, _*_, _-_, _≤_, _<_}
 use native.Mathlib.Omega.{arith}
 use lib.ListN.{length, getD, take, drop, replicate, length-append}
@@ -11,9 +11,9 @@ use Rattle.sizes.specs.Numbers.{big}
 use Rattle.placement.specs.Blocks.{holds}
 use Rattle.sizes.specs.Header.{block-long}
 use Rattle.sizes.specs.Parts.{block-in}
-use Rattle.placement.specs.Chunks.{Chunk, block-bytes, nodes-bytes}
-use Rattle.placement.specs.Place.{Shaped, search-in, bytes, pull, home-of, found-at, taken-out, head-bytes}
-use Rattle.placement.specs.Maps.{Map, Table, Finds, is-at, is-none, Fines, labelled, nodes-of, cleared, without-label, is-label}
+use Rattle.placement.specs.Chunks.{block-bytes, nodes-bytes}
+use Rattle.placement.specs.Place.{search-in, taken-out}
+use Rattle.placement.specs.Maps.{Map, Table, Finds, is-at, is-none, labelled, nodes-of, cleared, without-label}
 use Rattle.sizes.specs.declared.Sizes.{Sizes}
 use Rattle.placement.specs.declared.Order.{Order}
 use Rattle.placement.specs.declared.Label.{Label}
@@ -22,8 +22,9 @@ use Rattle.placement.specs.declared.Found.the-variants.{At, Nothing}
 use Rattle.placement.proofs.Laws.Maps.{Label-is, is, isnt, label-is}
 use Rattle.placement.proofs.Laws.Tables.{find-told, remove-keeps, remove-none, count-some}
 use Rattle.placement.proofs.Laws.Reading.{count-read}
-use Rattle.levels.specs.Pour.{Front, one, Read, Reads, Taken, Takes}
-use Rattle.levels.proofs.Laws.CarryFronts.{front-more, nodes-long}
+use Rattle.placement.proofs.Laws.Bridge.{nodes-long}
+use Rattle.levels.specs.Pour.{one, Read, Reads, Taken, Takes}
+use Rattle.levels.proofs.Laws.CarryFronts.{front-more}
 
 -- a label that is not there is cleared already
 pub cleared-none : (w : Label) (F : Map) → nodes-of F w ≡ [] → cleared w F ≡ F

@@ -45,6 +45,9 @@ pub node-long : (o : Order) → length (node-bytes o) ≡ 12
 unfolding node-bytes big
 node-long o = refl
 
+pub nodes-long : (os : List Order) → length (nodes-bytes os) ≡ 12 * length os
+nodes-long os = length-rows 12 node-bytes node-long os
+
 module _ (s : Sizes) where
   number-of : (c : Chunk) → Holdable s c → field 2 2 (block-bytes s (holds c)) ≡ c .number
   unfolding block-bytes field
@@ -62,13 +65,13 @@ module _ (s : Sizes) where
   head-of (held {c = c} k) = rw (number-of c k, first-of c k)
 
   pub length-nodes : (os : List Order) → length (nodes-bytes os) ≡ 12 * length os
-  length-nodes os = length-rows 12 node-bytes node-long os
+  length-nodes os = nodes-long os
 
   pub length-block : {b : Block Chunk} → Good s b → length (block-bytes s b) ≡ block-long s
   unfolding block-bytes block-long big
   length-block free = length-replicate _ 0
   length-block (held {c = c} k) =
-      simp (length-append, length-nodes, length-replicate) (omega (arith, k .nodes))
+      simp (length-append, nodes-long, length-replicate) (omega (arith, k .nodes))
 
   -- the coding of a block, in 8 bytes and 12 for each node
   pub coding : Coding (block-long s) (block-bytes s) label-of (Good s)

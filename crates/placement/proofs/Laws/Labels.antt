@@ -1,7 +1,7 @@
 -- The order of labels: level, then first key, then chunk number. Assumes nothing.
 use mathlib.Core.Path.{_≡_, refl, sym, _∙_}
 use mathlib.Core.Logic.{_⊎_, inl, inr}
-use mathlib.Core.Bool.{Bool, true, false, _&&_, _||_, true≢false, false≢true}
+use mathlib.Core.Bool.{Bool, true, false, _&&_, _||_, true≢false}
 use Prim.Native.Nat.{zero, _<_}
 use native.Mathlib.Nat.{mod-lt}
 use native.Mathlib.Omega.{arith}
@@ -9,6 +9,7 @@ use lib.Dec.{ltb, eqb}
 use borrow.Author.Tests.{ltb-true, eqb-true, lt-ltb, le-ltb, eq-eqb}
 use Rattle.sizes.specs.declared.Sizes.{Sizes}
 use Rattle.placement.specs.Chunks.{Chunk, home, label-before}
+use Rattle.sizes.proofs.Laws.Sizes.{and-parts}
 use Rattle.sizes.proofs.Laws.Round.{Which, which, less, same, more}
 
 pub data Before (a b : Chunk) : Type 0 where
@@ -19,10 +20,6 @@ pub data Before (a b : Chunk) : Type 0 where
 or-parts : (p q : Bool) → (p || q) ≡ true → (p ≡ true) ⊎ (q ≡ true)
 or-parts true q h = inl refl
 or-parts false q h = inr h
-
-and-parts : (p q : Bool) → (p && q) ≡ true → (p ≡ true) × (q ≡ true)
-and-parts true q h = (refl, h)
-and-parts false q h = absurd (false≢true h)
 
 pub is-before : (a b : Chunk) → label-before a b ≡ true → Before a b
 unfolding label-before

@@ -82,7 +82,8 @@ stored-inside : {A : Type 0} (m : ℕ) (bl : List (Block A)) (i : ℕ) (b : Bloc
 unfolding stored
 stored-inside m bl i b h = ap (λ (x : ℕ). set bl x b) (sym (mod-eq-of-lt h))
 
-how-many-most : (bl : List (Block Chunk)) → how-many bl ≤ length bl
+-- no more blocks hold something than there are
+pub how-many-most : (bl : List (Block Chunk)) → how-many bl ≤ length bl
 unfolding how-many
 how-many-most [] = omega arith
 how-many-most (empty ∷ bl) = omega (arith, how-many-most bl)

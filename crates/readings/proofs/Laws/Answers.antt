@@ -5,17 +5,17 @@ use mathlib.Core.List.{List, [], _∷_, _++_}
 use Prim.Native.Nat.{ℕ, _+_, _*_, _≤_}
 use native.Mathlib.Omega.{arith}
 use lib.Dec.{ltb, leb}
-use lib.ListN.{length, drop, length-append}
+use lib.ListN.{length, drop}
 use lib.Seq.{sets-eq}
 use borrow.Author.Tests.{eq-eqb, ne-eqb, le-leb}
-use Rattle.sizes.specs.Numbers.{rows, big}
 use Rattle.sizes.specs.Sizes.{beta}
 use Rattle.sizes.specs.Header.{header, sizes-in}
-use Rattle.placement.specs.Chunks.{node-bytes, nodes-bytes}
+use Rattle.placement.specs.Chunks.{nodes-bytes}
 use Rattle.placement.specs.Maps.{map-of, Table}
 use Rattle.sizes.specs.declared.Sizes.{Sizes}
 use Rattle.placement.specs.declared.Order.{Order}
 use Rattle.sizes.proofs.Laws.Sizes.{limits}
+use Rattle.placement.proofs.Laws.Bridge.{nodes-long}
 use Rattle.placement.proofs.Laws.Tables.{shaped}
 use Rattle.skiplist.specs.Lists.{front, chunks}
 use Rattle.skiplist.specs.Image.{is-image, orders-in}
@@ -91,11 +91,6 @@ between-few lo hi (o ∷ os) = go (between-few lo hi os) (leb lo (o .key) && leb
     go ih true = omega arith
     go ih false = omega arith
 
-rows-long : (os : List Order) → length (nodes-bytes os) ≡ 12 * length os
-unfolding rows node-bytes big
-rows-long [] = refl
-rows-long (o ∷ os) = let e = rows-long os in simp length-append (omega arith)
-
 module _ (bs : List ℕ) (image : is-image bs ≡ true) (lo hi : ℕ) where
   few : length (between lo hi (orders-in bs)) ≤ 65535
   few =
@@ -118,7 +113,7 @@ module _ (bs : List ℕ) (image : is-image bs ≡ true) (lo hi : ℕ) where
   written-all w x z room e =
       let os = between lo hi (orders-in bs) in
       let t = tally (orders-in bs) 1 (orders-up (sizes-in bs) bs (known-image bs image)) (starting lo hi 0 true false) x refl refl (omega (arith, few)) (λ q. omega arith) in
-      let l = rows-long (between lo hi (orders-in bs)) in
+      let l = nodes-long (between lo hi (orders-in bs)) in
       let n : 0 + length (nodes-bytes (between lo hi (orders-in bs))) ≡ 12 * length (between lo hi (orders-in bs)) = omega arith in (
         ap (λ (y : Scan). y .visit .found) e ∙ t .found ∙ omega arith,
         ap (λ (y : Scan). y .output) e ∙ t .output

@@ -9,10 +9,11 @@ use lib.Dec.{ltb, leb, eqb}
 use lib.ListN.{length}
 use lib.Seq.{sets}
 use borrow.Author.Tests.{ltb-true, ltb-false, leb-true, leb-false, eq-eqb, le-leb, lt-leb, lt-ltb, le-ltb}
-use Rattle.sizes.specs.Numbers.{rows, big}
+use Rattle.sizes.specs.Numbers.{rows}
 use Rattle.placement.specs.Chunks.{node-bytes, nodes-bytes}
 use Rattle.placement.specs.declared.Order.{Order}
 use Rattle.sizes.proofs.Laws.Parts.{sets-append}
+use Rattle.placement.proofs.Laws.Bridge.{node-long}
 use Rattle.skiplist.specs.Questions.{reserve, between}
 use Rattle.skiplist.proofs.Parts.{Up}
 use Rattle.skiplist.proofs.Segment.{between-above}
@@ -47,10 +48,6 @@ module _ (lo hi : ℕ) (o : Order) (os : List Order) where
 
   pub between-past : (a : ℕ) → Up a (o ∷ os) → hi < o .key → between lo hi (o ∷ os) ≡ []
   between-past a u h = between-above lo hi (o .key) (o ∷ os) h (omega arith, u .1)
-
-node-long : (o : Order) → length (node-bytes o) ≡ 12
-unfolding node-bytes big
-node-long o = refl
 
 -- COUNTING AND WRITING
 abbrev written : Bool → List ℕ → (found : ℕ) → List Order → List ℕ

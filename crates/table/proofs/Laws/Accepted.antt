@@ -4,17 +4,18 @@ use mathlib.Core.Bool.{true, _&&_}
 use mathlib.Core.List.{List, [], _∷_}
 use Prim.Native.Nat.{ℕ, zero, suc, _+_, _*_, _≤_, _<_}
 use native.Mathlib.Omega.{arith}
-use borrow.Author.Tests.{eq-eqb, ne-eqb, le-leb, lt-ltb, leb-true, eqb-true}
+use borrow.Author.Tests.{eq-eqb, ne-eqb, le-leb, lt-ltb, eqb-true}
 use lib.Dec.{leb, eqb}
 use lib.ListN.{length, take, drop}
 use Rattle.sizes.specs.Numbers.{value-from, field, rows-in}
-use Rattle.sizes.specs.Sizes.{prime, beta, sizes-good, seed-good, made}
-use Rattle.sizes.specs.Header.{block-long, table-long, sizes-in, held-in, rule-1}
+use Rattle.sizes.specs.Sizes.{prime, beta}
+use Rattle.sizes.specs.Header.{block-long, sizes-in, held-in, rule-1}
 use Rattle.placement.specs.Decode.{node-in, nodes-from}
 use Rattle.sizes.specs.declared.Sizes.{Sizes}
 use Rattle.placement.specs.declared.Order.{Order}
 use Rattle.sizes.proofs.Laws.Numbers.{Bytes, bytes-take, bytes-drop}
 use Rattle.sizes.proofs.Laws.Sizes.{and-parts, some-blocks, some-nodes}
+use Rattle.sizes.proofs.Laws.HeaderLoops.{Ruled, ruled}
 use Rattle.skiplist.specs.Lists.{front}
 use Rattle.skiplist.specs.Image.{quantities-good, orders-good}
 use Rattle.skiplist.proofs.Parts.{Up}
@@ -26,39 +27,6 @@ use Rattle.table.specs.Check.{swept, walked, ended, check-passes}
 use Rattle.table.proofs.Laws.Came.{Weighs, Rising, Step, chunk-read}
 use Rattle.table.proofs.Laws.Counted.{tally}
 use Rattle.table.proofs.Laws.Reading.{part-sound, Small, Weighed, opened}
-
--- ---- RULE 1, taken apart
-
-pub record Rule-one (bs : List ℕ) : Type 0 where
-  pub long : 53 ≤ length bs
-  pub good : made (sizes-in bs) ≡ true
-  pub version : field 0 1 bs ≡ 1
-  pub length-field : field 1 4 bs ≡ table-long (sizes-in bs)
-  pub length-is : length bs ≡ table-long (sizes-in bs)
-  pub held : held-in bs ≤ sizes-in bs .orders
-
-ten : (bs : List ℕ) → eqb (length (sizes-in bs .seed)) 10 ≡ true
-unfolding sizes-in rows-in
-ten bs = refl
-
-pub rule-one : (bs : List ℕ) → rule-1 bs ≡ true → Rule-one bs
-unfolding rule-1 made
-rule-one bs e =
-    let s = sizes-in bs in
-    let p1 = and-parts (leb 53 (length bs)) (sizes-good s && (seed-good (s .seed) && (eqb (field 0 1 bs) 1 && (eqb (field 1 4 bs) (table-long s) && (eqb (length bs) (table-long s) && leb (held-in bs) (s .orders)))))) e in
-    let p2 = and-parts (sizes-good s) (seed-good (s .seed) && (eqb (field 0 1 bs) 1 && (eqb (field 1 4 bs) (table-long s) && (eqb (length bs) (table-long s) && leb (held-in bs) (s .orders))))) (p1 .1) in
-    let p3 = and-parts (seed-good (s .seed)) (eqb (field 0 1 bs) 1 && (eqb (field 1 4 bs) (table-long s) && (eqb (length bs) (table-long s) && leb (held-in bs) (s .orders)))) (p2 .1) in
-    let p4 = and-parts (eqb (field 0 1 bs) 1) (eqb (field 1 4 bs) (table-long s) && (eqb (length bs) (table-long s) && leb (held-in bs) (s .orders))) (p3 .1) in
-    let p5 = and-parts (eqb (field 1 4 bs) (table-long s)) (eqb (length bs) (table-long s) && leb (held-in bs) (s .orders)) (p4 .1) in
-    let p6 = and-parts (eqb (length bs) (table-long s)) (leb (held-in bs) (s .orders)) (p5 .1) in
-    record {
-      long = leb-true 53 (length bs) (p1 .0);
-      good = rw (p2 .0, p3 .0) (ten bs);
-      version = eqb-true (field 0 1 bs) 1 (p4 .0);
-      length-field = eqb-true (field 1 4 bs) (table-long s) (p5 .0);
-      length-is = eqb-true (length bs) (table-long s) (p6 .0);
-      held = leb-true (held-in bs) (s .orders) (p6 .1);
-    }
 
 -- ---- totals of four bytes
 
@@ -113,7 +81,7 @@ front-is o e w =
 -- ---- WHAT ACCEPTED BYTES HOLD
 
 pub record Accepted (bs : List ℕ) : Type 0 where
-  pub rule : Rule-one bs
+  pub rule : Ruled bs
   pub clean : swept (sizes-in bs) bs .clean ≡ true
   pub orders : List Order
   pub walk : Walks (sizes-in bs) (part-sound (sizes-in bs) bs) (beta (sizes-in bs)) front (front ∷ orders)
@@ -162,8 +130,8 @@ accepted bs u e = go (passed bs e)
 
     go : Passed bs → Accepted bs
     go p =
-        let r = rule-one bs (p .rule) in
-        let o = opened s bs (small-read s bs u) (some-nodes s (r .good)) (some-blocks s (r .good)) (beta s) front x (weighed-top (beta s) (beta-least s)) (p .ok) in
+        let r = ruled bs (p .rule) in
+        let o = opened s bs (small-read s bs u) (some-nodes s (r .makes)) (some-blocks s (r .makes)) (beta s) front x (weighed-top (beta s) (beta-least s)) (p .ok) in
         let h = shape s (part-sound s bs) (beta s) front (o .seg) (o .walk) in
         let t = subst (λ (q : List Order). Step x q (tally s (part-sound s bs) (beta s) 0) z) (h .whole) (o .step) in
         let f : h .head ≡ front = front-is (h .head) (h .same) (t .rising .2) in

@@ -37,9 +37,9 @@ past k a (o ∷ os) h u =
     let w = past k (suc (o .key)) os (omega (arith, u .0)) (u .1) in
     (t .1 ∙ w .0, t .2 ∙ w .1)
 
-none : (k : ℕ) → held k [] ≡ false
+pub none-held : (k : ℕ) → held k [] ≡ false
 unfolding held
-none k = refl
+none-held k = refl
 
 -- the first of one list is not missing in the other
 missing : (a : ℕ) (o : Order) (os qs : List Order) → Up a qs → o .key < a → Same-orders (o ∷ os) qs → ⊥
@@ -69,8 +69,8 @@ rests o q os qs e u v h k = go (eqb (o .key) k) refl
 pub same-equal : (a : ℕ) (os qs : List Order) → Up a os → Up a qs → Same-orders os qs → os ≡ qs
 unfolding Same-orders
 same-equal a [] [] u v h = refl
-same-equal a [] (q ∷ qs) u v h = absurd (false≢true (sym (none (q .key)) ∙ h (q .key) .0 ∙ here q qs .0))
-same-equal a (o ∷ os) [] u v h = absurd (false≢true (sym (none (o .key)) ∙ sym (h (o .key) .0) ∙ here o os .0))
+same-equal a [] (q ∷ qs) u v h = absurd (false≢true (sym (none-held (q .key)) ∙ h (q .key) .0 ∙ here q qs .0))
+same-equal a (o ∷ os) [] u v h = absurd (false≢true (sym (none-held (o .key)) ∙ sym (h (o .key) .0) ∙ here o os .0))
 same-equal a (o ∷ os) (q ∷ qs) u v h = go (ltb (o .key) (q .key)) refl (ltb (q .key) (o .key)) refl (λ r. same-equal (suc (q .key)) os qs r (v .1))
   where
     go : (t : Bool) → ltb (o .key) (q .key) ≡ t → (t′ : Bool) → ltb (q .key) (o .key) ≡ t′ → (Up (suc (q .key)) os → Same-orders os qs → os ≡ qs) → _≡_ {A = List Order} (o ∷ os) (q ∷ qs)

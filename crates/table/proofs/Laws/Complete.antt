@@ -28,7 +28,7 @@ use Rattle.sizes.proofs.Laws.Sizes.{and-parts, some-blocks, some-nodes, limits}
 use Rattle.placement.proofs.Laws.Reading.{node-at, count-read, key-read, total-read, displayed-read}
 use Rattle.placement.proofs.Laws.Blocks.{around-inside}
 use Rattle.sizes.proofs.Laws.Headers.{header-long}
-use Rattle.placement.proofs.Laws.Bridge.{Good, free, held, All-good, good-at, length-nodes}
+use Rattle.placement.proofs.Laws.Bridge.{Good, free, held, All-good, good-at, nodes-long}
 use Rattle.placement.proofs.Laws.Edits.{block-bytes-at}
 use Rattle.placement.proofs.Laws.Decoding.{Clean, zeros, filled}
 use Rattle.placement.proofs.Laws.Tables.{sound-blocks, find-told, shaped}
@@ -82,9 +82,6 @@ block-reads s bs i w ns e few fine =
     let q : (a : ℕ) → 53 + i * block-long s + (8 + (12 * j + a)) ≡ 53 + i * block-long s + 8 + (12 * j + a) = λ a. omega arith in
     (rw (← q 0) (key-read s bs i w ns e few fine j h), rw (← q 4) (total-read s bs i w ns e few fine j h), rw (← q 8) (displayed-read s bs i w ns e few fine j h)))
 
-some-list : (ns : List Order) → 0 < length ns → ns ≢ []
-some-list ns h e = omega (arith, ap length e)
-
 none-list : (ns : List Order) → length ns ≡ 0 → ns ≡ []
 none-list [] h = refl
 none-list (n ∷ ns) h = absurd (omega arith)
@@ -101,7 +98,7 @@ module _ (s : Sizes) (F : Map) (n : ℕ) (hd bs : List ℕ) (t : Table s F n hd 
       there (At k) (is-at g full e) p =
           let q = t .sound l f i full in
           (refl, block-reads s bs k w (F l f i) e (q .nodes) (q .fine))
-      there Nothing (is-none z) p = absurd (some-list (F l f i) p z)
+      there Nothing (is-none z) p = absurd (omega (arith, ap length z))
 
       gone : (r : Found) → Finds s F w bs r → length (F l f i) ≡ 0 → found-at r ≡ false
       gone (At k) (is-at g full e) p = absurd (full (none-list (F l f i) p))
@@ -149,7 +146,7 @@ module _ (s : Sizes) (os : List Order) (m : made s ≡ true) (g : orders-good 1 
 
 head-long : (s : Sizes) (c : Chunk) → length ((c .level ∷ length (c .nodes) ∷ []) ++ big 2 (c .number) ++ big 4 (c .first) ++ nodes-bytes (c .nodes)) ≡ 8 + 12 * length (c .nodes)
 unfolding big
-head-long s c = omega (arith, length-nodes s (c .nodes))
+head-long s c = omega (arith, nodes-long (c .nodes))
 
 bytes-clean : (s : Sizes) (b : Block Chunk) → Good s b → ((c : Chunk) → b ≡ holds c → c .nodes ≢ []) → Clean s (block-bytes s b)
 unfolding block-bytes block-long

@@ -2,22 +2,21 @@
 use mathlib.Core.Path.{_≡_, refl, sym, ap, _∙_, subst}
 use mathlib.Core.Bool.{Bool, true, false, cond}
 use mathlib.Core.List.{List, [], _∷_, _++_, append-assoc}
-use mathlib.Core.Logic.{_⊎_, inl, inr}
+use mathlib.Core.Logic.{inl, inr}
 use Prim.Native.Nat.{ℕ, zero, suc, _+_, _≤_, _<_}
 use native.Mathlib.Omega.{arith}
 use lib.ListN.{length}
 use Rattle.sizes.specs.Sizes.{beta}
-use Rattle.sizes.specs.Hash.{level}
 use Rattle.sizes.specs.declared.Sizes.{Sizes}
 use Rattle.placement.specs.declared.Order.{Order}
 use Rattle.skiplist.specs.Lists.{front, at-least, list-at, starts-one, run, rest, first-key, chunks}
 use Rattle.skiplist.proofs.Runs.{partitions-front}
 use Rattle.skiplist.proofs.Parts.{Up, Heads, pick, part, pick-at}
-use Rattle.skiplist.proofs.Edits.{parts-heads, part-right, tail-part}
+use Rattle.skiplist.proofs.Edits.{parts-heads}
 use Rattle.skiplist.proofs.Descent.{none-above}
 use Rattle.skiplist.proofs.Walk.{each, starting, each-part, starting-above}
 use Rattle.skiplist.proofs.Count.{pieces, pieces-all, count, counts, length-chunks}
-use Rattle.skiplist.proofs.Opens.{keys, Exact, exact-tail, part-front, Spot, Spots, spots-tail}
+use Rattle.skiplist.proofs.Opens.{keys, Exact, Spots, Heading, headed}
 
 -- a number for each key, summed over some nodes
 unfoldable pub under : ((key : ℕ) → ℕ) → List Order → ℕ
@@ -96,36 +95,6 @@ module _ (s : Sizes) (os : List Order) (u : Up 1 os) where
   tally-all h =
       let e = none-above s (suc (beta s)) os (omega arith) in
       omega (arith, rw e at (sum-levels (beta s)), length-chunks s os h)
-
--- ---- nodes that head a partition of level l: the front, and orders of a level above
-
-abbrev pub Heading : Sizes → List Order → (l : ℕ) → Order → Type 0
-Heading s os l x = (x ≡ front) ⊎ (Spot x os × (l < level s (x .key)))
-
-pub record Headed (s : Sizes) (os : List Order) (l : ℕ) (x : Order) : Type 0 where
-  pub ns : List Order
-  pub is : part s os l (x .key) ≡ x ∷ ns
-  pub exact : Exact s l ns
-  pub spots : Spots ns os
-
-pub headed : (s : Sizes) (os : List Order) → Up 1 os → (l : ℕ) (x : Order) → Heading s os l x → Headed s os l x
-unfolding front
-headed s os u l x (inl e) =
-    record {
-      ns = tail-part s l os;
-      is = subst (λ (z : Order). part s os l (z .key) ≡ z ∷ tail-part s l os) (sym e) (part-front s (λ a b. []) l os u);
-      exact = exact-tail s l os;
-      spots = spots-tail s l os [] os refl;
-    }
-headed s os u l x (inr w) =
-    let zs = w .0 .behind in
-    let xs = w .0 .before in
-    record {
-      ns = tail-part s l zs;
-      is = ap (λ (z : List Order). part s z l (x .key)) (w .0 .is) ∙ part-right s l xs x zs (subst (Up 1) (w .0 .is) u) (w .1);
-      exact = exact-tail s l zs;
-      spots = spots-tail s l zs (xs ++ x ∷ []) os (w .0 .is ∙ sym (append-assoc xs (x ∷ []) zs));
-    }
 
 -- ---- partitions with the same keys
 

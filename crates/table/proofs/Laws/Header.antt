@@ -8,7 +8,7 @@ use lib.Seq.{drop-cons}
 use Rattle.sizes.specs.Numbers.{big, value-from, field, rows, rows-in}
 use Rattle.sizes.specs.Header.{table-long, header, seed-bytes, seed-in, sizes-in, held-in}
 use Rattle.sizes.proofs.Laws.Numbers.{Bytes, bytes-drop, take-more, field-again}
-use Rattle.table.proofs.Laws.Accepted.{Rule-one}
+use Rattle.sizes.proofs.Laws.HeaderLoops.{Ruled}
 
 seeds-again : (k : ℕ) (xs : List ℕ) → Bytes xs → 4 * k ≤ length xs → seed-bytes (seed-in k xs) ≡ take (4 * k) xs
 unfolding rows rows-in
@@ -30,7 +30,7 @@ glue : (bs A B C D E F G : List ℕ) → A ≡ take 1 bs → B ≡ take 4 (drop 
     A ++ B ++ C ++ D ++ E ++ F ++ G ≡ take 53 bs
 glue bs A B C D E F G a b c d e f g = rw (a, b, c, d, e, f, g, take-more 1 4 bs, take-more 5 2 bs, take-more 7 2 bs, take-more 9 2 bs, take-more 11 2 bs, take-more 13 40 bs)
 
-pub header-again : (bs : List ℕ) → Bytes bs → Rule-one bs → header (sizes-in bs) (held-in bs) ≡ take 53 bs
+pub header-again : (bs : List ℕ) → Bytes bs → Ruled bs → header (sizes-in bs) (held-in bs) ≡ take 53 bs
 unfolding header sizes-in held-in
 header-again bs u r =
     let l = r .long in

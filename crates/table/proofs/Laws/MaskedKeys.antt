@@ -1,7 +1,7 @@
 -- Masked nodes have the keys of the nodes; and how long a partition can be. Assumes nothing.
-use mathlib.Core.Path.{_≡_, refl}
-use mathlib.Core.Bool.{Bool, true, false, _&&_, cond}
-use mathlib.Core.List.{List, [], _∷_, _++_, map}
+use mathlib.Core.Path.{_≡_}
+use mathlib.Core.Bool.{Bool, true, false, cond}
+use mathlib.Core.List.{List, [], _∷_, _++_}
 use Prim.Native.Nat.{ℕ, suc, _+_, _≤_, _<_}
 use native.Mathlib.Omega.{arith}
 use borrow.Author.Tests.{ltb-true}
@@ -10,30 +10,12 @@ use lib.ListN.{length, length-append}
 use Rattle.sizes.specs.Hash.{level}
 use Rattle.sizes.specs.declared.Sizes.{Sizes}
 use Rattle.placement.specs.declared.Order.{Order}
-use Rattle.skiplist.specs.Lists.{front, at-least, starts-one, run, first-key, masked}
+use Rattle.skiplist.specs.Lists.{front, at-least, starts-one, run, first-key}
+pub use Rattle.skiplist.proofs.Masks.{below-masked, up-masked, last-masked}
 use Rattle.skiplist.proofs.Runs.{opened}
-use Rattle.skiplist.proofs.Parts.{Up, and-left, below}
-use Rattle.skiplist.proofs.Descent.{last-from, head-below}
+use Rattle.skiplist.proofs.Parts.{and-left, below}
+use Rattle.skiplist.proofs.Descent.{head-below}
 use Rattle.skiplist.proofs.Edits.{head-part, tail-part, head-part-long}
-
-pub below-masked : (k y : ℕ) (ps : List Order) → below y ps ≡ true → below y (map (masked k) ps) ≡ true
-unfolding below masked
-below-masked k y [] e = e
-below-masked k y (p ∷ ps) e = go (ltb (p .key) y) (λ h. below-masked k y ps h) e
-  where
-    go : (t : Bool) → (below y ps ≡ true → below y (map (masked k) ps) ≡ true) → (t && below y ps) ≡ true → (t && below y (map (masked k) ps)) ≡ true
-    go true ih h = ih h
-    go false ih h = h
-
-pub up-masked : (k a : ℕ) (qs : List Order) → Up a qs → Up a (map (masked k) qs)
-unfolding masked
-up-masked k a [] u = u
-up-masked k a (q ∷ qs) u = (u .0, up-masked k (suc (q .key)) qs (u .1))
-
-pub last-masked : (k a : ℕ) (ps : List Order) → last-from a (map (masked k) ps) ≡ last-from a ps
-unfolding last-from masked
-last-masked k a [] = refl
-last-masked k a (p ∷ ps) = last-masked k (p .key) ps
 
 -- ---- how long
 

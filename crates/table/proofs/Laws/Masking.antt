@@ -21,9 +21,8 @@ use Rattle.skiplist.proofs.Descent.{all-there}
 use Rattle.skiplist.proofs.Shapes.{up-behind, from-key, part-direct}
 use Rattle.skiplist.proofs.Masks.{masked-one}
 use Rattle.skiplist.proofs.Segment.{tail-segment, part-segment}
-use Rattle.skiplist.proofs.Opens.{keys, Walks, Found, dive, found-piece, read-part, read-front, part-front, one-level}
+use Rattle.skiplist.proofs.Opens.{keys, Heading, Walks, Found, dive, found-piece, read-part, read-front, part-front, one-level}
 use Rattle.table.specs.Walk.{nothing-in, quantities-ok}
-use Rattle.table.proofs.Laws.Counted.{Heading}
 use Rattle.table.proofs.Laws.Reading.{part-sound, weigh-all, weigh-read}
 
 module _ (s : Sizes) (T : (l f : ℕ) → List Order) (os : List Order) (walk : Walks s T (beta s) front (front ∷ os)) (u : Up 1 os) where

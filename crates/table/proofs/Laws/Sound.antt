@@ -29,7 +29,7 @@ use Rattle.sizes.proofs.Laws.Headers.{sizes-head}
 use Rattle.placement.proofs.Laws.Cells.{cut-length, head-label, label-cell}
 use Rattle.placement.proofs.Laws.Bridge.{label-of}
 use Rattle.placement.proofs.Laws.Decoding.{Clean, nodes-count}
-use Rattle.placement.proofs.Laws.Tables.{sound-blocks}
+use Rattle.placement.proofs.Laws.Tables.{sound-blocks, how-many-most}
 use Rattle.placement.proofs.Laws.Searched.{checked-keeps}
 use Rattle.skiplist.specs.Lists.{masked, chunks, blocks}
 use Rattle.skiplist.specs.Image.{image, fits, is-image}
@@ -41,11 +41,12 @@ use Rattle.skiplist.proofs.Faithful.{Filled, chunks-filled}
 use Rattle.skiplist.proofs.Kept.{fits-make}
 use Rattle.skiplist.proofs.Pieces.{chunks-are}
 use Rattle.skiplist.proofs.Rising.{chunks-rising}
+use Rattle.skiplist.proofs.Opens.{Heading}
 use Rattle.skiplist.proofs.Decode.{blocks-back}
 use Rattle.skiplist.proofs.Arranged.{one-arrangement}
 use Rattle.skiplist.proofs.Readback.{reads-back}
 use Rattle.table.specs.Check.{check-passes}
-use Rattle.table.proofs.Laws.Counted.{Heading, met-all}
+use Rattle.table.proofs.Laws.Counted.{met-all}
 use Rattle.table.proofs.Laws.Reading.{part-sound, piece-read}
 use Rattle.table.proofs.Laws.Accepted.{Accepted, accepted}
 use Rattle.table.proofs.Laws.Masking.{reads-keys, reads-masked, head-of, among-part}
@@ -53,12 +54,6 @@ use Rattle.table.proofs.Laws.Standing.{block-at, level-says, Standing, 
 use Rattle.table.proofs.Laws.Swept.{swept-count, swept-clean, clean-block}
 use Rattle.table.proofs.Laws.Header.{header-again}
 use Rattle.table.proofs.Laws.Once.{once}
-
-how-many-most : (bl : List (Block Chunk)) → how-many bl ≤ length bl
-unfolding how-many
-how-many-most [] = omega arith
-how-many-most (empty ∷ bl) = omega (arith, how-many-most bl)
-how-many-most (holds c ∷ bl) = omega (arith, how-many-most bl)
 
 filled-member : (b : ℕ) (c : Chunk) (cs : List Chunk) → Filled b cs → Among c cs → (0 < length (c .nodes)) × (length (c .nodes) ≤ b)
 filled-member b c [] u h = absurd h
@@ -77,7 +72,7 @@ module _ (bs : List ℕ) (u : Bytes bs) (a : Accepted bs) where
   os = a .orders
 
   good : made s ≡ true
-  good = a .rule .good
+  good = a .rule .makes
 
   some : 0 < s .blocks
   some = some-blocks s good

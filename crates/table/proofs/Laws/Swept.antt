@@ -1,14 +1,14 @@
 -- The pass over the blocks: it counts the full ones, and where it is clean the unused bytes are zero. Assumes nothing.
 use mathlib.Core.Path.{_≡_, refl, sym, ap, _∙_, subst}
 use mathlib.Core.Bool.{Bool, true, false, cond, false≢true}
-use mathlib.Core.List.{List, [], _∷_, map}
+use mathlib.Core.List.{List, _∷_, map}
 use Prim.Native.Nat.{ℕ, zero, suc, _+_, _*_, _-_, _≤_, _<_}
-use native.Mathlib.Nat.{zero-add, suc-add, suc-mul, add-zero, zero-mul}
+use native.Mathlib.Nat.{zero-add, suc-mul, add-zero, zero-mul}
 use native.Mathlib.Omega.{arith}
 use borrow.Author.Tests.{eq-eqb, ne-eqb, eqb-true, eqb-false}
 use lib.Dec.{eqb}
 use lib.ListN.{length, getD, take, drop, replicate}
-use lib.Seq.{drop-drop, drop-cons, take-nil}
+use lib.Seq.{drop-drop, drop-cons}
 use Rattle.sizes.specs.Numbers.{rows-in}
 use Rattle.sizes.specs.Header.{block-long}
 use Rattle.placement.specs.Blocks.{Block, empty, holds, how-many}
@@ -18,6 +18,7 @@ use Rattle.placement.specs.Decode.{chunk-of, block-of, cut, blocks-in}
 use Rattle.sizes.specs.declared.Sizes.{Sizes}
 use Rattle.sizes.proofs.Laws.Sizes.{and-parts}
 use Rattle.sizes.proofs.Laws.Bytes.{block-end}
+use Rattle.placement.proofs.Laws.Cells.{drop-take}
 use Rattle.sizes.proofs.Laws.Parts.{getD-part}
 use Rattle.placement.proofs.Laws.Decoding.{Clean, zeros, filled}
 use Rattle.table.specs.declared.Tally.{Tally}
@@ -114,11 +115,6 @@ zeros-are bs (suc k) a h e =
     let z = eqb-true (getD bs a 0) 0 (p .0) in
     let r = zeros-are bs k (suc a) (omega arith) (p .1) in
     rw (drop-cons bs a 0 (omega arith)) (λ i. z i ∷ r i)
-
-drop-take : (a c : ℕ) (l : List ℕ) → drop a (take (a + c) l) ≡ take c (drop a l)
-drop-take zero c l = rw zero-add
-drop-take (suc a) c [] = rw (suc-add, take-nil)
-drop-take (suc a) c (x ∷ l) = rw suc-add (drop-take a c l)
 
 module _ (s : Sizes) (bs : List ℕ) (a : ℕ) (room : a + block-long s ≤ length bs) where
   -- a full block

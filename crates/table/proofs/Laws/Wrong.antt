@@ -29,7 +29,7 @@ use Rattle.table.specs.Calls.{says, Edit-says, Put-says, Cancel-says, ch
 use Rattle.table.specs.declared.Reply.{Reply}
 use Rattle.table.proofs.Laws.Makes.{passes}
 use Rattle.table.proofs.Laws.Runs.{Holds, holds-image}
-use Rattle.table.proofs.Laws.Alike.{Tells, here, there}
+use Rattle.table.proofs.Laws.Alike.{Tells, here, there, none-held}
 
 -- ---- THE CLAUSE ON THE TABLE. A put or cancel that returns 0 leaves the book's orders
 pub put-holds : (k t d : ℕ) (x z : List ℕ) → Put-says k t d 0 x z → Holds (sizes-in x) (with-order (order k t d) (orders-in x)) z
@@ -81,10 +81,6 @@ pub idle-cancel : (k : ℕ) (x : List ℕ) → Cancel-says k 0 x x → ⊥
 idle-cancel k x w = let t = cancel-tells k x x w in false≢true (sym (t .1) ∙ t .0)
 
 -- a table always written as P3
-none-held : (k : ℕ) → held k [] ≡ false
-unfolding held
-none-held k = refl
-
 pub always-empty : (k t d : ℕ) (x : List ℕ) (s : Sizes) → made s ≡ true → Put-says k t d 0 x (image s []) → ⊥
 always-empty k t d x s m w =
     let e = holds-image s [] (image s []) m (kept-none s (limits s m)) refl .orders in
