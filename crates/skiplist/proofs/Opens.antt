@@ -24,6 +24,10 @@ unfoldable pub keys : List Order → List ℕ
 keys [] = []
 keys (x ∷ xs) = x .key ∷ keys xs
 
+-- no place in an empty list
+pub nothing : (r : List Order) (y : Order) (v : List Order) → [] ≡ r ++ y ∷ v → ⊥
+nothing r y v e = omega (arith, simp length-append at (ap length e))
+
 module _ (s : Sizes) where
   -- every level in a list is l
   abbrev pub Exact : (l : ℕ) → List Order → Type 0
@@ -158,9 +162,6 @@ module _ (s : Sizes) (T : (l f : ℕ) → List Order) where
       let p = shape s T l x seg w in
       let q = head-same (p .head) z (p .rest) (u ++ y ∷ v) (sym (p .whole) ∙ e) in
       absurd (omega (arith, h (omega arith), low-at s l u y v (rw (q .1) at (p .low))))
-
-  nothing : (r : List Order) (y : Order) (v : List Order) → [] ≡ r ++ y ∷ v → ⊥
-  nothing r y v e = omega (arith, simp length-append at (ap length e))
 
   pub nodes-dive : (l : ℕ) →
       ((x : Order) (seg : List Order) → Walks s T l x seg → (j : ℕ) → j ≤ l → (u : List Order) (y : Order) (v : List Order) → seg ≡ u ++ y ∷ v → (0 < length u → j < level s (y .key)) → Found s T j y v) →

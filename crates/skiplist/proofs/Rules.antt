@@ -37,7 +37,7 @@ inside (b ∷ bs) zero c e = omega arith
 inside (b ∷ bs) (suc j) c e = omega (arith, inside bs j c e)
 
 -- chunks by rising labels that all stand are no more than the full blocks
-fewer : (m : ℕ) → zero < m → (cs : List Chunk) (bs : List (Block Chunk)) → length bs ≡ m → Rising label-before cs → ((c : Chunk) → Among c cs → Stands m bs c) → length cs ≤ how-many bs
+pub fewer : (m : ℕ) → zero < m → (cs : List Chunk) (bs : List (Block Chunk)) → length bs ≡ m → Rising label-before cs → ((c : Chunk) → Among c cs → Stands m bs c) → length cs ≤ how-many bs
 fewer m some [] bs p u all = omega arith
 fewer m some (c ∷ cs) bs p u all =
     let t = all c (inl refl) in

@@ -1,7 +1,7 @@
 -- The blocks of an image, printed one line each. Assumes nothing.
-use mathlib.Core.Path.{_≡_, refl, ap, sym, _∙_, subst}
+use mathlib.Core.Path.{_≡_, ap, sym, _∙_, subst}
 use mathlib.Core.Logic.{_≢_}
-use mathlib.Core.Bool.{Bool, true, false, cond}
+use mathlib.Core.Bool.{true}
 use mathlib.Core.List.{List, [], _∷_, _++_, append-assoc, append-nil, map-append}
 use Prim.Native.Nat.{ℕ, zero, suc, _+_, _*_, _-_, _≤_, _<_}
 use native.Mathlib.Numerals.{add-one}
@@ -30,7 +30,6 @@ use Rattle.placement.proofs.Laws.Edits.{block-bytes-at}
 use Rattle.sizes.proofs.Laws.Bytes.{offset-end}
 use Rattle.skiplist.specs.Lists.{chunks}
 use Rattle.skiplist.specs.Image.{image, is-image, orders-in}
-use Rattle.skiplist.specs.Questions.{first-no, asks-image}
 use Rattle.skiplist.proofs.Image.{image-keeps}
 use Rattle.readings.proofs.Laws.Answers.{known-image}
 use Rattle.table.specs.Calls.{check-number}
@@ -204,14 +203,6 @@ laid bs s e h =
     record { image = e; nodes-are = n; blocks-are = b; nodes-most = omega (arith, l .nodes-most); blocks-most = omega (arith, l .blocks-most) }
 
 module _ (x : List ℕ) (n : ℕ) (h : n ≡ check-number x) where
-  pub checked : n ≡ 0 → is-image x ≡ true
-  unfolding check-number first-no asks-image
-  checked e = go (is-image x) (sym h ∙ e)
-    where
-      go : (t : Bool) → _≡_ {A = ℕ} (cond t 0 4) 0 → t ≡ true
-      go true e = refl
-      go false e = absurd (omega arith)
-
   module _ (old : List ℕ) (used : ℕ) (new : List ℕ) (r : ℕ) where
     pub blocks-no : n ≢ 0 → Said old used (row n [] ∷ []) new r → Said old used (blocks-lines x) new r
     unfolding blocks-lines

@@ -185,7 +185,7 @@ cells-same w m hd eh w8 =
     }
 
 -- THE BLOCKS OF A TABLE, read from its bytes: cut and join undo one another
-length-zero : (l : List ℕ) → length l ≡ 0 → l ≡ []
+pub length-zero : {A : Type 0} (l : List A) → length l ≡ 0 → l ≡ []
 length-zero [] e = refl
 length-zero (x ∷ l) e = absurd (omega arith)
 
@@ -193,12 +193,6 @@ pub cut-length : (w m : ℕ) (l : List ℕ) → length (cut w m l) ≡ m
 unfolding rows-in
 cut-length w zero l = refl
 cut-length w (suc m) l = ap suc (cut-length w m (drop w l))
-
-pub cut-even : (w m : ℕ) (l : List ℕ) → length l ≡ m * w → Even w (cut w m l)
-unfolding rows-in
-cut-even w zero l e = none
-cut-even w (suc m) l e =
-    more (length-take-le w l (omega (arith, suc-mul m w))) (cut-even w m (drop w l) (simp length-drop (omega (arith, suc-mul m w))))
 
 pub join-cut : (w m : ℕ) (l : List ℕ) → length l ≡ m * w → join (cut w m l) ≡ l
 unfolding rows-in join

@@ -14,14 +14,13 @@ use Rattle.skiplist.specs.Image.{is-image, orders-in}
 use Rattle.skiplist.specs.Questions.{Question, ask, first-no, is-key, held, between, reserve, any-reserve, asks-image, asks-key, asks-range, asks-span, asks-seek}
 use Rattle.skiplist.proofs.Parts.{Up, and-left, up-past}
 use Rattle.skiplist.proofs.Shapes.{held-there}
-use Rattle.skiplist.proofs.Opens.{Spot}
+use Rattle.skiplist.proofs.Opens.{Spot, nothing}
 use Rattle.readings.specs.declared.Visit.{Visit}
 use Rattle.table.specs.declared.Reply.{Reply}
 use Rattle.readings.specs.declared.calls.Sought.{Sought}
 use Rattle.readings.specs.declared.calls.Sought.the-variants.{Is, Nothing}
 use Rattle.table.specs.Calls.{says, check-number, total-of, displayed-of, Look-as, Look-says, Span-as, Span-says, Seek-as, Seek-says}
 use Rattle.readings.specs.Visit.{scan, starting, steps, first-enough, reply-of}
-use Rattle.readings.proofs.Laws.Rows.{nothing}
 use Rattle.readings.proofs.Laws.Chunked.{orders-up}
 use Rattle.readings.proofs.Laws.Answers.{known-image, counted-all, written-all}
 

@@ -8,16 +8,16 @@ use Prim.Native.Nat.{ℕ, zero, suc, _<_}
 use native.Mathlib.Omega.{arith}
 use borrow.Author.Tests.{eqb-true, leb-true}
 use lib.Dec.{leb, eqb}
-use lib.ListN.{length, take, drop, length-append, take-append-drop}
+use lib.ListN.{length, take, drop, take-append-drop}
 use Rattle.sizes.specs.Hash.{level}
 use Rattle.sizes.specs.declared.Sizes.{Sizes}
 use Rattle.placement.specs.declared.Order.{Order}
-use Rattle.skiplist.specs.Lists.{front, at-least, list-at, starts-one, rest, partitions, first-key, masked}
-use Rattle.skiplist.proofs.Runs.{partitions-front}
+use Rattle.skiplist.specs.Lists.{front, at-least, list-at, rest, partitions, first-key, masked}
 use Rattle.skiplist.proofs.Parts.{Up, Heads, pick, part, pick-past, below, below-here}
 use Rattle.skiplist.proofs.Edits.{parts-heads}
-use Rattle.skiplist.proofs.Walk.{each, spread, each-append, flat, run-flat, spread-all}
-use Rattle.skiplist.proofs.Opens.{Spot, shape, walks-part}
+use Rattle.skiplist.proofs.Walk.{each, spread, each-append, flat, spread-all}
+use Rattle.skiplist.proofs.Nodes.{nodes-list}
+use Rattle.skiplist.proofs.Opens.{Spot, nothing, shape, walks-part}
 use Rattle.readings.specs.Visit.{Row}
 
 -- STRETCHES of a list
@@ -37,14 +37,10 @@ pick-stretch f a (p ∷ ps) u = go (pick-stretch f _ ps (u .1)) (eqb (first-key 
     go ih false e =
         record { before = p ++ ih .before; behind = ih .behind; is = ap (λ (z : List Order). p ++ z) (ih .is) ∙ sym (append-assoc p (ih .before) (pick f ps ++ ih .behind)) }
 
-parts-flat : (s : Sizes) (l : ℕ) (os : List Order) → flat (partitions s l (list-at s l os)) ≡ list-at s l os
-unfolding list-at flat
-parts-flat s l os = rw (partitions-front s l (at-least s l os)) (ap (λ (z : List Order). front ∷ z) (run-flat (starts-one s l) (at-least s l os)))
-
 pub part-stretch : (s : Sizes) (os : List Order) (l f : ℕ) → Up 1 os → Stretch (list-at s l os) (part s os l f)
 unfolding part
 part-stretch s os l f u =
-    subst (λ (z : List Order). Stretch z (pick f (partitions s l (list-at s l os)))) (parts-flat s l os)
+    subst (λ (z : List Order). Stretch z (pick f (partitions s l (list-at s l os)))) (nodes-list l s os)
     (pick-stretch f 0 (partitions s l (list-at s l os)) (parts-heads s l os u))
 
 pub stretch-piece : (w xs : List Order) (n m : ℕ) → Stretch w xs → Stretch w (take n (drop m xs))
@@ -64,10 +60,6 @@ pub row-piece : (s : Sizes) (os : List Order) (l f n m : ℕ) → Up 1 os → Ro
 row-piece s os l f n m u =
     let t = stretch-piece (list-at s l os) (part s os l f) n m (part-stretch s os l f u) in
     record { before = t .before; own = take n (drop m (part s os l f)); behind = t .behind; there = t .is; is = refl }
-
--- no place in an empty list
-pub nothing : (A : List Order) (y : Order) (B : List Order) → [] ≡ A ++ y ∷ B → ⊥
-nothing A y B e = omega (arith, simp length-append at (ap length e))
 
 -- a row of at least one node
 pub record Begins (s : Sizes) (os : List Order) (l : ℕ) (n : Order) (ns : List Order) : Type 0 where

@@ -28,6 +28,7 @@ use Rattle.sizes.proofs.Laws.Sizes.{and-parts, some-blocks, some-nodes, limits}
 use Rattle.placement.proofs.Laws.Reading.{node-at, count-read, key-read, total-read, displayed-read}
 use Rattle.placement.proofs.Laws.Blocks.{around-inside}
 use Rattle.sizes.proofs.Laws.Headers.{header-long}
+use Rattle.placement.proofs.Laws.Cells.{length-zero}
 use Rattle.placement.proofs.Laws.Bridge.{Good, free, held, All-good, good-at, nodes-long}
 use Rattle.placement.proofs.Laws.Edits.{block-bytes-at}
 use Rattle.placement.proofs.Laws.Decoding.{Clean, zeros, filled}
@@ -82,10 +83,6 @@ block-reads s bs i w ns e few fine =
     let q : (a : ℕ) → 53 + i * block-long s + (8 + (12 * j + a)) ≡ 53 + i * block-long s + 8 + (12 * j + a) = λ a. omega arith in
     (rw (← q 0) (key-read s bs i w ns e few fine j h), rw (← q 4) (total-read s bs i w ns e few fine j h), rw (← q 8) (displayed-read s bs i w ns e few fine j h)))
 
-none-list : (ns : List Order) → length ns ≡ 0 → ns ≡ []
-none-list [] h = refl
-none-list (n ∷ ns) h = absurd (omega arith)
-
 module _ (s : Sizes) (F : Map) (n : ℕ) (hd bs : List ℕ) (t : Table s F n hd bs) where
   pub table-finds : (l f i : ℕ) → 0 < l → Finds-chunk s bs l f i (F l f i)
   unfolding chunk-spot found-at spot
@@ -101,7 +98,7 @@ module _ (s : Sizes) (F : Map) (n : ℕ) (hd bs : List ℕ) (t : Table s F n hd 
       there Nothing (is-none z) p = absurd (omega (arith, ap length z))
 
       gone : (r : Found) → Finds s F w bs r → length (F l f i) ≡ 0 → found-at r ≡ false
-      gone (At k) (is-at g full e) p = absurd (full (none-list (F l f i) p))
+      gone (At k) (is-at g full e) p = absurd (full (length-zero (F l f i) p))
       gone Nothing z p = refl
 
 -- ---- THE WALK over an image

@@ -1,9 +1,9 @@
 -- Chunks that all stand, in as many full blocks as there are chunks: each stands once. Assumes nothing.
 use mathlib.Core.Path.{_≡_, refl, sym, ap, _∙_}
-use mathlib.Core.Bool.{Bool, true, false, true≢false}
-use mathlib.Core.List.{List, [], _∷_}
+use mathlib.Core.Bool.{Bool, true, false}
+use mathlib.Core.List.{List}
 use mathlib.Core.Logic.{_⊎_, inl, inr}
-use Prim.Native.Nat.{ℕ, zero, _≤_, _<_}
+use Prim.Native.Nat.{ℕ, zero, _<_}
 use native.Mathlib.Nat.{mod-eq-of-lt}
 use native.Mathlib.Omega.{arith}
 use borrow.Author.Tests.{eqb-true, eqb-false}
@@ -14,24 +14,9 @@ use Rattle.placement.specs.Chunks.{Chunk, label-before}
 use Rattle.placement.proofs.Laws.Blocks.{stored-long, stored-elsewhere}
 use Rattle.placement.proofs.Laws.Store.{before-store}
 use Rattle.placement.proofs.Laws.Placed.{Rising, store-count}
-use Rattle.placement.proofs.Laws.Labels.{labels-strict}
+use Rattle.skiplist.proofs.Rules.{fewer}
 
 module _ (m : ℕ) (some : zero < m) where
-  -- chunks by rising labels that all stand are no more than the full blocks
-  fewer : (cs : List Chunk) (bs : List (Block Chunk)) → length bs ≡ m → Rising label-before cs → ((c : Chunk) → Among c cs → Stands m bs c) → length cs ≤ how-many bs
-  fewer [] bs p u all = omega arith
-  fewer (c ∷ cs) bs p u all =
-      let t = all c (inl refl) in
-      omega (
-        arith,
-        fewer cs (stored m bs (t .at) empty) (stored-long m bs (t .at) empty p) (u .1) (λ d a. other d a (before-store m bs (t .at) p some empty d (all d (inr a)))),
-        store-count m bs (t .at) (holds c) empty p some (t .is),
-      )
-    where
-      other : (d : Chunk) → Among d cs → (around m bs (all c (inl refl) .at) ≡ holds d) ⊎ Stands m (stored m bs (all c (inl refl) .at) empty) d → Stands m (stored m bs (all c (inl refl) .at) empty) d
-      other d a (inl e) = absurd (true≢false (cc (u .0 d a, labels-strict c, all c (inl refl) .is)))
-      other d a (inr w) = w
-
   pub once : (cs : List Chunk) (bs : List (Block Chunk)) → length bs ≡ m → Rising label-before cs → ((c : Chunk) → Among c cs → Stands m bs c) → how-many bs ≡ length cs →
       (c : Chunk) (i j : ℕ) → i < m → j < m → around m bs i ≡ holds c → around m bs j ≡ holds c → i ≡ j
   once cs bs p u all n c i j hi hj ei ej = go (eqb i j) refl
@@ -42,7 +27,7 @@ module _ (m : ℕ) (some : zero < m) where
       go : (t : Bool) → eqb i j ≡ t → i ≡ j
       go true e = eqb-true i j e
       go false e =
-          absurd (omega (arith, fewer cs less (stored-long m bs j empty p) u (λ d a. other d (before-store m bs j p some empty d (all d a))), store-count m bs j (holds c) empty p some ej, n))
+          absurd (omega (arith, fewer m some cs less (stored-long m bs j empty p) u (λ d a. other d (before-store m bs j p some empty d (all d a))), store-count m bs j (holds c) empty p some ej, n))
         where
           still : around m less i ≡ holds c
           still = stored-elsewhere m bs j i empty (λ q. eqb-false i j e (sym (mod-eq-of-lt hi) ∙ q ∙ mod-eq-of-lt hj)) ∙ ei

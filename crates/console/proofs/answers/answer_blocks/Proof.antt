@@ -1,6 +1,7 @@
 -- `console::answers::answer_blocks` meets its contract. Assumes nothing.
 use borrow.Author.Needs.{needs}
-use Rattle.console.proofs.Laws.Blocks.{checked, blocks-no, blocks-yes, front-image, front-lines}
+use Rattle.readings.proofs.Laws.Replies.{checked-yes}
+use Rattle.console.proofs.Laws.Blocks.{blocks-no, blocks-yes, front-image, front-lines}
 use Rattle.console.proofs.answers.answer_blocks.Statement.{statement}
 use Rattle.console.proofs.answers.answer_blocks.Tie as tie
 
@@ -8,7 +9,7 @@ returns : tie.Need-returns
 returns c = blocks-no _ _ (c .before .before .before .before .before .check .ensures) _ _ _ _ (c .if1 .taken) (c .before .before .before .say-number .ensures)
 
 say-image-requires : tie.Need-say-image-requires
-say-image-requires c κs = (c .before .before .before .before .before .say-number .ensures .lent, front-image (c .before .before .before .before .before .before .before .before .before .before .args .d .long) _ (checked _ _ (c .before .before .before .before .before .before .before .check .ensures) (c .before .before .if1 .left)))
+say-image-requires c κs = (c .before .before .before .before .before .say-number .ensures .lent, front-image (c .before .before .before .before .before .before .before .before .before .before .args .d .long) _ (checked-yes _ _ (c .before .before .before .before .before .before .before .check .ensures) (c .before .before .if1 .left)))
 
 returns-2 : tie.Need-returns-2
 returns-2 c = blocks-yes _ _ (c .before .before .before .before .before .before .before .before .before .before .check .ensures) _ _ _ _ (c .before .before .before .before .before .if1 .left) _ _ (c .before .before .before .before .before .before .before .before .say-number .ensures) (front-lines (c .before .before .before .before .before .before .before .before .before .before .before .before .before .args .d .long) _ _ _ _ _ (c .before .before .say-image .ensures))
