@@ -61,16 +61,7 @@ visit-nodes-μ-loop table s level at left output₀ n place₀ k₀ w₀ output 
 pub +visit-nodes+visit-partition-spec : {M : Type 1} → statement M
 +visit-nodes+visit-partition-spec =
     close μ-visit-nodes μ-visit-partition
-    (λ t. visit-nodes-lts.spec (
-      skipped-reads.Asked,
-      skipped-reads.Learnt,
-      visit-orders-reads.Asked,
-      visit-orders-reads.Learnt,
-      node-of-reads.Asked,
-      node-of-reads.Learnt,
-      visit-partition-below t,
-      visit-partition.Post,
-    )
+    (λ t. visit-nodes-lts.spec (skipped-reads.Asked, skipped-reads.Learnt, visit-orders-reads.Asked, visit-orders-reads.Learnt, node-of-reads.Asked, node-of-reads.Learnt, visit-partition-below t, visit-partition.Post)
     (visit-nodes-at t) visit-nodes.Post visit-nodes-Inv-loop visit-nodes-μ-loop
     (λ c κs. search laws)
     (λ c. search laws)
@@ -103,16 +94,7 @@ pub +visit-nodes+visit-partition-spec : {M : Type 1} → statement M
     (λ c. nodding-more _ _ _ _ _ _ _ _ _ _ (c .before .before .before .before .before .before .before .loop .inv) (c .before .before .before .before .before .before .loop-test .taken) _ (c .before .before .before .before .node-of .ensures) _ _ (c .before .before .visit-partition .ensures))
     (λ c. c .before .loop .inv .long)
     (λ c. nodding-end _ _ _ _ _ _ _ _ _ _ (c .before .loop .inv) (c .loop-test .left)))
-    λ t. visit-partition-lts.spec (
-      find-reads.Asked,
-      find-reads.Learnt,
-      offset-reads.Asked,
-      offset-reads.Learnt,
-      count-at-reads.Asked,
-      count-at-reads.Learnt,
-      visit-nodes-below t,
-      visit-nodes.Post,
-    )
+    λ t. visit-partition-lts.spec (find-reads.Asked, find-reads.Learnt, offset-reads.Asked, offset-reads.Learnt, count-at-reads.Asked, count-at-reads.Learnt, visit-nodes-below t, visit-nodes.Post)
     (visit-partition-at t) visit-partition.Post visit-partition-Inv-loop visit-partition-μ-loop
     (λ c. let p = c .before .before .pre in going-start _ _ _ _ _ _ (p .1 .1) (p .1 .3))
     (λ c. c .before .before .loop .inv .long)

@@ -73,24 +73,7 @@ walk-partition-μ-loop table s ratio round top level first g seen₀ number₀ s
 pub +walk-nodes+walk-partition-spec : {M : Type 1} → statement M
 +walk-nodes+walk-partition-spec =
     close μ-walk-nodes μ-walk-partition
-    (λ t. walk-nodes-lts.spec (
-      be4-reads.Asked,
-      be4-reads.Learnt,
-      hash-reads.Asked,
-      hash-reads.Learnt,
-      wrong-reads.Asked,
-      wrong-reads.Learnt,
-      node-of-reads.Asked,
-      node-of-reads.Learnt,
-      belongs-reads.Asked,
-      belongs-reads.Learnt,
-      quantities-reads.Asked,
-      quantities-reads.Learnt,
-      ends-at-once-reads.Asked,
-      ends-at-once-reads.Learnt,
-      walk-partition-below t,
-      walk-partition.Post,
-    )
+    (λ t. walk-nodes-lts.spec (be4-reads.Asked, be4-reads.Learnt, hash-reads.Asked, hash-reads.Learnt, wrong-reads.Asked, wrong-reads.Learnt, node-of-reads.Asked, node-of-reads.Learnt, belongs-reads.Asked, belongs-reads.Learnt, quantities-reads.Asked, quantities-reads.Learnt, ends-at-once-reads.Asked, ends-at-once-reads.Learnt, walk-partition-below t, walk-partition.Post)
     (walk-nodes-at t) walk-nodes.Post walk-nodes-Inv-loop walk-nodes-μ-loop
     (λ c κs. search laws) (λ c κs. search laws) (λ c. search laws) (λ c κs. search laws)
     (λ c. noding-bad _ _ _ _ _ _ _ _ _ _ _ _ _ (c .before .before .before .before .loop .inv .0) _ (c .wrong .ensures) (c .before .before .before .loop-test .taken)
@@ -140,30 +123,7 @@ pub +walk-nodes+walk-partition-spec : {M : Type 1} → statement M
       ⊎-elim (λ w. keyed-made _ _ _ _ _ _ (w .1 .ensures) (w .5 ∙ w .2 .ensures .0)) (λ w. keyed-none _ _ _ _ _ (omega (arith, w .0 .left))) (c .before .if4 .came),
     ))
     (λ c. search laws))
-    λ t. walk-partition-lts.spec (
-      chunk-reads.Asked,
-      chunk-reads.Learnt,
-      ended-reads.Asked,
-      ended-reads.Learnt,
-      offset-reads.Asked,
-      offset-reads.Learnt,
-      wide-reads.Asked,
-      wide-reads.Learnt,
-      enters-reads.Asked,
-      enters-reads.Learnt,
-      wrong-reads.Asked,
-      wrong-reads.Learnt,
-      walk-lowest-reads.Asked,
-      walk-lowest-reads.Learnt,
-      passed-reads.Asked,
-      passed-reads.Learnt,
-      entered-reads.Asked,
-      entered-reads.Learnt,
-      walk-nodes-below t,
-      walk-nodes.Post,
-      stops-reads.Asked,
-      stops-reads.Learnt,
-    )
+    λ t. walk-partition-lts.spec (chunk-reads.Asked, chunk-reads.Learnt, ended-reads.Asked, ended-reads.Learnt, offset-reads.Asked, offset-reads.Learnt, wide-reads.Asked, wide-reads.Learnt, enters-reads.Asked, enters-reads.Learnt, wrong-reads.Asked, wrong-reads.Learnt, walk-lowest-reads.Asked, walk-lowest-reads.Learnt, passed-reads.Asked, passed-reads.Learnt, entered-reads.Asked, entered-reads.Learnt, walk-nodes-below t, walk-nodes.Post, stops-reads.Asked, stops-reads.Learnt)
     (walk-partition-at t) walk-partition.Post walk-partition-Inv-loop walk-partition-μ-loop
     (λ c. search laws) (λ c κs. search laws) (λ c. search laws) (λ c. search laws) (λ c κs. search laws) (λ c. search laws)
     (λ c κs. search laws) (λ c. search laws) (λ c. search laws) (λ c κs. search laws) (λ c κs. search laws) (λ c κs. search laws)
