@@ -73,10 +73,6 @@ unfolding at-least
 all-there s [] = refl
 all-there s (x ∷ xs) = rw (le-leb 1 (level s (x .key)) (level-least s (x .key)), all-there s xs)
 
-pub end-bottom : (s : Sizes) (xs : List Order) → last-from 0 (head-part s 1 xs) ≡ last-from 0 xs
-unfolding head-part front last-from
-end-bottom s xs = rw (all-there s xs) (last-opened (starts-one s 1) 0 (front ∷ []) xs)
-
 -- keys of what is open are below, of what goes on above
 pub below-both : (k : ℕ) (xs zs : List Order) → below k xs ≡ true → below k zs ≡ true → below k (xs ++ zs) ≡ true
 unfolding below

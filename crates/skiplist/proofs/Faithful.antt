@@ -1,10 +1,10 @@
--- Chunks as a map: a list of chunks whose labels rise, none of them empty, is known by what stands under each label.
-use mathlib.Core.Path.{_≡_, refl, sym, ap, _∙_}
+-- Chunks as a map: where labels rise, what the map of a list of chunks tells under a label is what stands there; and no chunk is empty.
+use mathlib.Core.Path.{_≡_, refl, _∙_}
 use mathlib.Core.Bool.{Bool, true, false, _&&_, _||_, cond, false≢true, or-true, and-false}
-use mathlib.Core.List.{List, [], _∷_, _++_, map, append-nil, append-cancel-left}
+use mathlib.Core.List.{List, [], _∷_, _++_, map, append-nil}
 use Prim.Native.Nat.{ℕ, zero, suc, _*_, _≤_, _<_}
 use native.Mathlib.Omega.{arith}
-use borrow.Author.Tests.{ltb-true, ltb-false, leb-true, eqb-true, eq-eqb, ne-eqb, le-leb, lt-ltb}
+use borrow.Author.Tests.{ltb-true, leb-true, eqb-true, eq-eqb, ne-eqb, le-leb, lt-ltb}
 use lib.ListN.{length, take, drop, length-take}
 use lib.Dec.{ltb, leb, eqb}
 use Rattle.sizes.specs.Sizes.{beta}
@@ -53,27 +53,6 @@ upto-trans (up-number p v w) (up-level q) = up-level (omega arith)
 upto-trans (up-number p v w) (up-first q r) = up-first (omega arith) (omega arith)
 upto-trans (up-number p v w) (up-number q r t) = up-number (omega arith) (omega arith) (omega arith)
 
--- (l, f, i) comes before, is, or comes after
-pub data Three (l f i l′ f′ i′ : ℕ) : Type 0 where
-  less : Upto l f (suc i) l′ f′ i′ → Three l f i l′ f′ i′
-  equal : l ≡ l′ → f ≡ f′ → i ≡ i′ → Three l f i l′ f′ i′
-  more : Upto l′ f′ (suc i′) l f i → Three l f i l′ f′ i′
-
-pub three : (l f i l′ f′ i′ : ℕ) → Three l f i l′ f′ i′
-three l f i l′ f′ i′ = go (ltb l l′) refl (ltb l′ l) refl (ltb f f′) refl (ltb f′ f) refl (ltb i i′) refl (ltb i′ i) refl
-  where
-    go : (a : Bool) → ltb l l′ ≡ a → (b : Bool) → ltb l′ l ≡ b → (c : Bool) → ltb f f′ ≡ c → (d : Bool) → ltb f′ f ≡ d → (g : Bool) → ltb i i′ ≡ g → (h : Bool) → ltb i′ i ≡ h → Three l f i l′ f′ i′
-    go true p b q c r d t g v h w = less (up-level (ltb-true l l′ p))
-    go false p true q c r d t g v h w = more (up-level (ltb-true l′ l q))
-    go false p false q true r d t g v h w = less (up-first (omega (arith, ltb-false l l′ p, ltb-false l′ l q)) (ltb-true f f′ r))
-    go false p false q false r true t g v h w = more (up-first (omega (arith, ltb-false l l′ p, ltb-false l′ l q)) (ltb-true f′ f t))
-    go false p false q false r false t true v h w =
-        less (up-number (omega (arith, ltb-false l l′ p, ltb-false l′ l q)) (omega (arith, ltb-false f f′ r, ltb-false f′ f t)) (ltb-true i i′ v))
-    go false p false q false r false t false v true w =
-        more (up-number (omega (arith, ltb-false l l′ p, ltb-false l′ l q)) (omega (arith, ltb-false f f′ r, ltb-false f′ f t)) (ltb-true i′ i w))
-    go false p false q false r false t false v false w =
-        equal (omega (arith, ltb-false l l′ p, ltb-false l′ l q)) (omega (arith, ltb-false f f′ r, ltb-false f′ f t)) (omega (arith, ltb-false i i′ v, ltb-false i′ i w))
-
 pub rises-from : {l f i l′ f′ i′ : ℕ} (cs : List Chunk) → Upto l f i l′ f′ i′ → Rises l′ f′ i′ cs → Rises l f i cs
 rises-from [] h r = tt
 rises-from {l} {f} {i} {l′} {f′} {i′} (c ∷ cs) h r = (reached (upto-trans h (upto l′ f′ i′ (c .level) (c .first) (c .number) (r .0))), r .1)
@@ -115,18 +94,6 @@ map-content l f i (c ∷ cs) l₀ f₀ i₀ r = go (map-content l f i cs (c .lev
         rw (n, append-nil)
     go ih false e = ih
 
--- under its own label stands the first chunk
-pub content-own : (c : Chunk) (cs : List Chunk) → Rises (c .level) (c .first) (suc (c .number)) cs → content (c .level) (c .first) (c .number) (c ∷ cs) ≡ c .nodes
-unfolding content is-label
-content-own c cs r =
-    rw (
-      eq-eqb (c .level) (c .level) refl,
-      eq-eqb (c .first) (c .first) refl,
-      eq-eqb (c .number) (c .number) refl,
-      content-before (c .level) (c .first) (c .number) cs r,
-      append-nil,
-    )
-
 -- no chunk is empty, and none has more than b nodes
 abbrev pub Filled : (b : ℕ) → List Chunk → Type 0
 Filled b [] = Unit {0}
@@ -157,40 +124,6 @@ filled-from (suc k) l s os h =
 pub chunks-filled : (s : Sizes) (os : List Order) → 0 < s .nodes → Filled (s .nodes) (chunks s os)
 unfolding chunks
 chunks-filled s os h = filled-from (beta s) 1 s os h
-
-same-chunk : (c d : Chunk) → c .level ≡ d .level → c .first ≡ d .first → c .number ≡ d .number → c .nodes ≡ d .nodes → c ≡ d
-same-chunk c d p q r n = λ i. record { level = p i; first = q i; number = r i; nodes = n i }
-
--- A LIST OF CHUNKS IS KNOWN BY WHAT STANDS UNDER EACH LABEL
-pub content-known : (b l f i l′ f′ i′ : ℕ) (cs ds : List Chunk) → Rises l f i cs → Rises l′ f′ i′ ds → Filled b cs → Filled b ds →
-    ((x y z : ℕ) → content x y z cs ≡ content x y z ds) → cs ≡ ds
-unfolding content
-content-known b l f i l′ f′ i′ [] [] r q u v e = refl
-content-known b l f i l′ f′ i′ [] (d ∷ ds) r q u v e =
-    absurd (omega (arith, ap length (e (d .level) (d .first) (d .number) ∙ content-own d ds (q .1)), v .0))
-content-known b l f i l′ f′ i′ (c ∷ cs) [] r q u v e =
-    absurd (omega (arith, ap length (sym (e (c .level) (c .first) (c .number)) ∙ content-own c cs (r .1)), u .0))
-content-known b l f i l′ f′ i′ (c ∷ cs) (d ∷ ds) r q u v e =
-    go (λ g. content-known b (c .level) (c .first) (suc (c .number)) (d .level) (d .first) (suc (d .number)) cs ds (r .1) (q .1) (u .2) (v .2) g)
-    (three (c .level) (c .first) (c .number) (d .level) (d .first) (d .number))
-  where
-    at-c : content (c .level) (c .first) (c .number) (d ∷ ds) ≡ c .nodes
-    at-c = sym (e (c .level) (c .first) (c .number)) ∙ content-own c cs (r .1)
-
-    at-d : content (d .level) (d .first) (d .number) (c ∷ cs) ≡ d .nodes
-    at-d = e (d .level) (d .first) (d .number) ∙ content-own d ds (q .1)
-
-    go : (((x y z : ℕ) → content x y z cs ≡ content x y z ds) → cs ≡ ds) → Three (c .level) (c .first) (c .number) (d .level) (d .first) (d .number) → c ∷ cs ≡ d ∷ ds
-    go ih (less h) = absurd (omega (arith, u .0, ap length (sym at-c ∙ content-before (c .level) (c .first) (c .number) (d ∷ ds) (reached h, q .1))))
-    go ih (more h) = absurd (omega (arith, v .0, ap length (sym at-d ∙ content-before (d .level) (d .first) (d .number) (c ∷ cs) (reached h, r .1))))
-    go ih (equal a g h) =
-        let n : c .nodes ≡ d .nodes = sym at-c ∙ rw (a, g, h) (content-own d ds (q .1)) in
-        let k : c ≡ d = same-chunk c d a g h n in
-        rw (k, ih (λ x y z. append-cancel-left (cond (is-label d x y z) (d .nodes) []) (content x y z cs) (content x y z ds) (rw k at (e x y z))))
-
-pub chunks-known : (s : Sizes) (os : List Order) (cs : List Chunk) → 0 < s .nodes → Up 1 os → Rises 0 0 0 cs → Filled (s .nodes) cs →
-    ((l f i : ℕ) → content l f i cs ≡ content l f i (chunks s os)) → cs ≡ chunks s os
-chunks-known s os cs h u r v e = content-known (s .nodes) 0 0 0 0 0 0 cs (chunks s os) r (chunks-rise s os u) v (chunks-filled s os h) e
 
 -- THE MAP OF THE CHUNKS: under (l, f, i) stands the i-th piece of the partition that f heads, masked
 pub map-is : (s : Sizes) (l f i : ℕ) (os : List Order) → 0 < s .nodes → Up 1 os → 1 ≤ l → l ≤ beta s → map-of (chunks s os) l f i ≡ map (masked l) (take (s .nodes) (drop (i * s .nodes) (part s os l f)))

@@ -2,7 +2,6 @@ pub mod Runs
 pub mod Parts
 pub mod Edits
 pub mod Shapes
-pub mod Shift
 pub mod Descent
 pub mod Walk
 pub mod Segment

@@ -1,17 +1,17 @@
 -- Rising orders, good orders taken apart, and the partition that a key heads.
 use mathlib.Core.Path.{_≡_, refl}
 use mathlib.Core.Bool.{Bool, true, false, _&&_, _||_, cond, false≢true}
-use mathlib.Core.List.{List, [], _∷_, _++_, append-assoc, append-nil}
+use mathlib.Core.List.{List, [], _∷_, _++_, append-nil}
 use Prim.Native.Nat.{ℕ, suc, _≤_, _<_}
 use native.Mathlib.Omega.{arith}
 use borrow.Author.Tests.{leb-true, eq-eqb, ne-eqb, lt-ltb}
 use lib.ListN.{length}
-use lib.Dec.{ltb, leb, eqb}
+use lib.Dec.{ltb, leb}
 use Rattle.sizes.specs.Sizes.{prime}
 use Rattle.sizes.specs.Hash.{level}
 use Rattle.sizes.specs.declared.Sizes.{Sizes}
 use Rattle.placement.specs.declared.Order.{Order}
-use Rattle.skiplist.specs.Lists.{at-least, list-at, run, rest, partitions, first-key}
+use Rattle.skiplist.specs.Lists.{at-least, run, rest, first-key}
 use Rattle.skiplist.specs.Image.{quantities-good, orders-good}
 use Rattle.skiplist.specs.Questions.{without}
 unfoldable pub use Rattle.skiplist.specs.Parts.{Up, below, pick, part}
@@ -105,11 +105,6 @@ module _ (st : Order → Bool) where
       go : (t : Bool) → Heads (suc (x .key)) (rest st xs) → Heads a (cond t ((x ∷ run st xs) ∷ rest st xs) (rest st xs))
       go true v = (u .0, v)
       go false v = heads-from (rest st xs) (omega (arith, u .0)) v
-
-pub pick-append : (f : ℕ) (ps qs : List (List Order)) → pick f (ps ++ qs) ≡ pick f ps ++ pick f qs
-unfolding pick
-pick-append f [] qs = refl
-pick-append f (p ∷ ps) qs = rw (pick-append f ps qs, append-assoc)
 
 pub pick-past : (f : ℕ) (ps : List (List Order)) (a : ℕ) → f < a → Heads a ps → pick f ps ≡ []
 unfolding pick

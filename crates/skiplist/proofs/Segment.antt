@@ -1,19 +1,18 @@
 -- For the check and for spans: a partition from what stands behind its head; and the keys that a node's walk gives.
 use mathlib.Core.Path.{_≡_, refl, _∙_}
-use mathlib.Core.Bool.{Bool, true, false, _&&_, cond, and-false}
+use mathlib.Core.Bool.{Bool, true, false, cond, and-false}
 use mathlib.Core.List.{List, [], _∷_, _++_}
 use Prim.Native.Nat.{ℕ, suc, _≤_, _<_}
 use native.Mathlib.Omega.{arith}
-use borrow.Author.Tests.{ltb-true, lt-leb}
-use lib.Dec.{ltb, leb}
+use borrow.Author.Tests.{lt-leb}
+use lib.Dec.{leb}
 use Rattle.sizes.specs.Hash.{level}
 use Rattle.sizes.specs.declared.Sizes.{Sizes}
 use Rattle.placement.specs.declared.Order.{Order}
 use Rattle.skiplist.specs.Lists.{at-least, starts-one, run}
 use Rattle.skiplist.specs.Questions.{between}
-use Rattle.skiplist.proofs.Parts.{Up, up-from, and-left, and-right, part, below}
+use Rattle.skiplist.proofs.Parts.{Up, up-from, part}
 use Rattle.skiplist.proofs.Edits.{stays, tail-part, tail-high, part-right}
-use Rattle.skiplist.proofs.Walk.{each}
 
 -- every level in a list is at most l
 abbrev pub Low : Sizes → (l : ℕ) → List Order → Type 0
@@ -43,26 +42,6 @@ module _ (s : Sizes) (l : ℕ) where
   part-segment xs x rs cs u v h g k = part-right s l xs x (rs ++ cs) u h ∙ rw (tail-segment rs cs v g k)
 
 -- spans
-pub between-append : (lo hi : ℕ) (xs zs : List Order) → between lo hi (xs ++ zs) ≡ between lo hi xs ++ between lo hi zs
-unfolding between
-between-append lo hi [] zs = refl
-between-append lo hi (x ∷ xs) zs = rw (between-append lo hi xs zs) (go (leb lo (x .key) && leb (x .key) hi))
-  where
-    go : (t : Bool) → cond t (x ∷ (between lo hi xs ++ between lo hi zs)) (between lo hi xs ++ between lo hi zs) ≡ cond t (x ∷ between lo hi xs) (between lo hi xs) ++ between lo hi zs
-    go true = refl
-    go false = refl
-
-pub between-each : (lo hi : ℕ) (f : Order → List Order) (xs : List Order) → between lo hi (each f xs) ≡ each (λ x. between lo hi (f x)) xs
-unfolding each between
-between-each lo hi f [] = refl
-between-each lo hi f (x ∷ xs) = rw (between-append lo hi (f x) (each f xs), between-each lo hi f xs)
-
-pub between-below : (lo hi : ℕ) (xs : List Order) → below lo xs ≡ true → between lo hi xs ≡ []
-unfolding between below
-between-below lo hi [] e = refl
-between-below lo hi (x ∷ xs) e =
-    rw (lt-leb lo (x .key) (ltb-true (x .key) lo (and-left (ltb (x .key) lo) (below lo xs) e))) (between-below lo hi xs (and-right (ltb (x .key) lo) (below lo xs) e))
-
 pub between-above : (lo hi a : ℕ) (xs : List Order) → hi < a → Up a xs → between lo hi xs ≡ []
 unfolding between
 between-above lo hi a [] h u = refl

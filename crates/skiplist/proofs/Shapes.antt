@@ -2,7 +2,7 @@
 use mathlib.Core.Path.{_≡_, refl, ap, _∙_, subst}
 use mathlib.Core.Bool.{Bool, true, false, _&&_, _||_, cond, or-true, and-false}
 use mathlib.Core.List.{List, [], _∷_, _++_, append-nil}
-use Prim.Native.Nat.{ℕ, suc, _≤_, _<_}
+use Prim.Native.Nat.{ℕ, suc, _<_}
 use native.Mathlib.Omega.{arith}
 use borrow.Author.Tests.{ltb-true, ltb-false, eqb-true, eqb-false, eq-eqb, ne-eqb, lt-ltb, le-ltb}
 use lib.Dec.{ltb, leb, eqb}
@@ -77,12 +77,6 @@ unfolding with-order
 put-old y old xs zs a k u =
     ap (into y) (subst (λ (n : ℕ). without n (xs ++ old ∷ zs) ≡ xs ++ zs) k (without-here xs old zs a u))
     ∙ into-between y xs zs (rw k at (below-here xs old zs a u)) (rw k at (up-behind xs old zs a u))
-
-pub up-put : (y : Order) (xs zs : List Order) (a : ℕ) → a ≤ y .key → below (y .key) xs ≡ true → Up (suc (y .key)) zs → Up a (xs ++ zs) → Up a (xs ++ y ∷ zs)
-unfolding below
-up-put y [] zs a h e u v = (h, u)
-up-put y (x ∷ xs) zs a h e u v =
-    (v .0, up-put y xs zs (suc (x .key)) (ltb-true (x .key) (y .key) (and-left (ltb (x .key) (y .key)) (below (y .key) xs) e)) (and-right (ltb (x .key) (y .key)) (below (y .key) xs) e) u (v .1))
 
 -- THE PARTITION, read off the list: go to f, if it starts one, and take up to the next start
 module _ (st : Order → Bool) where

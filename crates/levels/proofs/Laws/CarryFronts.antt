@@ -4,7 +4,7 @@ use mathlib.Core.List.{List, [], _∷_, _++_, append-assoc, append-nil}
 use Prim.Native.Nat.{ℕ, zero, suc, _+_, _*_, _≤_}
 use native.Mathlib.Omega.{arith}
 use lib.ListN.{length, take, drop, length-append}
-use lib.Seq.{sets, take-nil, drop-nil, take-all, take-take, take-append-add, drop-append-add}
+use lib.Seq.{sets, take-nil, drop-nil, take-take, take-append-add, drop-append-add}
 use Rattle.sizes.specs.Numbers.{big, rows}
 use Rattle.placement.specs.Chunks.{node-bytes, nodes-bytes}
 use Rattle.placement.specs.declared.Order.{Order}
@@ -60,9 +60,6 @@ front-part cs c a n f h =
 pub front-first : (cs : List ℕ) (c : List Order) (n : ℕ) → Front cs c → n ≤ length c → take (12 * n) (drop 0 cs) ≡ nodes-bytes (take n c)
 front-first cs c n f h = front-part cs c 0 n f (omega arith)
 
-pub front-all : (cs : List ℕ) (c : List Order) (n : ℕ) → Front cs c → n ≡ length c → take (12 * n) (drop 0 cs) ≡ nodes-bytes c
-front-all cs c n f e = front-first cs c n f (omega arith) ∙ ap (λ (z : List Order). nodes-bytes z) (take-all n c (omega arith))
-
 -- nodes written behind those of a row
 pub front-more : (cs cs′ : List ℕ) (c d : List Order) (a : ℕ) (vs : List ℕ) → Front cs c → a ≡ 12 * length c → vs ≡ nodes-bytes d → cs′ ≡ sets cs a vs → a + 12 * length d ≤ length cs
     → Front cs′ (c ++ d)
@@ -71,11 +68,6 @@ front-more cs cs′ c d a vs f ea ev e h =
     let l : length vs ≡ 12 * length d = ap length ev ∙ nodes-long d in
     let z : 12 * length (c ++ d) ≡ a + length vs = omega (arith, length-append c d) in
     rw z (ap (take (a + length vs)) e ∙ take-sets-end cs a vs (omega arith) ∙ rw (nodes-append, ← f, ← ea, ← ev))
-
--- only what a row begins with counts
-pub front-less : (cs cs′ : List ℕ) (c : List Order) → Front cs c → take (12 * length c) cs′ ≡ take (12 * length c) cs → Front cs′ c
-unfolding Front
-front-less cs cs′ c f e = e ∙ f
 
 -- AS `write_node` ASKS
 three : (row : List ℕ) (at k t d : ℕ) → sets (sets (sets row at (big 4 k)) (at + 4) (big 4 t)) (at + 8) (big 4 d) ≡ sets row at (big 4 k ++ big 4 t ++ big 4 d)

@@ -69,29 +69,6 @@ pieces-last b a full blocks h g e = omega (arith, pieces-full b a h g)
 pub pieces-pos : (b n : ℕ) → 0 < b → 0 < n → 0 < pieces b n
 pieces-pos b n h g = omega (arith, pieces-full b n h g)
 
-pub pieces-one : (b a : ℕ) → 0 < b → 0 < a → a ≤ b → pieces b a ≡ 1
-pieces-one b a h g l = let z : a - b ≡ 0 = omega arith in pieces-full b a h g ∙ rw (z, pieces-none b)
-
--- as `chunks_of` asks
-pub pieces-zero : (b n : ℕ) → n ≡ 0 → (0 ≡ pieces b n) × (0 ≤ n)
-unfolding pieces
-pieces-zero b n e = (rw e, omega arith)
-
-pub pieces-some : (b n : ℕ) → 0 < b → (n ≡ 0 → ⊥) → (1 + (n - 1) / b ≡ pieces b n) × (1 + (n - 1) / b ≤ n)
-unfolding pieces
-pieces-some b zero h g = absurd (g refl)
-pieces-some b (suc n) h g =
-    let e : suc n - 1 ≡ n = omega arith in
-    (rw e (omega arith), rw e (omega (arith, div-small n b h)))
-  where
-    div-small : (n b : ℕ) → 0 < b → n / b ≤ n
-    div-small n zero h = absurd (omega arith)
-    div-small n (suc b) h = omega (arith, div-mul-le-self n (suc b), less (n / suc b) b)
-      where
-        less : (x b : ℕ) → x ≤ x * suc b
-        less zero b = omega arith
-        less (suc x) b = omega (arith, less x b, suc-mul x (suc b))
-
 -- half as many as nodes, where a chunk has two or more
 pub number-half : (b m : ℕ) → 2 ≤ b → 2 * (m / b) ≤ m
 number-half b m h = omega (arith, div-mul-le-self m b, less (m / b) b h)

@@ -144,9 +144,6 @@ module _ (s : Sizes) (F : Map) (n : ℕ) (hd bs : List ℕ) (k f g i r : ℕ) (p
   second-one : one (cleared (at k f i) F k g 0) ≡ 1
   second-one = one-some (cleared (at k f i) F k g 0) (not-none (cleared (at k f i) F k g 0) second-some)
 
-  carry : List Order
-  carry = F k f i ++ drop 1 (cleared (at k f i) F k g 0)
-
   after : drop 1 (cleared (at k f i) F k g 0) ++ drop (suc 0 * s .nodes) (y ∷ qs) ≡ qs
   after =
       let z : suc 0 * s .nodes ≡ s .nodes = omega arith in

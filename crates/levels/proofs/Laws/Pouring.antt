@@ -20,7 +20,6 @@ use Rattle.placement.proofs.Laws.Maps.{Label-is, is, isnt, label-is}
 use Rattle.skiplist.proofs.Count.{pieces}
 use Rattle.levels.specs.Edit.{Pieces}
 use Rattle.levels.specs.Pour.{at, Front, one, Taken, Takes, Writable, Flushed, waits, writes, Flushes, Pourable, Poured, Pours, Put, Puts, Kept}
-use Rattle.levels.proofs.Laws.CarryFronts.{front-all}
 use Rattle.levels.proofs.Laws.Takes.{one-some, one-none}
 use Rattle.levels.proofs.Laws.Flushes.{fines-append, fines-drop, not-none, insert-nodes}
 use Rattle.levels.proofs.Laws.Chunking.{pieces-none, pieces-skip, pieces-pass, pieces-under, pieces-over, pieces-room, pieces-last, pieces-full, one-pieces, quotient-none, quotient-one, quotient-most, drop-next, drop-add, drop-past, take-past, one-taken}

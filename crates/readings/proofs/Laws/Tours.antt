@@ -292,9 +292,6 @@ module _ (s : Sizes) (bs : List ℕ) (l : ℕ) (o : Order) (v : Visit) (x : List
           got : Read s bs l b (piece s bs l (o .key) i)
           got = chunk-read s bs k l (o .key) i (g .above) high r er b eb
 
-          pub chunk-inside : b < s .blocks
-          chunk-inside = got .inside
-
           module _ (at n : ℕ) (ea : at ≡ 53 + b * block-long s) (en : n ≡ getD bs (53 + b * block-long s + 1) 0) where
             many : n ≡ length (piece s bs l (o .key) i)
             many = en ∙ got .count
