@@ -3,6 +3,7 @@ ghost use mathlib.Core.Path.{_≡_};
 ghost use mathlib.Core.Bool.{true};
 ghost use Prim.Native.Nat.{ℕ, _≤_, _<_};
 ghost use lib.ListN.{length};
+ghost use Rattle.sizes.specs.Numbers.{over};
 ghost use Rattle.sizes.specs.Header.{held-in, sizes-in};
 ghost use Rattle.skiplist.specs.Lists.{chunks};
 ghost use Rattle.skiplist.specs.Image.{is-image, orders-in};
@@ -34,11 +35,19 @@ use table::checking::check;
 use table::checking::examine;
 
 // One level of a put; the first key of the partition one level down.
-fn put_level(table: &mut [u8], s: Sizes, level: u32, l: u32, first: u32, o: Order) -> u32
-    requires { ⌜ Shaped s (now table) × (2 ≤ s .nodes) × (level < 256) ⌝ }
+fn put_level(
+    table: &mut [u8],
+    s: Sizes,
+    round: u64,
+    level: u32,
+    l: u32,
+    first: u32,
+    o: Order,
+) -> u32
+    requires { ⌜ Shaped s (now table) × (round ≡ over (s .blocks)) × (2 ≤ s .nodes) × (level ≤ 19) ⌝ }
     ensures { λ r. ⌜ Put-turn s level l first o (now (table .entry)) (now (table .exit)) r ⌝ }
 {
-    let x = scan(table, s, level, first, o.key);
+    let x = scan(table, s, round, level, first, o.key);
     if level == l {
         put_in(table, s, level, first, x, o);
         return x.last;
@@ -51,29 +60,29 @@ fn put_level(table: &mut [u8], s: Sizes, level: u32, l: u32, first: u32, o: Orde
 }
 
 // A new key comes in at each level, from the top.
-fn put_new(table: &mut [u8], s: Sizes, top: u32, l: u32, o: Order)
-    requires { ⌜ Shaped s (now table) × (2 ≤ s .nodes) × (top ≤ 19) ⌝ }
+fn put_new(table: &mut [u8], s: Sizes, round: u64, top: u32, l: u32, o: Order)
+    requires { ⌜ Shaped s (now table) × (round ≡ over (s .blocks)) × (2 ≤ s .nodes) × (top ≤ 19) ⌝ }
     ensures { λ r. ⌜ Put-new s top l o (now (table .entry)) (now (table .exit)) ⌝ }
 {
     let mut first: u32 = 0;
     let mut level = top;
     while 0 < level {
-        first = put_level(table, s, level, l, first, o);
+        first = put_level(table, s, round, level, l, first, o);
         level -= 1;
     }
 }
 
 // Both quantities of a held key are replaced. A key of a level above 1 heads its partition of level 1.
-fn put_held(table: &mut [u8], s: Sizes, top: u32, l: u32, o: Order)
-    requires { ⌜ Shaped s (now table) × (2 ≤ s .nodes) × (top ≤ 19) ⌝ }
+fn put_held(table: &mut [u8], s: Sizes, round: u64, top: u32, l: u32, o: Order)
+    requires { ⌜ Shaped s (now table) × (round ≡ over (s .blocks)) × (2 ≤ s .nodes) × (top ≤ 19) ⌝ }
     ensures { λ r. ⌜ Put-held s top l o (now (table .entry)) (now (table .exit)) ⌝ }
 {
     if 1 < l {
         replace(table, s, o.key, 0, o);
         return;
     }
-    let first = bottom(table, s, top, o.key);
-    let x = reach(table, s, over(s.blocks), 1, first, o.key);
+    let first = bottom(table, s, round, top, o.key);
+    let x = reach(table, s, round, 1, first, o.key);
     replace(table, s, first, x.below, o);
 }
 
@@ -89,15 +98,24 @@ fn is_held(table: &[u8], key: u32) -> bool
 }
 
 // A put of a key that is not held, while there are fewer orders than N: 8 is counted before any change. `full` blocks are not empty.
-fn put_free(table: &mut [u8], s: Sizes, held: u32, full: u32, top: u32, l: u32, o: Order) -> u32
-    requires { ⌜ Put-sure (now table) (o .key) (o .total) (o .displayed) × Sized (now table) s top l (o .key) × Put-free (now table) s (o .key) × (held ≡ held-in (now table)) × (full ≡ length (chunks s (orders-in (now table)))) × (top ≤ 19) ⌝ }
+fn put_free(
+    table: &mut [u8],
+    s: Sizes,
+    round: u64,
+    held: u32,
+    full: u32,
+    top: u32,
+    l: u32,
+    o: Order,
+) -> u32
+    requires { ⌜ Put-sure (now table) (o .key) (o .total) (o .displayed) × Sized (now table) s top l (o .key) × Put-free (now table) s (o .key) × (held ≡ held-in (now table)) × (full ≡ length (chunks s (orders-in (now table)))) × (round ≡ over (s .blocks)) × (top ≤ 19) ⌝ }
     ensures { λ r. ⌜ Put-says (o .key) (o .total) (o .displayed) r (now (table .entry)) (now (table .exit)) ⌝ }
 {
-    let more = growth(table, s, top, l, o.key);
+    let more = growth(table, s, round, top, l, o.key);
     if s.blocks < full + more {
         return 8;
     }
-    put_new(table, s, top, l, o);
+    put_new(table, s, round, top, l, o);
     put2(table, 11, held + 1);
     0
 }
@@ -109,16 +127,17 @@ fn put_sure(table: &mut [u8], full: u32, o: Order) -> u32
 {
     let h = Header::read(table);
     let s = h.sizes;
+    let round = over(s.blocks);
     let top = highest(s);
     let l = level_of(s, top, o.key);
     if is_held(table, o.key) {
-        put_held(table, s, top, l, o);
+        put_held(table, s, round, top, l, o);
         return 0;
     }
     if s.orders <= h.held {
         return 7;
     }
-    put_free(table, s, h.held, full, top, l, o)
+    put_free(table, s, round, h.held, full, top, l, o)
 }
 
 // Put: 4, 5, 6, 7, 8.
@@ -150,17 +169,25 @@ pub fn put(table: &mut [u8], key: u32, total: u32, displayed: u32) -> u32
 }
 
 // One level of a cancel; the first key of the partition one level down.
-fn cancel_level(table: &mut [u8], s: Sizes, level: u32, l: u32, first: u32, y: u32) -> u32
-    requires { ⌜ Shaped s (now table) × (2 ≤ s .nodes) × (level < 256) ⌝ }
+fn cancel_level(
+    table: &mut [u8],
+    s: Sizes,
+    round: u64,
+    level: u32,
+    l: u32,
+    first: u32,
+    y: u32,
+) -> u32
+    requires { ⌜ Shaped s (now table) × (round ≡ over (s .blocks)) × (2 ≤ s .nodes) × (level ≤ 19) ⌝ }
     ensures { λ r. ⌜ Cancel-turn s level l first y (now (table .entry)) (now (table .exit)) r ⌝ }
 {
-    let x = scan(table, s, level, first, y);
+    let x = scan(table, s, round, level, first, y);
     if level == l {
         cancel_in(table, s, level, first, x);
         return x.last;
     }
     if level < l {
-        let own = scan(table, s, level, y, y);
+        let own = scan(table, s, round, level, y, y);
         cancel_below(table, s, level, first, x, y, own.size);
         return x.last;
     }
@@ -168,14 +195,14 @@ fn cancel_level(table: &mut [u8], s: Sizes, level: u32, l: u32, first: u32, y: u
 }
 
 // A key goes out at each level, from the top.
-fn cancel_held(table: &mut [u8], s: Sizes, top: u32, l: u32, y: u32)
-    requires { ⌜ Shaped s (now table) × (2 ≤ s .nodes) × (top ≤ 19) ⌝ }
+fn cancel_held(table: &mut [u8], s: Sizes, round: u64, top: u32, l: u32, y: u32)
+    requires { ⌜ Shaped s (now table) × (round ≡ over (s .blocks)) × (2 ≤ s .nodes) × (top ≤ 19) ⌝ }
     ensures { λ r. ⌜ Cancel-held s top l y (now (table .entry)) (now (table .exit)) ⌝ }
 {
     let mut first: u32 = 0;
     let mut level = top;
     while 0 < level {
-        first = cancel_level(table, s, level, l, first, y);
+        first = cancel_level(table, s, round, level, l, first, y);
         level -= 1;
     }
 }
@@ -187,9 +214,10 @@ fn cancel_sure(table: &mut [u8], key: u32)
 {
     let h = Header::read(table);
     let s = h.sizes;
+    let round = over(s.blocks);
     let top = highest(s);
     let l = level_of(s, top, key);
-    cancel_held(table, s, top, l, key);
+    cancel_held(table, s, round, top, l, key);
     put2(table, 11, h.held - 1);
 }
 

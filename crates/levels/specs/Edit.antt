@@ -1,6 +1,6 @@
 -- What the parts of a put and of a cancel do, told by the map that a table keeps. Assumes nothing: these are definitions.
 use mathlib.Core.Path.{_≡_}
-use mathlib.Core.Bool.{true}
+use mathlib.Core.Bool.{Bool, true}
 use mathlib.Core.List.{List, [], _∷_, _++_}
 use Prim.Native.Nat.{ℕ, suc, _+_, _*_, _≤_, _<_}
 use lib.ListN.{length, take, drop}
@@ -37,6 +37,13 @@ unfoldable pub Reaches : Sizes → List ℕ → (k f y : ℕ) → Spot → Type 
 Reaches s bs k f y r =
     (F : Map) (n : ℕ) (hd : List ℕ) (ps qs : List Order) → Table s F n hd bs → 0 < k → Pieces F (s .nodes) k f 0 (ps ++ qs) → below y ps ≡ true → Up y qs →
     (r .below ≡ length ps) × (r .last ≡ last-from 0 ps)
+
+-- .. and in the whole partition if that is asked for
+pub record Spots (s : Sizes) (bs : List ℕ) (k f y : ℕ) (whole : Bool) (r : Spot) : Type 0 where
+  pub reaches : Reaches s bs k f y r
+  pub scans : whole ≡ true → Scans s bs k f y r
+  pub few : r .below ≤ r .size
+  pub most : r .size ≤ 16711425
 
 -- what an edit needs of a partition and a key at level k: numbers that bytes can hold, and a place in it
 pub record Room (s : Sizes) (k f : ℕ) (ps qs : List Order) (x : Spot) (o : Order) : Type 0 where

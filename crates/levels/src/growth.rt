@@ -1,7 +1,7 @@
 // How much a put adds, and the way down to a key.
 ghost use mathlib.Core.Path.{_≡_};
 ghost use Prim.Native.Nat.{ℕ, _+_, _*_, _-_, _≤_, _<_};
-ghost use Rattle.sizes.specs.Sizes.{beta};
+ghost use Rattle.sizes.specs.Numbers.{over};
 ghost use Rattle.placement.specs.Place.{Shaped};
 ghost use Rattle.levels.specs.Edit.{Grows, Bottoms};
 ghost use Rattle.levels.specs.Scan.{Grown};
@@ -10,7 +10,6 @@ use crate::spots::chunks_of;
 use crate::spots::reach;
 use crate::spots::scan;
 use sizes::Sizes;
-use sizes::numbers::over;
 
 // How many chunks a level has more once a key of level l is there.
 fn grown(s: Sizes, level: u32, l: u32, x: Spot) -> u32
@@ -28,15 +27,15 @@ fn grown(s: Sizes, level: u32, l: u32, x: Spot) -> u32
 }
 
 // How many chunks the table has more once a key of level l is there.
-pub fn growth(table: &[u8], s: Sizes, top: u32, l: u32, y: u32) -> u32
-    requires { ⌜ Shaped s (now table) × (2 ≤ s .nodes) × (top ≤ 19) ⌝ }
+pub fn growth(table: &[u8], s: Sizes, round: u64, top: u32, l: u32, y: u32) -> u32
+    requires { ⌜ Shaped s (now table) × (round ≡ over (s .blocks)) × (2 ≤ s .nodes) × (top ≤ 19) ⌝ }
     ensures { λ r. ⌜ Grows s (now (table .entry)) top l y r × (r ≤ 65536) ⌝ }
 {
     let mut sum: u32 = 0;
     let mut first: u32 = 0;
     let mut level = top;
     while 0 < level {
-        let x = scan(table, s, level, first, y);
+        let x = scan(table, s, round, level, first, y);
         sum = sum + grown(s, level, l, x);
         first = x.last;
         level -= 1;
@@ -45,11 +44,10 @@ pub fn growth(table: &[u8], s: Sizes, top: u32, l: u32, y: u32) -> u32
 }
 
 // The first key of the partition of level 1 that has the nodes just below a key.
-pub fn bottom(table: &[u8], s: Sizes, top: u32, y: u32) -> u32
-    requires { ⌜ Shaped s (now table) × (top ≤ 19) ⌝ }
+pub fn bottom(table: &[u8], s: Sizes, round: u64, top: u32, y: u32) -> u32
+    requires { ⌜ Shaped s (now table) × (round ≡ over (s .blocks)) × (top ≤ 19) ⌝ }
     ensures { λ r. ⌜ Bottoms s (now (table .entry)) top y r ⌝ }
 {
-    let round = over(s.blocks);
     let mut first: u32 = 0;
     let mut level = top;
     while 1 < level {

@@ -5,15 +5,14 @@ ghost use lib.ListN.{length};
 ghost use Rattle.sizes.specs.Numbers.{over};
 ghost use Rattle.placement.specs.Place.{Shaped};
 ghost use Rattle.skiplist.specs.Parts.{pieces};
-ghost use Rattle.levels.specs.Edit.{Scans, Reaches};
+ghost use Rattle.levels.specs.Edit.{Scans, Reaches, Spots};
 ghost use Rattle.levels.specs.Scan.{passed, passes};
 use crate::Spot;
 use placement::Found;
 use placement::Label;
 use placement::labels::offset;
 use placement::search::count_at;
-use placement::search::find;
-use placement::search::find_over;
+use placement::search::find_high;
 use sizes::Sizes;
 use sizes::hash::hash;
 use sizes::numbers::be4;
@@ -52,49 +51,10 @@ fn pass_nodes(table: &[u8], at: usize, n: u32, y: u32, x: Spot) -> Spot
     spot
 }
 
-// How many nodes of a partition are below a key, the key of the last of them, and how many nodes there are.
-pub fn scan(table: &[u8], s: Sizes, level: u32, first: u32, y: u32) -> Spot
-    requires { ⌜ Shaped s (now table) ⌝ }
-    ensures { λ r. ⌜ Scans s (now (table .entry)) level first y r × (r .below ≤ r .size) × (r .size ≤ 16711425) ⌝ }
-{
-    let mut spot = Spot {
-        below: 0,
-        last: 0,
-        size: 0,
-    };
-    let mut number: u32 = 0;
-    while number < s.blocks {
-        let Found::At(i) = find(
-            table,
-            s,
-            Label {
-                level: level,
-                first: first,
-                number: number,
-            },
-        ) else {
-            return spot;
-        };
-        let n = count_at(table, s, i);
-        // No block of a table has more nodes than fit.
-        if s.nodes < n {
-            return spot;
-        }
-        let at = offset(s, i) + 8;
-        spot = pass_nodes(table, at, n, y, spot);
-        // A chunk comes only behind a full one.
-        if n < s.nodes {
-            return spot;
-        }
-        number += 1;
-    }
-    spot
-}
-
-// The same only as far as a node that is not below the key: none behind it is. `round` is 2^32 over the number of blocks, rounded up.
-pub fn reach(table: &[u8], s: Sizes, round: u64, level: u32, first: u32, y: u32) -> Spot
+// How many nodes of a partition are below a key, the key of the last of them, and how many nodes there are: `whole`, or else only as far as a node that is not below the key, as none behind it is. `round` is 2^32 over the number of blocks, rounded up.
+fn spot_in(table: &[u8], s: Sizes, round: u64, level: u32, first: u32, y: u32, whole: bool) -> Spot
     requires { ⌜ Shaped s (now table) × (round ≡ over (s .blocks)) × (level ≤ 19) ⌝ }
-    ensures { λ r. ⌜ Reaches s (now (table .entry)) level first y r ⌝ }
+    ensures { λ r. ⌜ Spots s (now (table .entry)) level first y whole r ⌝ }
 {
     let g = hash(s, 5, first);
     let mut spot = Spot {
@@ -104,7 +64,7 @@ pub fn reach(table: &[u8], s: Sizes, round: u64, level: u32, first: u32, y: u32)
     };
     let mut number: u32 = 0;
     while number < s.blocks {
-        let Found::At(i) = find_over(
+        let Found::At(i) = find_high(
             table,
             s,
             round,
@@ -124,17 +84,34 @@ pub fn reach(table: &[u8], s: Sizes, round: u64, level: u32, first: u32, y: u32)
         }
         let at = offset(s, i) + 8;
         spot = pass_nodes(table, at, n, y, spot);
-        // A node that is not below the key came by.
-        if spot.below < spot.size {
-            return spot;
-        }
         // A chunk comes only behind a full one.
         if n < s.nodes {
             return spot;
         }
+        if !whole {
+            if spot.below < spot.size {
+                return spot;
+            }
+        }
         number += 1;
     }
     spot
+}
+
+// All nodes of a partition.
+pub fn scan(table: &[u8], s: Sizes, round: u64, level: u32, first: u32, y: u32) -> Spot
+    requires { ⌜ Shaped s (now table) × (round ≡ over (s .blocks)) × (level ≤ 19) ⌝ }
+    ensures { λ r. ⌜ Scans s (now (table .entry)) level first y r × (r .below ≤ r .size) × (r .size ≤ 16711425) ⌝ }
+{
+    spot_in(table, s, round, level, first, y, true)
+}
+
+// As far as a node that is not below the key.
+pub fn reach(table: &[u8], s: Sizes, round: u64, level: u32, first: u32, y: u32) -> Spot
+    requires { ⌜ Shaped s (now table) × (round ≡ over (s .blocks)) × (level ≤ 19) ⌝ }
+    ensures { λ r. ⌜ Reaches s (now (table .entry)) level first y r ⌝ }
+{
+    spot_in(table, s, round, level, first, y, false)
 }
 
 // The chunks of so many nodes.

@@ -60,7 +60,8 @@ pub fn order_of(table: &[u8], key: u32) -> Sought
     if 1 < level_of(s, top, key) {
         return node_there(table, s, key, 0, key);
     }
-    let first = bottom(table, s, top, key);
-    let x = reach(table, s, over(s.blocks), 1, first, key);
+    let round = over(s.blocks);
+    let first = bottom(table, s, round, top, key);
+    let x = reach(table, s, round, 1, first, key);
     node_there(table, s, first, x.below, key)
 }

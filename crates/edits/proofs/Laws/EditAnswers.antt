@@ -93,6 +93,9 @@ module _ (bs : List ℕ) (e : is-image bs ≡ true) where
   pub image-blocks : (s : Sizes) → s ≡ sizes-in bs → s .blocks ≤ 65535
   image-blocks s q = rw q (image-limits .blocks-most)
 
+  pub image-blocks-some : (s : Sizes) → s ≡ sizes-in bs → 0 < s .blocks
+  image-blocks-some s q = image-shaped s q .some
+
   pub image-seeds : (s : Sizes) → s ≡ sizes-in bs → seed-good (s .seed) ≡ true
   image-seeds s q = rw q (image-limits .seeds)
 

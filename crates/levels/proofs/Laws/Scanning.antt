@@ -1,7 +1,7 @@
 -- Laws of a scan: a node comes by, the nodes of a chunk, the chunks of a partition. Assumes nothing.
 use mathlib.Core.Path.{_≡_, refl, sym, ap, _∙_, subst}
 use mathlib.Core.Logic.{_≢_}
-use mathlib.Core.Bool.{true, and-false}
+use mathlib.Core.Bool.{Bool, true, false, true≢false, and-false}
 use mathlib.Core.List.{List, [], _∷_, _++_}
 use Prim.Native.Nat.{ℕ, zero, suc, _+_, _*_, _-_, _≤_, _<_}
 use native.Mathlib.Nat.{sub-zero, suc-mul, mul-le-mul-right}
@@ -30,7 +30,7 @@ use Rattle.placement.proofs.Laws.Reading.{node-at, count-read, key-read}
 use Rattle.skiplist.proofs.Parts.{Up, below, up-front, and-left, and-right}
 use Rattle.skiplist.proofs.Descent.{last-from}
 use Rattle.levels.specs.declared.Spot.{Spot}
-use Rattle.levels.specs.Edit.{Pieces, Scans, Reaches}
+use Rattle.levels.specs.Edit.{Pieces, Scans, Reaches, Spots}
 use Rattle.levels.specs.Scan.{passed, passes}
 
 -- A NODE
@@ -254,12 +254,19 @@ module _ (s : Sizes) (bs : List ℕ) (k f y i : ℕ) (z : Spot) (p : Scanning s 
   scanning-end h F n hd ps qs t pos c low high =
       all-came ps qs (omega (arith, chunks-most s k f pos F n hd bs (ps ++ qs) t c, mul-le-mul-right (s .nodes) h)) low high (p .so-far F n hd (ps ++ qs) t pos c)
 
-  -- a node that is not below y came by
-  pub scanning-past : z .below < z .size → Reaches s bs k f y z
+  -- what a spot says once all nodes came by
+  pub spot-all : s .blocks ≤ 65535 → (whole : Bool) → Scans s bs k f y z → Spots s bs k f y whole z
+  spot-all b whole sc = record { reaches = reached s bs k f y z sc; scans = λ e. sc; few = p .few; most = omega (arith, p .most, p .within) }
+
+  -- .. or one that is not below y
+  past : z .below < z .size → Reaches s bs k f y z
   unfolding Reaches
-  scanning-past h F n hd ps qs t pos c low high =
+  past h F n hd ps qs t pos c low high =
       let r = passed-some y (i * s .nodes) ps qs start low high (omega arith) z (p .so-far F n hd (ps ++ qs) t pos c) h in
       (omega (arith, r .0), r .1)
+
+  pub spot-past : s .blocks ≤ 65535 → (whole : Bool) → whole ≡ false → z .below < z .size → Spots s bs k f y whole z
+  spot-past b whole n h = record { reaches = past h; scans = λ e. absurd (true≢false (sym e ∙ n)); few = p .few; most = omega (arith, p .most, p .within) }
 
   module _ (r : Found) (er : r ≡ search-in s bs (record { level = k; first = f; number = i })) where
     finds : (F : Map) (n : ℕ) (hd : List ℕ) → Table s F n hd bs → 0 < k → Finds s F (record { level = k; first = f; number = i }) bs r
@@ -301,9 +308,9 @@ module _ (s : Sizes) (bs : List ℕ) (k f y i : ℕ) (z : Spot) (p : Scanning s 
       unfolding Scans
       scanning-wide h F m hd ps qs t pos c low high = absurd (omega (arith, nodes-few F m hd t pos))
 
-      pub scanning-more : i < s .blocks → n ≤ s .nodes → s .nodes ≤ 32 → (at : ℕ) (w : Spot) → at ≡ 53 + b * block-long s → w ≡ passes bs n (at + 8) y z → w .below ≤ w .size →
+      next-came : i < s .blocks → n ≤ s .nodes → s .nodes ≤ 32 → (at : ℕ) (w : Spot) → at ≡ 53 + b * block-long s → w ≡ passes bs n (at + 8) y z → w .below ≤ w .size →
           w .size ≡ z .size + n → Scanning s bs k f y (i + 1) w
-      scanning-more lt le few at w ea ew short long =
+      next-came lt le few at w ea ew short long =
           record {
             within = omega arith;
             few = short;
@@ -321,12 +328,16 @@ module _ (s : Sizes) (bs : List ℕ) (k f y i : ℕ) (z : Spot) (p : Scanning s 
           next : i * s .nodes + s .nodes ≡ (i + 1) * s .nodes
           next = rw add-one (sym (suc-mul i (s .nodes)))
 
--- a chunk that is not full is the last
+-- one more chunk came by; if it is not full, it is the last
+pub record Came (s : Sizes) (bs : List ℕ) (k f y i n : ℕ) (w : Spot) : Type 0 where
+  pub next : Scanning s bs k f y (i + 1) w
+  pub stop : n < s .nodes → Scans s bs k f y w
+
 module _ (s : Sizes) (bs : List ℕ) (k f y i : ℕ) (z : Spot) (p : Scanning s bs k f y i z) (r : Found) (er : r ≡ search-in s bs (record { level = k; first = f; number = i }))
     (b : ℕ) (eb : r ≡ At b) (n : ℕ) (en : n ≡ getD bs (53 + b * block-long s + 1) 0) where
-  pub scanning-stop : (w : Spot) → Scanning s bs k f y (i + 1) w → n < s .nodes → Scans s bs k f y w
+  last-came : (w : Spot) → Scanning s bs k f y (i + 1) w → n < s .nodes → Scans s bs k f y w
   unfolding Scans
-  scanning-stop w q h F m hd ps qs t pos c low high =
+  last-came w q h F m hd ps qs t pos c low high =
       all-came s bs k f y (i + 1) w q ps qs short low high (q .so-far F m hd (ps ++ qs) t pos c)
     where
       next : (i + 1) * s .nodes ≡ i * s .nodes + s .nodes
@@ -340,3 +351,9 @@ module _ (s : Sizes) (bs : List ℕ) (k f y i : ℕ) (z : Spot) (p : Scanning s 
             next,
             simp (length-take, length-drop) at (counted s bs k f y i z p r er b eb n en F m hd t pos ∙ ap length (piece s k f pos F m hd bs (ps ++ qs) t c i)),
           )
+
+  pub scanning-more : i < s .blocks → n ≤ s .nodes → s .nodes ≤ 32 → (at : ℕ) (w : Spot) → at ≡ 53 + b * block-long s → w ≡ passes bs n (at + 8) y z → w .below ≤ w .size →
+      w .size ≡ z .size + n → Came s bs k f y i n w
+  scanning-more lt le few at w ea ew short long =
+      let q = next-came s bs k f y i z p r er b eb n en lt le few at w ea ew short long in
+      record { next = q; stop = last-came w q }

@@ -9,4 +9,4 @@ ruleset laws = (needs, put-held-high, put-held-low)
 pub put-held-spec : {M : Type 1} → statement M
 put-held-spec =
     tie.close
-    (tie.spec (λ c κs. search laws) (λ c. search laws) (λ c. search laws) (λ c κs. search laws) (λ c κs. search laws) (λ c κs. search laws) (λ c κs. search laws) (λ c. search laws) (λ c. search laws))
+    (tie.spec (λ c κs. search laws) (λ c. search laws) (λ c. search laws) (λ c κs. search laws) (λ c κs. search laws) (λ c κs. search laws) (λ c. search laws) (λ c. search laws))

@@ -7,12 +7,12 @@ use Rattle.levels.proofs.growth.bottom.Tie as tie
 ruleset laws = (needs, lowering-start, lowering-more, lowering-end)
 
 abbrev Inv-loop : tie.InvT-loop
-Inv-loop table s top y round first₀ level₀ first level = Lowering s table top y level first
+Inv-loop table s round top y first₀ level₀ first level = Lowering s table top y level first
 
 abbrev μ-loop : tie.MeasureT-loop
-μ-loop table s top y round first₀ level₀ first level = level
+μ-loop table s round top y first₀ level₀ first level = level
 
 pub bottom-spec : {M : Type 1} → statement M
 bottom-spec =
     tie.close
-    (tie.spec Inv-loop μ-loop (λ c κs. search laws) (λ c. search laws) (λ c κs. search laws) (λ c. search laws) (λ c. search laws) (λ c. search laws) (λ c. search laws))
+    (tie.spec Inv-loop μ-loop (λ c. search laws) (λ c κs. search laws) (λ c. search laws) (λ c. search laws) (λ c. search laws) (λ c. search laws))
