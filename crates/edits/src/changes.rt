@@ -17,8 +17,8 @@ use levels::edit::cancel_in;
 use levels::edit::put_below;
 use levels::edit::put_in;
 use levels::edit::replace;
-use levels::growth::bottom;
 use levels::growth::growth;
+use levels::growth::lead;
 use levels::spots::reach;
 use levels::spots::scan;
 use placement::Order;
@@ -81,7 +81,7 @@ fn put_held(table: &mut [u8], s: Sizes, round: u64, top: u32, l: u32, o: Order)
         replace(table, s, o.key, 0, o);
         return;
     }
-    let first = bottom(table, s, round, top, o.key);
+    let first = lead(table, s, round, top, 1, o.key);
     let x = reach(table, s, round, 1, first, o.key);
     replace(table, s, first, x.below, o);
 }
@@ -108,10 +108,11 @@ fn put_free(
     l: u32,
     o: Order,
 ) -> u32
-    requires { ⌜ Put-sure (now table) (o .key) (o .total) (o .displayed) × Sized (now table) s top l (o .key) × Put-free (now table) s (o .key) × (held ≡ held-in (now table)) × (full ≡ length (chunks s (orders-in (now table)))) × (round ≡ over (s .blocks)) × (top ≤ 19) ⌝ }
+    requires { ⌜ Put-sure (now table) (o .key) (o .total) (o .displayed) × Sized (now table) s top l (o .key) × Put-free (now table) s (o .key) × (held ≡ held-in (now table)) × (full ≡ length (chunks s (orders-in (now table)))) × (round ≡ over (s .blocks)) × (l ≤ top) × (top ≤ 19) ⌝ }
     ensures { λ r. ⌜ Put-says (o .key) (o .total) (o .displayed) r (now (table .entry)) (now (table .exit)) ⌝ }
 {
-    let more = growth(table, s, round, top, l, o.key);
+    let first = lead(table, s, round, top, l, o.key);
+    let more = growth(table, s, round, first, l, o.key);
     if s.blocks < full + more {
         return 8;
     }

@@ -106,14 +106,22 @@ Replaces s f m o bs bs′ =
     (F : Map) (n : ℕ) (hd : List ℕ) (ps : List Order) (y : Order) (qs : List Order) → Table s F n hd bs → Fine o → y .key ≡ o .key → m ≡ length ps →
     length (ps ++ y ∷ qs) ≤ 65536 → Pieces F (s .nodes) 1 f 0 (ps ++ y ∷ qs) → Comes-in s F n hd bs′ 1 f (ps ++ y ∷ qs) (ps ++ o ∷ qs)
 
--- HOW MANY CHUNKS MORE the table of some orders has once a key that is not held is there
-unfoldable pub Grows : Sizes → List ℕ → (top l y : ℕ) → ℕ → Type 0
-Grows s bs top l y r =
-    (xs : List Order) (o : Order) (zs : List Order) → made s ≡ true → orders-good 1 (xs ++ zs) ≡ true → fits s (xs ++ zs) ≡ true → bs ≡ image s (xs ++ zs) →
-    below y xs ≡ true → Up (suc y) zs → 0 < y → o .key ≡ y → top ≡ beta s → l ≡ level s y → r + length (chunks s (xs ++ zs)) ≡ length (chunks s (xs ++ o ∷ zs))
+-- THE WAY DOWN to a key y in the image of xs, below it, and zs, not below it
+pub record Way (s : Sizes) (bs : List ℕ) (y : ℕ) (xs zs : List Order) : Type 0 where
+  pub good : made s ≡ true
+  pub orders : orders-good 1 (xs ++ zs) ≡ true
+  pub fit : fits s (xs ++ zs) ≡ true
+  pub is : bs ≡ image s (xs ++ zs)
+  pub low : below y xs ≡ true
+  pub high : Up y zs
+  pub pos : 0 < y
 
--- THE PARTITION OF LEVEL 1 that has the orders just below a key
-unfoldable pub Bottoms : Sizes → List ℕ → (top y : ℕ) → ℕ → Type 0
-Bottoms s bs top y r =
-    (xs zs : List Order) → made s ≡ true → orders-good 1 (xs ++ zs) ≡ true → fits s (xs ++ zs) ≡ true → bs ≡ image s (xs ++ zs) → below y xs ≡ true → Up y zs → 0 < y →
-    top ≡ beta s → r ≡ first-key (head-part s 1 xs)
+-- THE PARTITION OF LEVEL l that has the nodes just below a key: its first key
+unfoldable pub Leads : Sizes → List ℕ → (top l y : ℕ) → ℕ → Type 0
+Leads s bs top l y r = (xs zs : List Order) → Way s bs y xs zs → top ≡ beta s → l ≤ top → r ≡ first-key (head-part s l xs)
+
+-- HOW MANY CHUNKS MORE the table has once a key of level l that is not held is there; f is what leads to it
+unfoldable pub Grows : Sizes → List ℕ → (f l y : ℕ) → ℕ → Type 0
+Grows s bs f l y r =
+    (xs : List Order) (o : Order) (zs : List Order) → Way s bs y xs zs → f ≡ first-key (head-part s l xs) → o .key ≡ y → l ≡ level s y →
+    r + length (chunks s (xs ++ zs)) ≡ length (chunks s (xs ++ o ∷ zs))

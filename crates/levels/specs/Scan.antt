@@ -17,9 +17,8 @@ unfoldable pub passes : List ℕ → (left at y : ℕ) → Spot → Spot
 passes bs zero a y x = x
 passes bs (suc j) a y x = passes bs j (a + 12) y (passed (field a 4 bs) y x)
 
--- HOW MANY CHUNKS MORE level k has once a key of level l is there, where x says how the key comes
+-- HOW MANY CHUNKS MORE level k has once a key of level l, not below k, is there, where x says how the key comes
 pub record Grown (b k l : ℕ) (x : Spot) (r : ℕ) : Type 0 where
-  pub above : l < k → r ≡ 0
   pub same : k ≡ l → r + pieces b (x .size) ≡ pieces b (suc (x .size))
   pub under : k < l → r + pieces b (x .size) ≡ pieces b (x .below) + pieces b (suc (x .size - x .below))
   pub few : r ≤ 2

@@ -8,7 +8,7 @@ ghost use Rattle.skiplist.specs.Questions.{between};
 ghost use Rattle.skiplist.specs.Parts.{part};
 ghost use Rattle.readings.specs.Visit.{Known, first-enough, with-key};
 use crate::calls::Sought;
-use levels::growth::bottom;
+use levels::growth::lead;
 use levels::spots::reach;
 use placement::Found;
 use placement::Label;
@@ -61,7 +61,7 @@ pub fn order_of(table: &[u8], key: u32) -> Sought
         return node_there(table, s, key, 0, key);
     }
     let round = over(s.blocks);
-    let first = bottom(table, s, round, top, key);
+    let first = lead(table, s, round, top, 1, key);
     let x = reach(table, s, round, 1, first, key);
     node_there(table, s, first, x.below, key)
 }

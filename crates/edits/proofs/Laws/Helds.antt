@@ -18,11 +18,11 @@ use Rattle.skiplist.proofs.Descent.{tail-above}
 use Rattle.skiplist.proofs.Image.{image-keeps}
 use Rattle.skiplist.proofs.Edits.{beta-least, level-least, head-part, tail-part, part-in, part-left, part-right, part-other}
 use Rattle.levels.specs.declared.Spot.{Spot}
-use Rattle.levels.specs.Edit.{Reaches, Replaces, Bottoms}
+use Rattle.levels.specs.Edit.{Reaches, Replaces, Leads}
 use Rattle.edits.specs.Change.{Put-held}
 use Rattle.table.proofs.Laws.MaskedKeys.{head-most, tail-most}
 use Rattle.edits.proofs.Laws.WayLevels.{as-pieces}
-use Rattle.edits.proofs.Laws.Settings.{all-up, front-below, behind-up, key-pos, some-nodes, few-orders, part-beside}
+use Rattle.edits.proofs.Laws.Settings.{all-up, behind-up, some-nodes, held-way, few-orders, part-beside}
 use Rattle.edits.proofs.Laws.WaySpots.{come-to}
 use Rattle.edits.proofs.Laws.Swaps.{swapped}
 
@@ -46,8 +46,8 @@ module _ (s : Sizes) (top l : ℕ) (o : Order) (bs bs′ : List ℕ) where
           part-other s 1 xs y zs (all-up s xs y zs w) g (eqb-false (first-key (head-part s 1 xs)) g z) (λ q. n (sym e ∙ q))
           ∙ sym (part-other s 1 xs o zs (all-up s xs o zs v) g (eqb-false (first-key (head-part s 1 xs)) g z) n)
 
-  pub put-held-low : (f : ℕ) (x : Spot) → l ≤ 1 → Bottoms s bs top (o .key) f → Reaches s bs 1 f (o .key) x → Replaces s f (x .below) o bs bs′ → Put-held s top l o bs bs′
-  unfolding Put-held Bottoms
+  pub put-held-low : (f : ℕ) (x : Spot) → l ≤ 1 → Leads s bs top 1 (o .key) f → Reaches s bs 1 f (o .key) x → Replaces s f (x .below) o bs bs′ → Put-held s top l o bs bs′
+  unfolding Put-held Leads
   put-held-low f x h b sc r xs y zs w v e te le i =
       swapped s xs y o zs e w v (first-key (head-part s 1 xs)) (x .below) (head-part s 1 xs) (tail-part s 1 zs) bs bs′ (rw fe at r) i seen
       (simp length-append (omega (arith, head-most s 1 xs, tail-most s 1 zs, few-orders s xs o zs v))) in-y (part-in s 1 xs o zs (all-up s xs o zs v) at-o)
@@ -66,7 +66,7 @@ module _ (s : Sizes) (top l : ℕ) (o : Order) (bs bs′ : List ℕ) where
       from = omega (arith, e)
 
       fe : f ≡ first-key (head-part s 1 xs)
-      fe = b xs (y ∷ zs) (w .sizes) (w .good) (w .fit) i (front-below s xs o zs v) (from, behind-up s xs y zs w) (key-pos s xs o zs v) te
+      fe = b xs (y ∷ zs) (held-way s xs y zs w bs (o .key) i e) te (omega (arith, te, beta-least s))
 
       seen : x .below ≡ length (head-part s 1 xs)
       seen =

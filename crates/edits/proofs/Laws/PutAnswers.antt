@@ -18,15 +18,16 @@ use Rattle.sizes.specs.Header.{sizes-in, held-in}
 use Rattle.sizes.specs.declared.Sizes.{Sizes}
 use Rattle.placement.specs.declared.Order.{Order}
 use Rattle.sizes.proofs.Laws.Sizes.{some-nodes}
-use Rattle.skiplist.specs.Lists.{chunks}
+use Rattle.skiplist.specs.Lists.{first-key, chunks}
 use Rattle.skiplist.specs.Image.{image, is-image, orders-in, quantities-good, fits}
 use Rattle.skiplist.specs.Questions.{first-no, asks-put, is-key, held, order, with-order}
 use Rattle.skiplist.specs.Book.{put, booked, put-refusal, refusal}
-use Rattle.skiplist.proofs.Parts.{Up, and-left, up-past, good-up, below}
+use Rattle.skiplist.proofs.Parts.{Up, and-left, up-from, up-past, good-up, below}
+use Rattle.skiplist.proofs.Edits.{head-part, level-most}
 use Rattle.skiplist.proofs.Shapes.{Place, there, absent, place, held-there, held-absent, put-new, put-old}
 use Rattle.skiplist.proofs.Kept.{fits-parts, fits-make, Kept, kept-put}
 use Rattle.table.specs.Calls.{Put-says}
-use Rattle.levels.specs.Edit.{Grows}
+use Rattle.levels.specs.Edit.{Way, Leads, Grows}
 use Rattle.edits.specs.Change.{Put-new, Put-held, Put-sure, Sized, Put-free}
 use Rattle.edits.proofs.Laws.Swaps.{chunks-swap}
 use Rattle.edits.proofs.Laws.ChunkBounds.{chunks-small}
@@ -58,12 +59,26 @@ module _ (s : Sizes) (k t d : ℕ) (os : List Order) (m : made s ≡ true) (w : 
     new-length = new-at (λ (z : List Order). length (with-order (order k t d) z) ≡ suc (length z))
         (λ xs zs q f v. rw (put-new (order k t d) xs zs f v, length-append xs (order k t d ∷ zs), length-append xs zs) (add-suc (length xs) (length zs)))
 
-    new-count : (bs : List ℕ) (top l g : ℕ) → bs ≡ image s os → Grows s bs top l k g → top ≡ beta s → l ≡ level s k →
-        g + length (chunks s os) ≡ length (chunks s (with-order (order k t d) os))
-    unfolding Grows
-    new-count bs top l g i h te le = new-at (λ (z : List Order). g + length (chunks s z) ≡ length (chunks s (with-order (order k t d) z)))
-        (λ xs zs q f v. rw (put-new (order k t d) xs zs f v)
-        (h xs (order k t d) zs m (rw q at (w .good)) (rw q at (w .fit)) (rw q at i) f v (key-some k key) refl te le))
+    module _ (bs : List ℕ) (top l f : ℕ) (i : bs ≡ image s os) (te : top ≡ beta s) (le : l ≡ level s k) (ld : Leads s bs top l k f) where
+      new-way : (xs zs : List Order) → os ≡ xs ++ zs → below k xs ≡ true → Up (suc k) zs → Way s bs k xs zs
+      new-way xs zs q b v = record {
+        good = m;
+        orders = rw q at (w .good);
+        fit = rw q at (w .fit);
+        is = rw q at i;
+        low = b;
+        high = up-from zs (omega arith) v;
+        pos = key-some k key;
+      }
+
+      new-first : (xs zs : List Order) → os ≡ xs ++ zs → below k xs ≡ true → Up (suc k) zs → f ≡ first-key (head-part s l xs)
+      unfolding Leads
+      new-first xs zs q b v = ld xs zs (new-way xs zs q b v) te (omega (arith, te, le, level-most s k))
+
+      new-count : (g : ℕ) → Grows s bs f l k g → g + length (chunks s os) ≡ length (chunks s (with-order (order k t d) os))
+      unfolding Grows
+      new-count g h = new-at (λ (z : List Order). g + length (chunks s z) ≡ length (chunks s (with-order (order k t d) z)))
+          (λ xs zs q b v. rw (put-new (order k t d) xs zs b v) (h xs (order k t d) zs (new-way xs zs q b v) (new-first xs zs q b v) refl le))
 
     new-no-7 : s .orders ≤ length os → put-refusal s k t d os ≡ 7
     unfolding put-refusal first-no asks-put
@@ -159,11 +174,11 @@ module _ (bs : List ℕ) (s : Sizes) (k t d : ℕ) (p : Put-sure bs k t d) where
         put-accepted bs′ (z .sizes-are) (old-yes s k t d (orders-in bs) (w .sizes-made) (w .kept) (p .key) (p .quantities) h)
         (old-image s k t d (orders-in bs) (w .sizes-made) (w .kept) (p .key) (p .quantities) h bs bs′ top l (w .is) (z .top-is) (z .level-is) c)
 
-    module _ (f : Put-free bs s k) (full g : ℕ) (n : full ≡ length (chunks s (orders-in bs))) (c : Grows s bs top l k g) where
+    module _ (f : Put-free bs s k) (full first g : ℕ) (n : full ≡ length (chunks s (orders-in bs))) (ld : Leads s bs top l k first) (c : Grows s bs first l k g) where
       pub counted : full + g ≡ length (chunks s (with-order (order k t d) (orders-in bs)))
       counted =
           let w = on-image bs s (p .image) (z .sizes-are) in
-          omega (arith, n, new-count s k t d (orders-in bs) (w .sizes-made) (w .kept) (p .key) (p .quantities) (f .absent-is) bs top l g (w .is) c (z .top-is) (z .level-is))
+          omega (arith, n, new-count s k t d (orders-in bs) (w .sizes-made) (w .kept) (p .key) (p .quantities) (f .absent-is) bs top l first (w .is) (z .top-is) (z .level-is) ld g c)
 
       pub more-orders : length (orders-in bs) < s .orders
       more-orders = omega (arith, f .more, image-held bs (p .image))
@@ -185,14 +200,14 @@ module _ (bs : List ℕ) (s : Sizes) (k t d : ℕ) (p : Put-sure bs k t d) where
           ∙ new-image s k t d (orders-in bs) (w .sizes-made) (w .kept) (p .key) (p .quantities) (f .absent-is) bs bs₁ top l r (w .is) (z .top-is) (z .level-is) v)
 
 -- the sum of question 8 is one that 32 bits hold
-pub put-sum : (bs : List ℕ) (s : Sizes) (top l k full g : ℕ) → full ≡ length (chunks s (orders-in bs)) → Grows s bs top l k g → is-image bs ≡ true → is-key k ≡ true → Sized bs s top l k → Put-free bs s k → top ≤ 19 → Fits w32 (full + g)
+pub put-sum : (bs : List ℕ) (s : Sizes) (top l k full f g : ℕ) → full ≡ length (chunks s (orders-in bs)) → Leads s bs top l k f → Grows s bs f l k g → is-image bs ≡ true → is-key k ≡ true → Sized bs s top l k → Put-free bs s k → top ≤ 19 → Fits w32 (full + g)
 unfolding quantities-good
-put-sum bs s top l k full g n c i key z f h =
+put-sum bs s top l k full e g n ld c i key z f h =
     let p : Put-sure bs k 1 0 = record { image = i; key = key; quantities = refl } in
     let w = on-image bs s i (z .sizes-are) in
-    let e = new-length s k 1 0 (orders-in bs) (w .sizes-made) (w .kept) key (p .quantities) (f .absent-is) in
+    let len = new-length s k 1 0 (orders-in bs) (w .sizes-made) (w .kept) key (p .quantities) (f .absent-is) in
     record {
-      fits = rw (counted bs s k 1 0 p top l z f full g n c)
+      fits = rw (counted bs s k 1 0 p top l z f full e g n ld c)
           (chunks-small s (with-order (order k 1 0) (orders-in bs)) (some-nodes s (w .sizes-made)) (omega (arith, h, z .top-is))
-          (omega (arith, e, more-orders bs s k 1 0 p top l z f full g n c, image-orders bs i s (z .sizes-are))));
+          (omega (arith, len, more-orders bs s k 1 0 p top l z f full e g n ld c, image-orders bs i s (z .sizes-are))));
     }

@@ -14,12 +14,13 @@ use Rattle.sizes.specs.declared.Sizes.{Sizes}
 use Rattle.placement.specs.declared.Order.{Order}
 use Rattle.sizes.proofs.Laws.Sizes.{limits}
 use Rattle.skiplist.specs.Lists.{first-key, masked, chunks}
-use Rattle.skiplist.specs.Image.{quantities-good, orders-good, fits}
+use Rattle.skiplist.specs.Image.{image, quantities-good, orders-good, fits}
 use Rattle.skiplist.proofs.Parts.{Up, and-left, and-right, up-past, good-up, up-out, up-front, below, below-here, part, without-here}
 use Rattle.skiplist.proofs.Shapes.{held-absent, up-behind, part-none}
 use Rattle.skiplist.proofs.Kept.{good-without, fits-parts, fits-fewer}
 use Rattle.skiplist.proofs.Third.{good-at}
 use Rattle.skiplist.proofs.Edits.{head-part, part-with, with-part}
+use Rattle.levels.specs.Edit.{Way}
 use Rattle.edits.specs.Change.{Setting}
 use Rattle.table.proofs.Laws.MaskedKeys.{head-first-below}
 
@@ -74,6 +75,11 @@ module _ (s : Sizes) (xs : List Order) (o : Order) (zs : List Order) (w : Settin
 
   pub less-fit : fits s (xs ++ zs) ≡ true
   less-fit = fits-fewer s xs o zs some-nodes key-pos (w .fit)
+
+  -- the way down to the order in an image
+  pub held-way : (bs : List ℕ) (k : ℕ) → bs ≡ image s (xs ++ o ∷ zs) → o .key ≡ k → Way s bs k xs (o ∷ zs)
+  held-way bs k i e =
+      rw (← e) (record { good = w .sizes; orders = w .good; fit = w .fit; is = i; low = front-below; high = (omega arith, behind-up); pos = key-pos })
 
   pub first-low : (k : ℕ) → first-key (head-part s k xs) < o .key
   first-low k = head-first-below s k (o .key) xs key-pos front-below

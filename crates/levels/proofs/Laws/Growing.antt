@@ -5,10 +5,10 @@ use mathlib.Core.List.{List, _∷_, _++_, map, map-append}
 use Prim.Native.Nat.{ℕ, zero, suc, _+_, _*_, _-_, _/_, _≤_, _<_}
 use native.Mathlib.Nat.{div-le-self, div-lt-iff-lt-mul, div-mul-le-self, lt-div-mul-add, le-div-iff-mul-le}
 use native.Mathlib.Omega.{arith}
-use borrow.Author.Tests.{ltb-true, ltb-false, eqb-true, eqb-false}
+use borrow.Author.Tests.{eqb-true, eqb-false}
 use lib.Dec.{ltb, eqb}
 use lib.ListN.{length, take, drop, length-append, length-map}
-use Rattle.sizes.specs.Sizes.{beta, made}
+use Rattle.sizes.specs.Sizes.{beta}
 use Rattle.sizes.specs.Hash.{level}
 use Rattle.sizes.specs.Header.{header}
 use Rattle.placement.specs.Maps.{map-of, Table}
@@ -16,16 +16,15 @@ use Rattle.sizes.specs.declared.Sizes.{Sizes}
 use Rattle.placement.specs.declared.Order.{Order}
 use Rattle.sizes.proofs.Laws.Sizes.{some-nodes}
 use Rattle.skiplist.specs.Lists.{masked, first-key, chunks}
-use Rattle.skiplist.specs.Image.{image, orders-good, fits}
-use Rattle.skiplist.proofs.Parts.{Up, below, up-from, up-front, good-up, part}
-use Rattle.skiplist.proofs.Edits.{head-part, tail-part, part-at, beta-least}
+use Rattle.skiplist.proofs.Parts.{Up, below, up-front, good-up, part}
+use Rattle.skiplist.proofs.Edits.{head-part, tail-part, part-at, level-most}
 use Rattle.skiplist.proofs.Descent.{last-from, step-down, start-top, head-below, tail-above}
 use Rattle.skiplist.proofs.Count.{pieces, pieces-up, pieces-cut, count, counts, count-low, count-same, count-high, length-chunks}
 use Rattle.skiplist.proofs.Faithful.{map-is}
 use Rattle.skiplist.proofs.Masks.{map-take, map-drop, below-masked, up-masked, last-masked}
 use Rattle.skiplist.proofs.Image.{image-keeps}
 use Rattle.levels.specs.declared.Spot.{Spot}
-use Rattle.levels.specs.Edit.{Pieces, Scans, Reaches, Grows, Bottoms}
+use Rattle.levels.specs.Edit.{Pieces, Scans, Reaches, Way, Leads, Grows}
 use Rattle.levels.specs.Scan.{Grown}
 use Rattle.levels.proofs.Laws.Scanning.{reached}
 
@@ -60,9 +59,6 @@ pieces-twice b (suc p) q h =
     (omega (arith, le-div-iff-mul-le {x = p / b + q / b} {y = p + q} h .1 (omega (arith, div-mul-le-self p b, div-mul-le-self q b))))
 
 module _ (b : ℕ) (pos : 0 < b) (k l : ℕ) (x : Spot) where
-  pub grown-above : l < k → Grown b k l x 0
-  grown-above h = record { above = λ g. refl; same = λ g. absurd (omega arith); under = λ g. absurd (omega arith); few = omega arith }
-
   module _ (p q : ℕ) (ep : p ≡ pieces b (x .size + 1)) (eq : q ≡ pieces b (x .size)) where
     one-more : p ≡ pieces b (suc (x .size))
     one-more = let e : x .size + 1 ≡ suc (x .size) = omega arith in ep ∙ ap (pieces b) e
@@ -72,7 +68,6 @@ module _ (b : ℕ) (pos : 0 < b) (k l : ℕ) (x : Spot) where
 
     pub grown-same : k ≡ l → Grown b k l x (p - q)
     grown-same e = record {
-      above = λ g. absurd (omega arith);
       same = λ g. omega (arith, same-less, one-more);
       under = λ g. absurd (omega arith);
       few = omega (arith, pieces-step b (x .size) pos, one-more);
@@ -97,24 +92,14 @@ module _ (b : ℕ) (pos : 0 < b) (k l : ℕ) (x : Spot) where
             let h : 0 < suc m = omega arith in
             omega (arith, pieces-cut b (suc m) n pos h, behind, ap (λ (j : ℕ). pieces b (suc j)) en, er, ap (pieces b) e, ep, ap (pieces b) em)
 
-    pub grown-under : k ≤ l → (k ≡ l → ⊥) → Grown b k l x (p + q - r)
-    grown-under m n = record {
-      above = λ g. absurd (omega arith);
+    pub grown-under : (k ≡ l → ⊥) → Grown b k l x (p + q - r)
+    grown-under n = record {
       same = λ g. absurd (n g);
       under = λ g. omega (arith, under-less, ep, behind, er);
       few = omega (arith, pieces-twice b (x .below) (x .size - x .below) pos, ap (pieces b) both, ep, behind, er);
     }
 
--- THE WAY DOWN to a key y in the image of xs, below it, and zs, not below it
-pub record Way (s : Sizes) (bs : List ℕ) (y : ℕ) (xs zs : List Order) : Type 0 where
-  pub good : made s ≡ true
-  pub orders : orders-good 1 (xs ++ zs) ≡ true
-  pub fit : fits s (xs ++ zs) ≡ true
-  pub is : bs ≡ image s (xs ++ zs)
-  pub low : below y xs ≡ true
-  pub high : Up y zs
-  pub pos : 0 < y
-
+-- THE WAY DOWN to a key
 module _ (s : Sizes) (bs : List ℕ) (y : ℕ) (xs zs : List Order) (w : Way s bs y xs zs) where
   rising : Up 1 (xs ++ zs)
   rising = good-up 1 (xs ++ zs) (w .orders)
@@ -156,117 +141,124 @@ module _ (s : Sizes) (bs : List ℕ) (y : ℕ) (xs zs : List Order) (w : Way s b
           ap (λ (z : Spot). z .size) (h _ _ _ (map (masked k) (head-part s k xs)) (map (masked k) (tail-part s k zs)) kept lo there lower upper)
           ∙ simp (length-append, length-map)
 
--- the partition that a reach comes to: after it, the one that its last node heads
-pub record Down (s : Sizes) (bs : List ℕ) (top y k first : ℕ) : Type 0 where
+-- the partition that a reach comes to, from partition f of level top on: after it, the one that its last node heads
+pub record Down (s : Sizes) (bs : List ℕ) (top f y k first : ℕ) : Type 0 where
   pub within : k ≤ top
-  pub so-far : (xs zs : List Order) → Way s bs y xs zs → top ≡ beta s → first ≡ first-key (head-part s k xs)
+  pub so-far : (xs zs : List Order) → Way s bs y xs zs → top ≤ beta s → f ≡ first-key (head-part s top xs) → first ≡ first-key (head-part s k xs)
 
-module _ (s : Sizes) (bs : List ℕ) (top y : ℕ) where
-  pub down-start : Down s bs top y top 0
-  down-start = record {
-    within = omega arith;
-    so-far = λ xs zs w e. sym (ap (λ (j : ℕ). first-key (head-part s j xs)) e ∙ start-top s xs (up-front xs zs 1 (rising s bs y xs zs w)));
-  }
+module _ (s : Sizes) (bs : List ℕ) (top f y : ℕ) where
+  pub down-start : Down s bs top f y top f
+  down-start = record { within = omega arith; so-far = λ xs zs w h e. e }
 
-  module _ (k first : ℕ) (d : Down s bs top y k first) where
-    pub down-more : 0 < k → (x : Spot) → Reaches s bs k first y x → Down s bs top y (k - 1) (x .last)
+  module _ (k first : ℕ) (d : Down s bs top f y k first) where
+    pub down-more : 0 < k → (x : Spot) → Reaches s bs k first y x → Down s bs top f y (k - 1) (x .last)
     down-more h x re = record {
       within = omega (arith, d .within);
-      so-far = λ xs zs w e.
-          seen s bs y xs zs w k h (omega (arith, d .within)) first (d .so-far xs zs w e) x re .1
+      so-far = λ xs zs w t e.
+          seen s bs y xs zs w k h (omega (arith, d .within)) first (d .so-far xs zs w t e) x re .1
           ∙ sym (step-down s (k - 1) xs (up-front xs zs 1 (rising s bs y xs zs w)) ∙ ap (λ (j : ℕ). last-from 0 (head-part s j xs)) up);
     }
       where
         up : suc (k - 1) ≡ k
         up = omega arith
 
--- .. down to level 1
-pub record Lowering (s : Sizes) (bs : List ℕ) (top y k first : ℕ) : Type 0 where
-  pub down : Down s bs top y k first
-  pub some : 1 ≤ top → 1 ≤ k
-
-module _ (s : Sizes) (bs : List ℕ) (top y : ℕ) where
-  pub lowering-start : Lowering s bs top y top 0
-  lowering-start = record { down = down-start s bs top y; some = λ h. h }
-
-  module _ (k first : ℕ) (d : Lowering s bs top y k first) where
-    pub lowering-more : 1 < k → (x : Spot) → Reaches s bs k first y x → Lowering s bs top y (k - 1) (x .last)
-    lowering-more h x re = record { down = down-more s bs top y k first (d .down) (omega arith) x re; some = λ g. omega arith }
-
-    pub lowering-end : k ≤ 1 → Bottoms s bs top y first
-    unfolding Bottoms
-    lowering-end h xs zs m o f e lo hi p t =
-        let z : k ≡ 1 = omega (arith, d .some (omega (arith, beta-least s))) in
-        d .down .so-far xs zs (record { good = m; orders = o; fit = f; is = e; low = lo; high = hi; pos = p }) t ∙ ap (λ (j : ℕ). first-key (head-part s j xs)) z
-
--- HOW MUCH the levels above k have more
-pub record Growing (s : Sizes) (bs : List ℕ) (top l y k sum first : ℕ) : Type 0 where
-  pub down : Down s bs top y k first
-  pub few : sum ≤ 2 * (top - k)
-  pub more : (xs : List Order) (o : Order) (zs : List Order) → Way s bs y xs zs → o .key ≡ y → top ≡ beta s → l ≡ level s y →
-      sum + counts (top - k) (suc k) s (xs ++ zs) ≡ counts (top - k) (suc k) s (xs ++ o ∷ zs)
+-- .. from the top to level l
+pub record Lowering (s : Sizes) (bs : List ℕ) (top l y k first : ℕ) : Type 0 where
+  pub down : Down s bs top 0 y k first
+  pub some : l ≤ top → l ≤ k
 
 module _ (s : Sizes) (bs : List ℕ) (top l y : ℕ) where
-  pub growing-start : Growing s bs top l y top 0 0
-  unfolding counts
-  growing-start =
-      let e : top - top ≡ 0 = omega arith in
-      record { down = down-start s bs top y; few = omega arith; more = λ xs o zs w eo et el. rw e }
+  pub lowering-start : Lowering s bs top l y top 0
+  lowering-start = record { down = down-start s bs top 0 y; some = λ h. h }
 
-  module _ (k sum first : ℕ) (g : Growing s bs top l y k sum first) (x : Spot) (sc : Scans s bs k first y x) (r : ℕ) (gr : Grown (s .nodes) k l x r) where
-    -- one level
-    level-more : 0 < k → (xs : List Order) (o : Order) (zs : List Order) → Way s bs y xs zs → o .key ≡ y → top ≡ beta s → l ≡ level s y →
-        r + count s k (xs ++ zs) ≡ count s k (xs ++ o ∷ zs)
-    level-more h xs o zs w eo et el = go (ltb l k) refl (eqb k l) refl
-      where
-        size : x .size ≡ length (head-part s k xs) + length (tail-part s k zs)
-        size = seen-size s bs y xs zs w k h (omega (arith, g .down .within)) first (g .down .so-far xs zs w et) x sc
+  module _ (k first : ℕ) (d : Lowering s bs top l y k first) where
+    pub lowering-more : l < k → (x : Spot) → Reaches s bs k first y x → Lowering s bs top l y (k - 1) (x .last)
+    lowering-more h x re = record { down = down-more s bs top 0 y k first (d .down) (omega arith) x re; some = λ g. omega arith }
 
-        under : x .below ≡ length (head-part s k xs)
-        under = seen s bs y xs zs w k h (omega (arith, g .down .within)) first (g .down .so-far xs zs w et) x (reached s bs k first y x sc) .0
+    pub lowering-end : k ≤ l → Leads s bs top l y first
+    unfolding Leads
+    lowering-end h xs zs w t le =
+        let z : k ≡ l = omega (arith, d .some le) in
+        d .down .so-far xs zs w (omega arith) (sym (ap (λ (j : ℕ). first-key (head-part s j xs)) t ∙ start-top s xs (up-front xs zs 1 (rising s bs y xs zs w))))
+        ∙ ap (λ (j : ℕ). first-key (head-part s j xs)) z
 
-        left : suc (x .size - x .below) ≡ suc (length (tail-part s k zs))
-        left = omega (arith, size, under)
+-- no level above a key's own has more chunks for it
+counts-low : (n k : ℕ) (s : Sizes) (xs : List Order) (o : Order) (zs : List Order) → 0 < o .key → level s (o .key) < k → counts n k s (xs ++ zs) ≡ counts n k s (xs ++ o ∷ zs)
+unfolding counts
+counts-low zero k s xs o zs p h = refl
+counts-low (suc n) k s xs o zs p h = omega (arith, count-low s k xs o zs p h, counts-low n (suc k) s xs o zs p (omega arith))
 
-        pos : 0 < o .key
-        pos = omega (arith, w .pos)
+-- HOW MUCH the levels above k have more
+pub record Growing (s : Sizes) (bs : List ℕ) (f l y k sum first : ℕ) : Type 0 where
+  pub down : Down s bs l f y k first
+  pub few : sum ≤ 2 * (l - k)
+  pub more : (xs : List Order) (o : Order) (zs : List Order) → Way s bs y xs zs → f ≡ first-key (head-part s l xs) → o .key ≡ y → l ≡ level s y →
+      sum + counts (beta s - k) (suc k) s (xs ++ zs) ≡ counts (beta s - k) (suc k) s (xs ++ o ∷ zs)
 
-        level-is : level s (o .key) ≡ l
-        level-is = ap (level s) eo ∙ sym el
+module _ (s : Sizes) (bs : List ℕ) (f l y : ℕ) where
+  pub growing-start : Growing s bs f l y l 0 f
+  growing-start = record {
+    down = down-start s bs l f y;
+    few = omega arith;
+    more = λ xs o zs w ef eo el. omega (arith, counts-low (beta s - l) (suc l) s xs o zs (omega (arith, w .pos)) (omega (arith, ap (level s) eo)));
+  }
 
-        go : (t : Bool) → ltb l k ≡ t → (u : Bool) → eqb k l ≡ u → r + count s k (xs ++ zs) ≡ count s k (xs ++ o ∷ zs)
-        go true e u q =
-            let lt : l < k = ltb-true l k e in
-            omega (arith, gr .above lt, count-low s k xs o zs pos (omega (arith, level-is)))
-        go false e true q =
-            let z : k ≡ l = eqb-true k l q in
-            omega (arith, gr .same z, count-same s k xs o zs pos (level-is ∙ sym z), ap (pieces (s .nodes)) size, ap (λ (n : ℕ). pieces (s .nodes) (suc n)) size)
-        go false e false q =
-            let lt : k < l = omega (arith, ltb-false l k e, eqb-false k l q) in
-            omega (
-              arith,
-              gr .under lt,
-              count-high s k xs o zs pos (omega (arith, level-is)),
-              ap (pieces (s .nodes)) size,
-              ap (pieces (s .nodes)) under,
-              ap (pieces (s .nodes)) left,
-            )
+  module _ (k sum first : ℕ) (g : Growing s bs f l y k sum first) (x : Spot) (sc : Scans s bs k first y x) (r : ℕ) (gr : Grown (s .nodes) k l x r) (h : 0 < k) where
+    module _ (xs : List Order) (o : Order) (zs : List Order) (w : Way s bs y xs zs) (ef : f ≡ first-key (head-part s l xs)) (eo : o .key ≡ y) (el : l ≡ level s y) where
+      top : k ≤ beta s
+      top = omega (arith, g .down .within, level-most s y)
 
-    pub growing-more : 0 < k → Growing s bs top l y (k - 1) (sum + r) (x .last)
-    unfolding counts
-    growing-more h = record {
-      down = down-more s bs top y k first (g .down) h x (reached s bs k first y x sc);
-      few = omega (arith, g .few, gr .few, g .down .within);
-      more = λ xs o zs w eo et el.
-          let a : top - (k - 1) ≡ suc (top - k) = omega (arith, g .down .within) in
+      size : x .size ≡ length (head-part s k xs) + length (tail-part s k zs)
+      size = seen-size s bs y xs zs w k h top first (g .down .so-far xs zs w (omega (arith, level-most s y)) ef) x sc
+
+      under : x .below ≡ length (head-part s k xs)
+      under = seen s bs y xs zs w k h top first (g .down .so-far xs zs w (omega (arith, level-most s y)) ef) x (reached s bs k first y x sc) .0
+
+      -- one level
+      level-more : r + count s k (xs ++ zs) ≡ count s k (xs ++ o ∷ zs)
+      level-more = go (eqb k l) refl
+        where
+          left : suc (x .size - x .below) ≡ suc (length (tail-part s k zs))
+          left = omega (arith, size, under)
+
+          pos : 0 < o .key
+          pos = omega (arith, w .pos)
+
+          level-is : level s (o .key) ≡ l
+          level-is = ap (level s) eo ∙ sym el
+
+          go : (t : Bool) → eqb k l ≡ t → r + count s k (xs ++ zs) ≡ count s k (xs ++ o ∷ zs)
+          go true q =
+              let z : k ≡ l = eqb-true k l q in
+              omega (arith, gr .same z, count-same s k xs o zs pos (level-is ∙ sym z), ap (pieces (s .nodes)) size, ap (λ (n : ℕ). pieces (s .nodes) (suc n)) size)
+          go false q =
+              let lt : k < l = omega (arith, g .down .within, eqb-false k l q) in
+              omega (
+                arith,
+                gr .under lt,
+                count-high s k xs o zs pos (omega (arith, level-is)),
+                ap (pieces (s .nodes)) size,
+                ap (pieces (s .nodes)) under,
+                ap (pieces (s .nodes)) left,
+              )
+
+      levels-more : sum + r + counts (beta s - (k - 1)) (suc (k - 1)) s (xs ++ zs) ≡ counts (beta s - (k - 1)) (suc (k - 1)) s (xs ++ o ∷ zs)
+      unfolding counts
+      levels-more =
+          let a : beta s - (k - 1) ≡ suc (beta s - k) = omega (arith, top) in
           let b : suc (k - 1) ≡ k = omega arith in
-          rw (a, b) (omega (arith, level-more h xs o zs w eo et el, g .more xs o zs w eo et el));
+          rw (a, b) (omega (arith, level-more, g .more xs o zs w ef eo el))
+
+    pub growing-more : Growing s bs f l y (k - 1) (sum + r) (x .last)
+    growing-more = record {
+      down = down-more s bs l f y k first (g .down) h x (reached s bs k first y x sc);
+      few = omega (arith, g .few, gr .few, g .down .within);
+      more = levels-more;
     }
 
-  pub growing-end : (k sum first : ℕ) → Growing s bs top l y k sum first → k ≤ 0 → Grows s bs top l y sum
+  pub growing-end : (k sum first : ℕ) → Growing s bs f l y k sum first → k ≤ 0 → Grows s bs f l y sum
   unfolding Grows
-  growing-end k sum first g h xs o zs m os f e lo hi p eo et el =
-      let w : Way s bs y xs zs = record { good = m; orders = os; fit = f; is = e; low = lo; high = up-from zs (omega arith) hi; pos = p } in
-      let a : top - k ≡ beta s = omega arith in
+  growing-end k sum first g h xs o zs w ef eo el =
+      let a : beta s - k ≡ beta s = omega arith in
       let b : suc k ≡ 1 = omega arith in
-      rw (length-chunks s (xs ++ zs) (some-nodes s m), length-chunks s (xs ++ o ∷ zs) (some-nodes s m)) (rw (a, b) at (g .more xs o zs w eo et el))
+      rw (length-chunks s (xs ++ zs) (some-nodes s (w .good)), length-chunks s (xs ++ o ∷ zs) (some-nodes s (w .good))) (rw (a, b) at (g .more xs o zs w ef eo el))

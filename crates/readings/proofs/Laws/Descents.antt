@@ -20,7 +20,7 @@ use Rattle.placement.specs.declared.Found.{Found}
 use Rattle.placement.specs.declared.Found.the-variants.{At, Nothing}
 use Rattle.sizes.proofs.Laws.Sizes.{limits}
 use Rattle.skiplist.specs.Lists.{masked}
-use Rattle.skiplist.specs.Image.{image, orders-in, orders-good, fits}
+use Rattle.skiplist.specs.Image.{orders-in}
 use Rattle.skiplist.specs.Questions.{between, reserve}
 use Rattle.skiplist.proofs.Parts.{Up, and-left, and-right, up-from, below, below-here, part}
 use Rattle.skiplist.proofs.Shapes.{Place, there, absent, place, held-absent, up-behind, part-none}
@@ -28,9 +28,9 @@ use Rattle.skiplist.proofs.Descent.{tail-above}
 use Rattle.skiplist.proofs.Edits.{beta-least, level-least, head-part, tail-part, part-at, part-right, tail-same}
 use Rattle.table.specs.Walk.{node-of}
 use Rattle.levels.specs.declared.Spot.{Spot}
-use Rattle.levels.specs.Edit.{Reaches, Bottoms}
+use Rattle.levels.specs.Edit.{Reaches, Way, Leads}
 use Rattle.levels.proofs.Laws.Chunking.{drop-past}
-use Rattle.levels.proofs.Laws.Growing.{Way, seen}
+use Rattle.levels.proofs.Laws.Growing.{seen}
 use Rattle.readings.specs.Visit.{Known, first-enough, with-key}
 use Rattle.readings.specs.declared.calls.Sought.{Sought}
 use Rattle.readings.specs.declared.calls.Sought.the-variants as sought
@@ -171,20 +171,18 @@ module _ (s : Sizes) (bs : List ℕ) (w : Known s bs) (k : ℕ) (pos : 1 ≤ k) 
           ∙ sym (ap (first-enough 0) (between-absent k xs zs b v) ∙ first-nothing))
 
   -- .. and one of level 1 stands behind the nodes below it
-  pub order-low : (l : ℕ) → l ≡ level s k → l ≤ 1 → (top f : ℕ) → top ≡ beta s → Bottoms s bs top k f → (x : Spot) → Reaches s bs 1 f k x →
+  pub order-low : (l : ℕ) → l ≡ level s k → l ≤ 1 → (top f : ℕ) → top ≡ beta s → Leads s bs top 1 k f → (x : Spot) → Reaches s bs 1 f k x →
       (r : Sought) → r ≡ with-key k (drop (x .below) (part s (orders-in bs) 1 f)) → r ≡ first-enough 0 (between k k (orders-in bs))
-  unfolding Bottoms
+  unfolding Leads
   order-low l el h top f te bo x sc r e = e ∙ go (place k 1 (orders-in bs) (orders-up s bs w))
     where
       -- the nodes behind the way
       behind : (xs zs : List Order) → orders-in bs ≡ xs ++ zs → below k xs ≡ true → Up k zs → drop (x .below) (part s (orders-in bs) 1 f) ≡ tail-part s 1 zs
       behind xs zs q b u =
           let u1 : Up 1 (xs ++ zs) = rw q at (orders-up s bs w) in
-          let good : orders-good 1 (xs ++ zs) ≡ true = rw q at (w .good) in
-          let fit : fits s (xs ++ zs) ≡ true = rw q at (w .fit) in
-          let is : bs ≡ image s (xs ++ zs) = sym (rw q at (w .bytes)) in
-          let fe = bo xs zs (w .sizes-made) good fit is b u (omega arith) te in
-          let way : Way s bs k xs zs = record { good = w .sizes-made; orders = good; fit = fit; is = is; low = b; high = u; pos = omega arith } in
+          let way : Way s bs k xs zs =
+          record { good = w .sizes-made; orders = rw q at (w .good); fit = rw q at (w .fit); is = sym (rw q at (w .bytes)); low = b; high = u; pos = omega arith } in
+          let fe = bo xs zs way te (omega (arith, te, beta-least s)) in
           ap (λ (j : ℕ). drop j (part s (orders-in bs) 1 f)) (seen s bs k xs zs way 1 (omega arith) (omega (arith, beta-least s)) f fe x sc .0)
           ∙ ap (drop (length (head-part s 1 xs))) (rw (q, fe) (part-at s 1 xs zs u1))
           ∙ drop-at (head-part s 1 xs) (tail-part s 1 zs) (length (head-part s 1 xs)) refl

@@ -11,7 +11,7 @@ use Rattle.edits.proofs.changes.put_sure.Tie as tie
 ruleset laws = (needs, image-shaped, image-gamma, image-gamma-some, image-orders, image-nodes, image-blocks, image-blocks-some, image-seeds, image-head, image-head-kept, told-held, told-free, sized, put-done-held, put-no-7, put-free, swept-full, not-true, not-false)
 
 put-free-requires : tie.Need-put-free-requires
-put-free-requires c κs = (search laws, search laws, put-free _ _ _ _ (told-free _ _ _ (c .before .before .before .before .before .is-held .ensures) (c .before .before .before .before .if1 .left)) (c .before .before .before .before .before .before .before .before .before .before .before .read .ensures .1) (c .before .if2 .left), search laws, search laws, search laws, search laws)
+put-free-requires c κs = (search laws, search laws, put-free _ _ _ _ (told-free _ _ _ (c .before .before .before .before .before .is-held .ensures) (c .before .before .before .before .if1 .left)) (c .before .before .before .before .before .before .before .before .before .before .before .read .ensures .1) (c .before .if2 .left), search laws, search laws, search laws, search laws, search laws)
 
 pub put-sure-spec : {M : Type 1} → statement M
 put-sure-spec =

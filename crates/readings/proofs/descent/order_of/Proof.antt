@@ -20,8 +20,8 @@ returns c = order-high _ _ (known-at _ _ (c .before .before .before .before .bef
 over-requires : tie.Need-over-requires
 over-requires c κs = (known-at _ _ (c .before .before .before .before .before .before .pre .0) (c .before .before .before .before .read .ensures .0)) .shaped .some
 
-bottom-requires : tie.Need-bottom-requires
-bottom-requires c κs = ((known-at _ _ (c .before .before .before .before .before .before .before .pre .0) (c .before .before .before .before .before .read .ensures .0)) .shaped, c .over .ensures, c .before .before .before .highest .ensures .2)
+lead-requires : tie.Need-lead-requires
+lead-requires c κs = ((known-at _ _ (c .before .before .before .before .before .before .before .pre .0) (c .before .before .before .before .before .read .ensures .0)) .shaped, c .over .ensures, c .before .before .before .highest .ensures .2)
 
 reach-requires : tie.Need-reach-requires
 reach-requires c κs = ((known-at _ _ (c .before .before .before .before .before .before .before .before .pre .0) (c .before .before .before .before .before .before .read .ensures .0)) .shaped, c .before .over .ensures, search needs)
@@ -30,9 +30,9 @@ node-there-requires-2 : tie.Need-node-there-requires-2
 node-there-requires-2 c κs = let k = known-at _ _ (c .before .before .before .before .before .before .before .before .before .pre .0) (c .before .before .before .before .before .before .before .read .ensures .0) in (k, known-nodes _ _ k)
 
 returns-2 : tie.Need-returns-2
-returns-2 c = order-low _ _ (known-at _ _ (c .before .before .before .before .before .before .before .before .before .before .pre .0) (c .before .before .before .before .before .before .before .before .read .ensures .0)) _ (c .before .before .before .before .before .before .before .before .before .before .pre .1) _ (c .before .before .before .before .before .level-of .ensures .0) (c .before .before .before .before .if1 .left) _ _ (c .before .before .before .before .before .before .highest .ensures .0) (c .before .before .bottom .ensures) _ (c .before .reach .ensures) _ (c .node-there2 .ensures)
+returns-2 c = order-low _ _ (known-at _ _ (c .before .before .before .before .before .before .before .before .before .before .pre .0) (c .before .before .before .before .before .before .before .before .read .ensures .0)) _ (c .before .before .before .before .before .before .before .before .before .before .pre .1) _ (c .before .before .before .before .before .level-of .ensures .0) (c .before .before .before .before .if1 .left) _ _ (c .before .before .before .before .before .before .highest .ensures .0) (c .before .before .lead .ensures) _ (c .before .reach .ensures) _ (c .node-there2 .ensures)
 
 pub order-of-spec : {M : Type 1} → statement M
 order-of-spec =
     tie.close
-    (tie.spec (λ c κs. known-long _ (c .before .pre .0)) highest-requires level-of-requires node-there-requires returns over-requires bottom-requires reach-requires node-there-requires-2 returns-2)
+    (tie.spec (λ c κs. known-long _ (c .before .pre .0)) highest-requires level-of-requires node-there-requires returns over-requires lead-requires reach-requires node-there-requires-2 returns-2)
