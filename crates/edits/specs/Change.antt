@@ -1,4 +1,4 @@
--- A table on its way from some orders to others, level by level from the top, and what one level of a put and of a cancel does to it. Assumes nothing: these are definitions.
+-- A table on its way from some orders to others, level by level from a key's own down, and what one level of a put and of a cancel does to it. Assumes nothing: these are definitions.
 use mathlib.Core.Path.{_≡_}
 use mathlib.Core.Bool.{true, false}
 use mathlib.Core.List.{List, _∷_, _++_}
@@ -32,26 +32,26 @@ pub record Between (s : Sizes) (old new : List Order) (k : ℕ) (bs : List ℕ) 
   pub upto : (l f i : ℕ) → l ≤ k → map l f i ≡ map-of (chunks s old) l f i
   pub count : full + counts k 1 s new ≡ length (chunks s new) + counts k 1 s old
 
--- ONE LEVEL OF A PUT, and of a cancel; r is the first key of the partition one level down
+-- ONE LEVEL OF A PUT, and of a cancel, not above the key's own; r is the first key of the partition one level down
 unfoldable pub Put-turn : Sizes → (k l f : ℕ) → Order → (bs bs′ : List ℕ) → (r : ℕ) → Type 0
 Put-turn s k l f o bs bs′ r =
-    (xs zs : List Order) → Setting s xs o zs → l ≡ level s (o .key) → 0 < k → k ≤ beta s → f ≡ first-key (head-part s k xs) → Between s (xs ++ zs) (xs ++ o ∷ zs) k bs →
+    (xs zs : List Order) → Setting s xs o zs → l ≡ level s (o .key) → 0 < k → k ≤ l → f ≡ first-key (head-part s k xs) → Between s (xs ++ zs) (xs ++ o ∷ zs) k bs →
     (r ≡ first-key (head-part s (k - 1) xs)) × Between s (xs ++ zs) (xs ++ o ∷ zs) (k - 1) bs′
 
 unfoldable pub Cancel-turn : Sizes → (k l f y : ℕ) → (bs bs′ : List ℕ) → (r : ℕ) → Type 0
 Cancel-turn s k l f y bs bs′ r =
-    (xs : List Order) (o : Order) (zs : List Order) → Setting s xs o zs → o .key ≡ y → l ≡ level s y → 0 < k → k ≤ beta s → f ≡ first-key (head-part s k xs) →
+    (xs : List Order) (o : Order) (zs : List Order) → Setting s xs o zs → o .key ≡ y → l ≡ level s y → 0 < k → k ≤ l → f ≡ first-key (head-part s k xs) →
     Between s (xs ++ o ∷ zs) (xs ++ zs) k bs → (r ≡ first-key (head-part s (k - 1) xs)) × Between s (xs ++ o ∷ zs) (xs ++ zs) (k - 1) bs′
 
--- ALL LEVELS: with the number of orders written, the table is the image of the new orders
-unfoldable pub Put-new : Sizes → (top l : ℕ) → Order → (bs bs′ : List ℕ) → Type 0
-Put-new s top l o bs bs′ =
-    (xs zs : List Order) → Setting s xs o zs → top ≡ beta s → l ≡ level s (o .key) → bs ≡ image s (xs ++ zs) →
+-- ALL LEVELS, from the key's own, where f leads to it, down: with the number of orders written, the table is the image of the new orders
+unfoldable pub Put-new : Sizes → (f l : ℕ) → Order → (bs bs′ : List ℕ) → Type 0
+Put-new s f l o bs bs′ =
+    (xs zs : List Order) → Setting s xs o zs → f ≡ first-key (head-part s l xs) → l ≡ level s (o .key) → bs ≡ image s (xs ++ zs) →
     sets bs′ 11 (big 2 (length (xs ++ o ∷ zs))) ≡ image s (xs ++ o ∷ zs)
 
-unfoldable pub Cancel-held : Sizes → (top l y : ℕ) → (bs bs′ : List ℕ) → Type 0
-Cancel-held s top l y bs bs′ =
-    (xs : List Order) (o : Order) (zs : List Order) → Setting s xs o zs → o .key ≡ y → top ≡ beta s → l ≡ level s y → bs ≡ image s (xs ++ o ∷ zs) →
+unfoldable pub Cancel-held : Sizes → (f l y : ℕ) → (bs bs′ : List ℕ) → Type 0
+Cancel-held s f l y bs bs′ =
+    (xs : List Order) (o : Order) (zs : List Order) → Setting s xs o zs → o .key ≡ y → f ≡ first-key (head-part s l xs) → l ≡ level s y → bs ≡ image s (xs ++ o ∷ zs) →
     sets bs′ 11 (big 2 (length (xs ++ zs))) ≡ image s (xs ++ zs)
 
 -- PUT OF A HELD KEY

@@ -34,7 +34,7 @@ use sizes::numbers::put2;
 use table::checking::check;
 use table::checking::examine;
 
-// One level of a put; the first key of the partition one level down.
+// One level of a put, the key's own or one below it; the first key of the partition one level down.
 fn put_level(
     table: &mut [u8],
     s: Sizes,
@@ -52,22 +52,19 @@ fn put_level(
         put_in(table, s, level, first, x, o);
         return x.last;
     }
-    if level < l {
-        put_below(table, s, level, first, x, o);
-        return x.last;
-    }
+    put_below(table, s, level, first, x, o);
     x.last
 }
 
-// A new key comes in at each level, from the top.
-fn put_new(table: &mut [u8], s: Sizes, round: u64, top: u32, l: u32, o: Order)
-    requires { ⌜ Shaped s (now table) × (round ≡ over (s .blocks)) × (2 ≤ s .nodes) × (top ≤ 19) ⌝ }
-    ensures { λ r. ⌜ Put-new s top l o (now (table .entry)) (now (table .exit)) ⌝ }
+// A new key comes in at each level, from its own down; `first` leads to it there.
+fn put_new(table: &mut [u8], s: Sizes, round: u64, first: u32, l: u32, o: Order)
+    requires { ⌜ Shaped s (now table) × (round ≡ over (s .blocks)) × (2 ≤ s .nodes) × (l ≤ 19) ⌝ }
+    ensures { λ r. ⌜ Put-new s first l o (now (table .entry)) (now (table .exit)) ⌝ }
 {
-    let mut first: u32 = 0;
-    let mut level = top;
+    let mut from = first;
+    let mut level = l;
     while 0 < level {
-        first = put_level(table, s, round, level, l, first, o);
+        from = put_level(table, s, round, level, l, from, o);
         level -= 1;
     }
 }
@@ -116,7 +113,7 @@ fn put_free(
     if s.blocks < full + more {
         return 8;
     }
-    put_new(table, s, round, top, l, o);
+    put_new(table, s, round, first, l, o);
     put2(table, 11, held + 1);
     0
 }
@@ -169,7 +166,7 @@ pub fn put(table: &mut [u8], key: u32, total: u32, displayed: u32) -> u32
     )
 }
 
-// One level of a cancel; the first key of the partition one level down.
+// One level of a cancel, the key's own or one below it; the first key of the partition one level down.
 fn cancel_level(
     table: &mut [u8],
     s: Sizes,
@@ -187,23 +184,20 @@ fn cancel_level(
         cancel_in(table, s, level, first, x);
         return x.last;
     }
-    if level < l {
-        let own = scan(table, s, round, level, y, y);
-        cancel_below(table, s, level, first, x, y, own.size);
-        return x.last;
-    }
+    let own = scan(table, s, round, level, y, y);
+    cancel_below(table, s, level, first, x, y, own.size);
     x.last
 }
 
-// A key goes out at each level, from the top.
-fn cancel_held(table: &mut [u8], s: Sizes, round: u64, top: u32, l: u32, y: u32)
-    requires { ⌜ Shaped s (now table) × (round ≡ over (s .blocks)) × (2 ≤ s .nodes) × (top ≤ 19) ⌝ }
-    ensures { λ r. ⌜ Cancel-held s top l y (now (table .entry)) (now (table .exit)) ⌝ }
+// A key goes out at each level, from its own down; `first` leads to it there.
+fn cancel_held(table: &mut [u8], s: Sizes, round: u64, first: u32, l: u32, y: u32)
+    requires { ⌜ Shaped s (now table) × (round ≡ over (s .blocks)) × (2 ≤ s .nodes) × (l ≤ 19) ⌝ }
+    ensures { λ r. ⌜ Cancel-held s first l y (now (table .entry)) (now (table .exit)) ⌝ }
 {
-    let mut first: u32 = 0;
-    let mut level = top;
+    let mut from = first;
+    let mut level = l;
     while 0 < level {
-        first = cancel_level(table, s, round, level, l, first, y);
+        from = cancel_level(table, s, round, level, l, from, y);
         level -= 1;
     }
 }
@@ -218,7 +212,8 @@ fn cancel_sure(table: &mut [u8], key: u32)
     let round = over(s.blocks);
     let top = highest(s);
     let l = level_of(s, top, key);
-    cancel_held(table, s, round, top, l, key);
+    let first = lead(table, s, round, top, l, key);
+    cancel_held(table, s, round, first, l, key);
     put2(table, 11, h.held - 1);
 }
 

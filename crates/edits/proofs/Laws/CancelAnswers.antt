@@ -17,10 +17,13 @@ use Rattle.skiplist.specs.Image.{image, is-image, orders-in}
 use Rattle.skiplist.specs.Questions.{first-no, asks-key, is-key, held, without}
 use Rattle.skiplist.specs.Book.{cancel, booked, key-refusal, refusal}
 use Rattle.skiplist.proofs.Parts.{Up, good-up, without-here}
+use Rattle.skiplist.proofs.Edits.{level-most}
 use Rattle.skiplist.proofs.Shapes.{Place, there, absent, place, held-absent}
 use Rattle.skiplist.proofs.Kept.{Kept}
 use Rattle.table.specs.Calls.{Cancel-says}
-use Rattle.edits.specs.Change.{Cancel-held, Sized}
+use Rattle.levels.specs.Edit.{Leads}
+use Rattle.edits.specs.Change.{Setting, Cancel-held, Sized}
+use Rattle.edits.proofs.Laws.Settings.{held-way}
 use Rattle.edits.proofs.Laws.EditAnswers.{refused, accepted, image-held, on-image}
 
 module _ (s : Sizes) (k : ℕ) (os : List Order) (m : made s ≡ true) (w : Kept s os) (there-is : held k os ≡ true) where
@@ -39,10 +42,13 @@ module _ (s : Sizes) (k : ℕ) (os : List Order) (m : made s ≡ true) (w : Kept
   out-length = out-at (λ (z : List Order). suc (length (without k z)) ≡ length z)
       (λ xs y zs q e r. rw (r, length-append xs zs, length-append xs (y ∷ zs)) (sym (add-suc (length xs) (length zs))))
 
-  out-image : (bs bs′ : List ℕ) (top l : ℕ) → bs ≡ image s os → top ≡ beta s → l ≡ level s k → Cancel-held s top l k bs bs′ → sets bs′ 11 (big 2 (length (without k os))) ≡ image s (without k os)
-  unfolding Cancel-held
-  out-image bs bs′ top l i te le h = out-at (λ (z : List Order). sets bs′ 11 (big 2 (length (without k z))) ≡ image s (without k z))
-      (λ xs y zs q e r. rw r (h xs y zs (record { sizes = m; good = rw q at (w .good); fit = rw q at (w .fit) }) e te le (rw q at i)))
+  out-image : (bs bs′ : List ℕ) (top l f : ℕ) → bs ≡ image s os → top ≡ beta s → l ≡ level s k → Leads s bs top l k f → Cancel-held s f l k bs bs′ →
+      sets bs′ 11 (big 2 (length (without k os))) ≡ image s (without k os)
+  unfolding Cancel-held Leads
+  out-image bs bs′ top l f i te le ld h = out-at (λ (z : List Order). sets bs′ 11 (big 2 (length (without k z))) ≡ image s (without k z))
+      (λ xs y zs q e r.
+      let v : Setting s xs y zs = record { sizes = m; good = rw q at (w .good); fit = rw q at (w .fit) } in
+      rw r (h xs y zs v e (ld xs (y ∷ zs) (held-way s xs y zs v bs k (rw q at i) e) te (omega (arith, te, le, level-most s k))) le (rw q at i)))
 
 module _ (bs : List ℕ) (k : ℕ) where
   pub cancel-no-4 : is-image bs ≡ false → Cancel-says k 4 bs bs
@@ -64,12 +70,12 @@ module _ (bs : List ℕ) (k : ℕ) where
         let w = on-image bs (sizes-in bs) e refl in
         omega (arith, q, image-held bs e, out-length (sizes-in bs) k (orders-in bs) (w .sizes-made) (w .kept) h)
 
-    pub cancel-done : (s : Sizes) (top l m : ℕ) (bs₁ bs′ : List ℕ) → is-key k ≡ true → Sized bs s top l k → Cancel-held s top l k bs bs₁ → m ≡ held-in bs → bs′ ≡ sets bs₁ 11 (big 2 (m - 1)) → Cancel-says k 0 bs bs′
+    pub cancel-done : (s : Sizes) (top l f m : ℕ) (bs₁ bs′ : List ℕ) → is-key k ≡ true → Sized bs s top l k → Leads s bs top l k f → Cancel-held s f l k bs bs₁ → m ≡ held-in bs → bs′ ≡ sets bs₁ 11 (big 2 (m - 1)) → Cancel-says k 0 bs bs′
     unfolding Cancel-says refusal booked key-refusal first-no asks-key
-    cancel-done s top l m bs₁ bs′ q z c n i =
+    cancel-done s top l f m bs₁ bs′ q z ld c n i =
         let w = on-image bs s e (z .sizes-are) in
         let r : m - 1 ≡ length (without k (orders-in bs)) = omega (arith, n, image-held bs e, out-length s k (orders-in bs) (w .sizes-made) (w .kept) h) in
         accepted (cancel k) bs bs′ (rw (e, q, h))
         (rw (q, h)
         (subst (λ (x : Sizes). bs′ ≡ image x (without k (orders-in bs))) (z .sizes-are)
-        (i ∙ ap (λ (x : ℕ). sets bs₁ 11 (big 2 x)) r ∙ out-image s k (orders-in bs) (w .sizes-made) (w .kept) h bs bs₁ top l (w .is) (z .top-is) (z .level-is) c)))
+        (i ∙ ap (λ (x : ℕ). sets bs₁ 11 (big 2 x)) r ∙ out-image s k (orders-in bs) (w .sizes-made) (w .kept) h bs bs₁ top l f (w .is) (z .top-is) (z .level-is) ld c)))

@@ -1,4 +1,4 @@
--- One level of a cancel: above the key's level nothing changes, at it the key goes out of a partition, below it the partition that it starts joins the one before. Assumes nothing.
+-- One level of a cancel: at the key's level the key goes out of a partition, below it the partition that it starts joins the one before. Assumes nothing.
 use mathlib.Core.Path.{_≡_, refl, sym, ap, _∙_}
 use mathlib.Core.List.{List, [], _∷_, _++_, map, map-append, append-nil}
 use Prim.Native.Nat.{ℕ, zero, suc, _+_, _≤_, _<_}
@@ -11,15 +11,15 @@ use Rattle.sizes.specs.Header.{header}
 use Rattle.sizes.specs.declared.Sizes.{Sizes}
 use Rattle.placement.specs.declared.Order.{Order}
 use Rattle.skiplist.specs.Lists.{masked, first-key}
-use Rattle.skiplist.proofs.Parts.{Up, up-from, part, below}
+use Rattle.skiplist.proofs.Parts.{Up, part, below}
 use Rattle.skiplist.proofs.Descent.{tail-above}
-use Rattle.skiplist.proofs.Count.{pieces, count-low, count-same, count-high}
-use Rattle.skiplist.proofs.Edits.{head-part, tail-part, head-part-long, part-at, part-in, part-left, part-right, part-above, part-other}
+use Rattle.skiplist.proofs.Count.{pieces, count-same, count-high}
+use Rattle.skiplist.proofs.Edits.{level-most, head-part, tail-part, head-part-long, part-at, part-in, part-left, part-right, part-other}
 use Rattle.levels.specs.declared.Spot.{Spot}
 use Rattle.levels.specs.Edit.{Pieces, Scans, Cancels-in, Cancels-below}
 use Rattle.edits.specs.Change.{Setting, Between, Cancel-turn}
 use Rattle.table.proofs.Laws.MaskedKeys.{head-most, tail-most, up-masked}
-use Rattle.edits.proofs.Laws.WayLevels.{pred-suc, as-pieces, same-part, level-kept}
+use Rattle.edits.proofs.Laws.WayLevels.{pred-suc, as-pieces}
 use Rattle.edits.proofs.Laws.Changed.{one-changed, two-changed}
 use Rattle.edits.proofs.Laws.Settings.{all-up, less-up, behind-up, key-pos, order-fine, fine-masked, some-nodes, few-orders, first-low, less-none, part-beside}
 use Rattle.edits.proofs.Laws.WaySpots.{length-more, Spotted, scanned, room, next-first}
@@ -48,20 +48,7 @@ module _ (s : Sizes) (xs : List Order) (o : Order) (zs : List Order) (w : Settin
         (rw map-append at (there (first-key (head-part s (suc j) xs)) (head-part s (suc j) xs ++ qs) e)) u
 
     module _ (x : Spot) (sc : Scans s bs (suc j) (first-key (head-part s (suc j) xs)) (o .key) x) where
-      -- above the key's level
-      pub cancel-over : level s (o .key) < suc j → (x .last ≡ first-key (head-part s j xs)) × Between s (xs ++ o ∷ zs) (xs ++ zs) j bs
-      cancel-over h =
-          let ps = head-part s (suc j) xs in
-          let qs = tail-part s (suc j) zs in (
-            next-first s xs o zs w j x qs
-                (seen x qs (part-above s (suc j) xs o zs (all-up s xs o zs w) (first-key ps) h ∙ part-at s (suc j) xs zs (less-up s xs o zs w)) (up-from qs (omega arith) behind) sc),
-            level-kept s (xs ++ o ∷ zs) (xs ++ zs) j bs b
-                (λ g. same-part s (xs ++ o ∷ zs) (xs ++ zs) (some-nodes s xs o zs w) (all-up s xs o zs w) (less-up s xs o zs w) (suc j) g (omega arith) low
-                (part-above s (suc j) xs o zs (all-up s xs o zs w) g h))
-                (count-low s (suc j) xs o zs (key-pos s xs o zs w) h),
-          )
-
-      -- at it
+      -- at the key's level
       pub cancel-inside : (bs′ : List ℕ) → level s (o .key) ≡ suc j → Cancels-in s (suc j) (first-key (head-part s (suc j) xs)) x bs bs′ →
           (x .last ≡ first-key (head-part s j xs)) × Between s (xs ++ o ∷ zs) (xs ++ zs) j bs′
       unfolding Cancels-in
@@ -115,20 +102,14 @@ module _ (s : Sizes) (xs : List Order) (o : Order) (zs : List Order) (w : Settin
 
 -- THE TURN, as `cancel_level` has it
 module _ (s : Sizes) (l f y : ℕ) (bs : List ℕ) (x : Spot) where
-  pub cancel-turn-above : (k : ℕ) → Scans s bs k f y x → l ≤ k → (k ≡ l → ⊥) → Cancel-turn s k l f y bs bs (x .last)
-  unfolding Cancel-turn
-  cancel-turn-above zero sc h n xs o zs w ye e pos low fe b = absurd (omega arith)
-  cancel-turn-above (suc j) sc h n xs o zs w ye e pos low fe b =
-      rw (pred-suc j) (cancel-over s xs o zs w j low bs b x (rw (fe, ← ye) at sc) (rw ye (omega (arith, e, n))))
-
   pub cancel-turn-in : (k : ℕ) (bs′ : List ℕ) → Scans s bs k f y x → k ≡ l → Cancels-in s k f x bs bs′ → Cancel-turn s k l f y bs bs′ (x .last)
   unfolding Cancel-turn
-  cancel-turn-in zero bs′ sc h p xs o zs w ye e pos low fe b = absurd (omega arith)
-  cancel-turn-in (suc j) bs′ sc h p xs o zs w ye e pos low fe b =
-      rw (pred-suc j) (cancel-inside s xs o zs w j low bs b x (rw (fe, ← ye) at sc) bs′ (rw ye (omega (arith, e, h))) (rw fe at p))
+  cancel-turn-in zero bs′ sc h p xs o zs w ye e pos le fe b = absurd (omega arith)
+  cancel-turn-in (suc j) bs′ sc h p xs o zs w ye e pos le fe b =
+      rw (pred-suc j) (cancel-inside s xs o zs w j (omega (arith, e, le, level-most s y)) bs b x (rw (fe, ← ye) at sc) bs′ (rw ye (omega (arith, e, h))) (rw fe at p))
 
-  pub cancel-turn-below : (k : ℕ) (v : Spot) (bs′ : List ℕ) → Scans s bs k f y x → k < l → Scans s bs k y y v → Cancels-below s k f y (x .below) (v .size) bs bs′ → Cancel-turn s k l f y bs bs′ (x .last)
+  pub cancel-turn-below : (k : ℕ) (v : Spot) (bs′ : List ℕ) → Scans s bs k f y x → (k ≡ l → ⊥) → Scans s bs k y y v → Cancels-below s k f y (x .below) (v .size) bs bs′ → Cancel-turn s k l f y bs bs′ (x .last)
   unfolding Cancel-turn
-  cancel-turn-below zero v bs′ sc h own p xs o zs w ye e pos low fe b = absurd (omega arith)
-  cancel-turn-below (suc j) v bs′ sc h own p xs o zs w ye e pos low fe b =
-      rw (pred-suc j) (cancel-under s xs o zs w j low bs b x (rw (fe, ← ye) at sc) v bs′ (rw ye (omega (arith, e, h))) (rw (← ye) at own) (rw (fe, ← ye) at p))
+  cancel-turn-below zero v bs′ sc h own p xs o zs w ye e pos le fe b = absurd (omega arith)
+  cancel-turn-below (suc j) v bs′ sc h own p xs o zs w ye e pos le fe b =
+      rw (pred-suc j) (cancel-under s xs o zs w j (omega (arith, e, le, level-most s y)) bs b x (rw (fe, ← ye) at sc) v bs′ (rw ye (omega (arith, e, le, h))) (rw (← ye) at own) (rw (fe, ← ye) at p))

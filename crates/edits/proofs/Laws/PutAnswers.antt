@@ -80,6 +80,17 @@ module _ (s : Sizes) (k t d : ℕ) (os : List Order) (m : made s ≡ true) (w : 
       new-count g h = new-at (λ (z : List Order). g + length (chunks s z) ≡ length (chunks s (with-order (order k t d) z)))
           (λ xs zs q b v. rw (put-new (order k t d) xs zs b v) (h xs (order k t d) zs (new-way xs zs q b v) (new-first xs zs q b v) refl le))
 
+      new-image : (bs′ : List ℕ) → put-refusal s k t d os ≡ 0 → Put-new s f l (order k t d) bs bs′ → sets bs′ 11 (big 2 (suc (length os))) ≡ image s (with-order (order k t d) os)
+      unfolding Put-new
+      new-image bs′ r h =
+          ap (λ (n : ℕ). sets bs′ 11 (big 2 n)) (sym new-length)
+          ∙ new-at (λ (z : List Order). sets bs′ 11 (big 2 (length (with-order (order k t d) z))) ≡ image s (with-order (order k t d) z))
+          (λ xs zs q b v.
+          let v′ = kept-put s k t d os w r in
+          let e : with-order (order k t d) os ≡ xs ++ order k t d ∷ zs = ap (with-order (order k t d)) q ∙ put-new (order k t d) xs zs b v in
+          rw (put-new (order k t d) xs zs b v)
+          (h xs zs (record { sizes = m; good = rw e at (v′ .good); fit = rw e at (v′ .fit) }) (new-first xs zs q b v) le (rw q at i)))
+
     new-no-7 : s .orders ≤ length os → put-refusal s k t d os ≡ 7
     unfolding put-refusal first-no asks-put
     new-no-7 h = rw (key, quant, free, le-ltb (length os) (s .orders) h)
@@ -101,18 +112,6 @@ module _ (s : Sizes) (k t d : ℕ) (os : List Order) (m : made s ≡ true) (w : 
       unfolding put-refusal first-no asks-put
       new-yes h =
           rw (key, quant, free, lt-ltb (length os) (s .orders) more, fits-make s (with-order (order k t d) os) (rw new-length more) h)
-
-    new-image : (bs bs′ : List ℕ) (top l : ℕ) → put-refusal s k t d os ≡ 0 → bs ≡ image s os → top ≡ beta s → l ≡ level s k → Put-new s top l (order k t d) bs bs′ →
-        sets bs′ 11 (big 2 (suc (length os))) ≡ image s (with-order (order k t d) os)
-    unfolding Put-new
-    new-image bs bs′ top l r i te le h =
-        ap (λ (n : ℕ). sets bs′ 11 (big 2 n)) (sym new-length)
-        ∙ new-at (λ (z : List Order). sets bs′ 11 (big 2 (length (with-order (order k t d) z))) ≡ image s (with-order (order k t d) z))
-        (λ xs zs q f v.
-        let v′ = kept-put s k t d os w r in
-        let e : with-order (order k t d) os ≡ xs ++ order k t d ∷ zs = ap (with-order (order k t d)) q ∙ put-new (order k t d) xs zs f v in
-        rw (put-new (order k t d) xs zs f v)
-        (h xs zs (record { sizes = m; good = rw e at (v′ .good); fit = rw e at (v′ .fit) }) te le (rw q at i)))
 
   -- ---- a held key
   module _ (there-is : held k os ≡ true) where
@@ -190,14 +189,14 @@ module _ (bs : List ℕ) (s : Sizes) (k t d : ℕ) (p : Put-sure bs k t d) where
           put-refused 8 (z .sizes-are) (new-no-8 s k t d (orders-in bs) (w .sizes-made) (w .kept) (p .key) (p .quantities) (f .absent-is) more-orders (omega (arith, h, counted))) (λ y. omega arith)
 
       -- a key that was not held
-      pub put-done-new : (m : ℕ) (bs₁ bs′ : List ℕ) → full + g ≤ s .blocks → Put-new s top l (order k t d) bs bs₁ → m ≡ held-in bs → bs′ ≡ sets bs₁ 11 (big 2 (m + 1)) → Put-says k t d 0 bs bs′
+      pub put-done-new : (m : ℕ) (bs₁ bs′ : List ℕ) → full + g ≤ s .blocks → Put-new s first l (order k t d) bs bs₁ → m ≡ held-in bs → bs′ ≡ sets bs₁ 11 (big 2 (m + 1)) → Put-says k t d 0 bs bs′
       put-done-new m bs₁ bs′ h v e i =
           let w = on-image bs s (p .image) (z .sizes-are) in
           let r = new-yes s k t d (orders-in bs) (w .sizes-made) (w .kept) (p .key) (p .quantities) (f .absent-is) more-orders (omega (arith, h, counted)) in
           let q : m + 1 ≡ suc (length (orders-in bs)) = omega (arith, e, image-held bs (p .image)) in
           put-accepted bs′ (z .sizes-are) r
           (i ∙ ap (λ (x : ℕ). sets bs₁ 11 (big 2 x)) q
-          ∙ new-image s k t d (orders-in bs) (w .sizes-made) (w .kept) (p .key) (p .quantities) (f .absent-is) bs bs₁ top l r (w .is) (z .top-is) (z .level-is) v)
+          ∙ new-image s k t d (orders-in bs) (w .sizes-made) (w .kept) (p .key) (p .quantities) (f .absent-is) bs top l first (w .is) (z .top-is) (z .level-is) ld bs₁ r v)
 
 -- the sum of question 8 is one that 32 bits hold
 pub put-sum : (bs : List ℕ) (s : Sizes) (top l k full f g : ℕ) → full ≡ length (chunks s (orders-in bs)) → Leads s bs top l k f → Grows s bs f l k g → is-image bs ≡ true → is-key k ≡ true → Sized bs s top l k → Put-free bs s k → top ≤ 19 → Fits w32 (full + g)

@@ -1,4 +1,4 @@
--- One level of a put: above the key's level nothing changes, at it the key comes into a partition, below it the key starts one. Assumes nothing.
+-- One level of a put: at the key's level the key comes into a partition, below it the key starts one. Assumes nothing.
 use mathlib.Core.Path.{_≡_, sym}
 use mathlib.Core.List.{List, [], _∷_, _++_, map, map-append}
 use Prim.Native.Nat.{ℕ, zero, suc, _+_, _≤_, _<_}
@@ -13,13 +13,13 @@ use Rattle.placement.specs.declared.Order.{Order}
 use Rattle.skiplist.specs.Lists.{masked, first-key}
 use Rattle.skiplist.proofs.Parts.{up-from}
 use Rattle.skiplist.proofs.Descent.{tail-above}
-use Rattle.skiplist.proofs.Count.{pieces, count-low, count-same, count-high, counts-more}
-use Rattle.skiplist.proofs.Edits.{head-part, tail-part, head-part-long, part-at, part-in, part-left, part-right, part-above, part-other}
+use Rattle.skiplist.proofs.Count.{pieces, count-same, count-high, counts-more}
+use Rattle.skiplist.proofs.Edits.{level-most, head-part, tail-part, head-part-long, part-at, part-in, part-left, part-right, part-other}
 use Rattle.levels.specs.declared.Spot.{Spot}
 use Rattle.levels.specs.Edit.{Pieces, Scans, Puts-in, Puts-below}
 use Rattle.edits.specs.Change.{Setting, Between, Put-turn}
 use Rattle.table.proofs.Laws.MaskedKeys.{head-most, tail-most}
-use Rattle.edits.proofs.Laws.WayLevels.{pred-suc, as-pieces, same-part, counts-one, level-kept}
+use Rattle.edits.proofs.Laws.WayLevels.{pred-suc, as-pieces, counts-one}
 use Rattle.edits.proofs.Laws.Changed.{one-changed, two-changed}
 use Rattle.edits.proofs.Laws.Settings.{all-up, less-up, behind-up, key-pos, order-fine, some-nodes, few-orders, room-all, first-low, less-none, part-beside}
 use Rattle.edits.proofs.Laws.WaySpots.{length-both, Spotted, scanned, room, next-first}
@@ -42,17 +42,7 @@ module _ (s : Sizes) (xs : List Order) (o : Order) (zs : List Order) (w : Settin
         (tail-above s (suc j) (o .key) zs (up-from zs (omega arith) (behind-up s xs o zs w)))
 
     module _ (x : Spot) (sc : Scans s bs (suc j) (first-key (head-part s (suc j) xs)) (o .key) x) where
-      -- above the key's level
-      pub put-over : level s (o .key) < suc j → (x .last ≡ first-key (head-part s j xs)) × Between s (xs ++ zs) (xs ++ o ∷ zs) j bs
-      put-over h = (
-        next-first s xs o zs w j x (tail-part s (suc j) zs) (seen x sc),
-        level-kept s (xs ++ zs) (xs ++ o ∷ zs) j bs b
-            (λ g. same-part s (xs ++ zs) (xs ++ o ∷ zs) (some-nodes s xs o zs w) (less-up s xs o zs w) (all-up s xs o zs w) (suc j) g (omega arith) low
-            (sym (part-above s (suc j) xs o zs (all-up s xs o zs w) g h)))
-            (sym (count-low s (suc j) xs o zs (key-pos s xs o zs w) h)),
-      )
-
-      -- at it
+      -- at the key's level
       room-in : level s (o .key) ≡ suc j →
           b .full + pieces (s .nodes) (suc (length (map (masked (suc j)) (head-part s (suc j) xs) ++ map (masked (suc j)) (tail-part s (suc j) zs))))
           ≤ s .blocks + pieces (s .nodes) (length (map (masked (suc j)) (head-part s (suc j) xs) ++ map (masked (suc j)) (tail-part s (suc j) zs)))
@@ -119,17 +109,14 @@ module _ (s : Sizes) (xs : List Order) (o : Order) (zs : List Order) (w : Settin
 
 -- THE TURN, as `put_level` has it
 module _ (s : Sizes) (l f : ℕ) (o : Order) (bs : List ℕ) (x : Spot) where
-  pub put-turn-above : (k : ℕ) → Scans s bs k f (o .key) x → l ≤ k → (k ≡ l → ⊥) → Put-turn s k l f o bs bs (x .last)
-  unfolding Put-turn
-  put-turn-above zero sc h n xs zs w e pos low fe b = absurd (omega arith)
-  put-turn-above (suc j) sc h n xs zs w e pos low fe b = rw (pred-suc j) (put-over s xs o zs w j low bs b x (rw fe at sc) (omega (arith, e, n)))
-
   pub put-turn-in : (k : ℕ) (bs′ : List ℕ) → Scans s bs k f (o .key) x → k ≡ l → Puts-in s k f x o bs bs′ → Put-turn s k l f o bs bs′ (x .last)
   unfolding Put-turn
-  put-turn-in zero bs′ sc h p xs zs w e pos low fe b = absurd (omega arith)
-  put-turn-in (suc j) bs′ sc h p xs zs w e pos low fe b = rw (pred-suc j) (put-inside s xs o zs w j low bs b x (rw fe at sc) bs′ (omega (arith, e, h)) (rw fe at p))
+  put-turn-in zero bs′ sc h p xs zs w e pos le fe b = absurd (omega arith)
+  put-turn-in (suc j) bs′ sc h p xs zs w e pos le fe b =
+      rw (pred-suc j) (put-inside s xs o zs w j (omega (arith, e, le, level-most s (o .key))) bs b x (rw fe at sc) bs′ (omega (arith, e, h)) (rw fe at p))
 
-  pub put-turn-below : (k : ℕ) (bs′ : List ℕ) → Scans s bs k f (o .key) x → k < l → Puts-below s k f x o bs bs′ → Put-turn s k l f o bs bs′ (x .last)
+  pub put-turn-below : (k : ℕ) (bs′ : List ℕ) → Scans s bs k f (o .key) x → (k ≡ l → ⊥) → Puts-below s k f x o bs bs′ → Put-turn s k l f o bs bs′ (x .last)
   unfolding Put-turn
-  put-turn-below zero bs′ sc h p xs zs w e pos low fe b = absurd (omega arith)
-  put-turn-below (suc j) bs′ sc h p xs zs w e pos low fe b = rw (pred-suc j) (put-under s xs o zs w j low bs b x (rw fe at sc) bs′ (omega (arith, e, h)) (rw fe at p))
+  put-turn-below zero bs′ sc h p xs zs w e pos le fe b = absurd (omega arith)
+  put-turn-below (suc j) bs′ sc h p xs zs w e pos le fe b =
+      rw (pred-suc j) (put-under s xs o zs w j (omega (arith, e, le, level-most s (o .key))) bs b x (rw fe at sc) bs′ (omega (arith, e, le, h)) (rw fe at p))

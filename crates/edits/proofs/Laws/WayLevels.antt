@@ -74,5 +74,14 @@ module _ (s : Sizes) (old new : List Order) (j : ℕ) (bs : List ℕ) (b : Betwe
       go l f i q false z = e l f i (eqb-false l (suc j) z) ∙ b .above l f i (omega (arith, eqb-false l (suc j) z))
 
   -- nothing to do
-  pub level-kept : ((g i : ℕ) → map-of (chunks s old) (suc j) g i ≡ map-of (chunks s new) (suc j) g i) → count s (suc j) old ≡ count s (suc j) new → Between s old new j bs
+  level-kept : ((g i : ℕ) → map-of (chunks s old) (suc j) g i ≡ map-of (chunks s new) (suc j) g i) → count s (suc j) old ≡ count s (suc j) new → Between s old new j bs
   level-kept h c = level-done (b .map) (b .full) bs (b .table) (λ l g i q. refl) (λ g i. b .upto (suc j) g i (omega arith) ∙ h g i) (omega (arith, c))
+
+-- .. at each of some levels above level l
+pub levels-kept : (s : Sizes) (old new : List Order) (bs : List ℕ) (l : ℕ) →
+    ((j : ℕ) → l ≤ j → suc j ≤ beta s → ((g i : ℕ) → map-of (chunks s old) (suc j) g i ≡ map-of (chunks s new) (suc j) g i) × (count s (suc j) old ≡ count s (suc j) new)) →
+    (n : ℕ) → l + n ≤ beta s → Between s old new (l + n) bs → Between s old new l bs
+levels-kept s old new bs l h zero le b = rw (add-zero l) at b
+levels-kept s old new bs l h (suc n) le b =
+    let k = h (l + n) (omega arith) (omega arith) in
+    levels-kept s old new bs l h n (omega arith) (level-kept s old new (l + n) bs (rw (add-suc l n) at b) (k .0) (k .1))

@@ -10,4 +10,4 @@ ruleset laws = (needs, image-shaped, image-gamma, image-gamma-some, image-orders
 pub cancel-sure-spec : {M : Type 1} → statement M
 cancel-sure-spec =
     tie.close
-    (tie.spec (λ c κs. search laws) (λ c κs. search laws) (λ c κs. search laws) (λ c κs. search laws) (λ c κs. search laws) (λ c. search laws) (λ c κs. search laws) (λ c. search laws) (λ c. search laws))
+    (tie.spec (λ c κs. search laws) (λ c κs. search laws) (λ c κs. search laws) (λ c κs. search laws) (λ c κs. search laws) (λ c κs. search laws) (λ c. search laws) (λ c κs. search laws) (λ c. search laws) (λ c. search laws))
