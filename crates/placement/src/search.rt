@@ -70,37 +70,30 @@ fn past_lower(table: &[u8], s: Sizes, start: u32, level: u32) -> u32
     i
 }
 
-// The search from home on. A chunk of a high level may stand far behind its home: all chunks of lower levels in between are passed first.
-fn find_past(table: &[u8], s: Sizes, home: u32, want: Label) -> Found
-    requires { ⌜ Shaped s (now table) × (home ≡ home-of s want) × (home < s .blocks) ⌝ }
-    ensures { λ r. ⌜ r ≡ search-in s (now (table .entry)) want ⌝ }
-{
-    let i = past_lower(table, s, home, want.level);
-    find_from(table, s, around(i, s.blocks), s.blocks - (i - home), want)
-}
-
-// The block with a label, or nothing.
+// The block with a label, or nothing: from home on, once around at most.
 pub fn find(table: &[u8], s: Sizes, want: Label) -> Found
     requires { ⌜ Shaped s (now table) ⌝ }
     ensures { λ r. ⌜ r ≡ search-in s (now (table .entry)) want ⌝ }
 {
-    find_past(table, s, home(s, want), want)
+    find_from(table, s, home(s, want), s.blocks, want)
 }
 
-// The same from the hash g of the first key, without a division: `round` is 2^32 over the number of blocks, rounded up. For labels of any level ..
-pub fn find_high(table: &[u8], s: Sizes, round: u64, g: u32, want: Label) -> Found
-    requires { ⌜ Shaped s (now table) × (round ≡ over (s .blocks)) × (g ≡ hash-from 5 5 (s .seed) (want .first)) × (want .level ≤ 19) × (want .number ≤ 65535) ⌝ }
-    ensures { λ r. ⌜ r ≡ search-in s (now (table .entry)) want ⌝ }
-{
-    find_past(table, s, home_over(s, round, g, want), want)
-}
-
-// .. and where most are of level 1, so that a look ahead does not pay.
+// The same from the hash g of the first key, without a division: `round` is 2^32 over the number of blocks, rounded up.
 pub fn find_over(table: &[u8], s: Sizes, round: u64, g: u32, want: Label) -> Found
     requires { ⌜ Shaped s (now table) × (round ≡ over (s .blocks)) × (g ≡ hash-from 5 5 (s .seed) (want .first)) × (want .level ≤ 19) × (want .number ≤ 65535) ⌝ }
     ensures { λ r. ⌜ r ≡ search-in s (now (table .entry)) want ⌝ }
 {
     find_from(table, s, home_over(s, round, g, want), s.blocks, want)
+}
+
+// The same where levels are high more often than 1: such a chunk may stand far behind its home, and all chunks of lower levels in between are passed first.
+pub fn find_high(table: &[u8], s: Sizes, round: u64, g: u32, want: Label) -> Found
+    requires { ⌜ Shaped s (now table) × (round ≡ over (s .blocks)) × (g ≡ hash-from 5 5 (s .seed) (want .first)) × (want .level ≤ 19) × (want .number ≤ 65535) ⌝ }
+    ensures { λ r. ⌜ r ≡ search-in s (now (table .entry)) want ⌝ }
+{
+    let start = home_over(s, round, g, want);
+    let i = past_lower(table, s, start, want.level);
+    find_from(table, s, around(i, s.blocks), s.blocks - (i - start), want)
 }
 
 // Does the search for a label start at an empty block, and end there?
