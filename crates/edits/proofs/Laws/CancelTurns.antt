@@ -21,7 +21,8 @@ use Rattle.edits.specs.Change.{Setting, Between, Cancel-turn}
 use Rattle.table.proofs.Laws.MaskedKeys.{head-most, tail-most, up-masked}
 use Rattle.edits.proofs.Laws.WayLevels.{pred-suc, as-pieces}
 use Rattle.edits.proofs.Laws.Changed.{one-changed, two-changed}
-use Rattle.edits.proofs.Laws.Settings.{all-up, less-up, behind-up, key-pos, order-fine, fine-masked, some-nodes, few-orders, first-low, less-none, part-beside}
+use Rattle.levels.proofs.Laws.Levels.{fine-masked}
+use Rattle.edits.proofs.Laws.Settings.{all-up, less-up, behind-up, key-pos, order-fine, some-nodes, few-orders, first-low, less-none, part-beside}
 use Rattle.edits.proofs.Laws.WaySpots.{length-more, Spotted, scanned, room, next-first}
 
 pieces-none : (b : ℕ) → pieces b 0 ≡ 0

@@ -1,6 +1,6 @@
 -- Which number a put or a cancel gives, question by question, and what an image tells of its header. Assumes nothing.
-use mathlib.Core.Path.{_≡_, refl, sym, ap, _∙_, subst}
-use mathlib.Core.Bool.{Bool, true, false, _&&_, cond, and-false}
+use mathlib.Core.Path.{_≡_, sym, ap, _∙_, subst}
+use mathlib.Core.Bool.{Bool, true, false, _&&_, and-false}
 use mathlib.Core.List.{List, []}
 use Prim.Native.Nat.{ℕ, _+_, _≤_, _<_}
 use native.Mathlib.Omega.{arith}
@@ -22,35 +22,19 @@ use Rattle.sizes.proofs.Laws.Numbers.{field-big}
 use Rattle.placement.proofs.Laws.Tables.{shaped}
 use Rattle.skiplist.specs.Lists.{chunks}
 use Rattle.skiplist.specs.Image.{image, is-image, orders-in, quantities-good}
-use Rattle.skiplist.specs.Questions.{first-no, asks-image, asks-put, is-key}
+use Rattle.skiplist.specs.Questions.{first-no, asks-put, is-key}
 use Rattle.skiplist.specs.Book.{Call, put, booked, put-refusal, refusal, done}
 use Rattle.skiplist.proofs.Kept.{fits-parts, Kept}
 use Rattle.skiplist.proofs.Third.{image-parts}
 use Rattle.skiplist.proofs.Image.{image-keeps}
 use Rattle.table.specs.declared.Tally.{Tally}
 use Rattle.table.specs.Check.{swept, Examined}
-use Rattle.table.specs.Calls.{check-number, Edit-says, Put-says}
+use Rattle.table.specs.Calls.{Edit-says, Put-says}
+use Rattle.readings.proofs.Laws.Answers.{known-long}
 use Rattle.edits.specs.Change.{Put-sure, Sized}
 
--- ---- question 4
+-- ---- question 4, as `examine` tells
 
-pub checked : (n : ℕ) (bs : List ℕ) → n ≡ check-number bs → n ≡ 0 → is-image bs ≡ true
-unfolding check-number first-no asks-image
-checked n bs e z = go (is-image bs) (sym z ∙ e)
-  where
-    go : (t : Bool) → _≡_ {A = ℕ} 0 (cond t 0 4) → t ≡ true
-    go true h = refl
-    go false h = absurd (omega arith)
-
-pub unchecked : (n : ℕ) (bs : List ℕ) → n ≡ check-number bs → (n ≡ 0 → ⊥) → is-image bs ≡ false
-unfolding check-number first-no asks-image
-unchecked n bs e z = go (is-image bs) e
-  where
-    go : (t : Bool) → n ≡ cond t 0 4 → t ≡ false
-    go true h = absurd (z h)
-    go false h = refl
-
--- .. as `examine` tells
 module _ (bs : List ℕ) (r : Tally) (x : Examined bs r) where
   pub examined-yes : r .clean ≡ true → is-image bs ≡ true
   examined-yes e = sym (x .image) ∙ e
@@ -99,11 +83,8 @@ module _ (bs : List ℕ) (e : is-image bs ≡ true) where
   pub image-seeds : (s : Sizes) → s ≡ sizes-in bs → seed-good (s .seed) ≡ true
   image-seeds s q = rw q (image-limits .seeds)
 
-  pub image-head : 53 ≤ length bs
-  image-head = omega (arith, image-shaped (sizes-in bs) refl .long)
-
   pub image-head-kept : (bs′ : List ℕ) → length bs′ ≡ length bs → 11 + 2 ≤ length bs′
-  image-head-kept bs′ q = omega (arith, image-head, q)
+  image-head-kept bs′ q = omega (arith, known-long bs e, q)
 
   -- the number of orders
   pub image-held : held-in bs ≡ length (orders-in bs)

@@ -1,11 +1,11 @@
 -- What an order among others tells: keys rise, numbers are small; and how the partitions of a level change by it. Assumes nothing.
-use mathlib.Core.Path.{_≡_, refl, sym, _∙_}
-use mathlib.Core.Bool.{Bool, true, false, _&&_, cond}
+use mathlib.Core.Path.{_≡_, sym, _∙_}
+use mathlib.Core.Bool.{true, _&&_}
 use mathlib.Core.List.{List, [], _∷_, _++_}
 use Prim.Native.Nat.{ℕ, suc, _+_, _≤_, _<_}
 use native.Mathlib.Omega.{arith}
 use borrow.Author.Tests.{ltb-true, leb-true, ne-eqb, eq-eqb, le-ltb}
-use lib.Dec.{ltb, leb, eqb}
+use lib.Dec.{ltb, leb}
 use lib.ListN.{length, length-append}
 use Rattle.sizes.specs.Sizes.{prime}
 use Rattle.sizes.specs.Hash.{level}
@@ -13,7 +13,7 @@ use Rattle.placement.specs.Maps.{Fine}
 use Rattle.sizes.specs.declared.Sizes.{Sizes}
 use Rattle.placement.specs.declared.Order.{Order}
 use Rattle.sizes.proofs.Laws.Sizes.{limits}
-use Rattle.skiplist.specs.Lists.{first-key, masked, chunks}
+use Rattle.skiplist.specs.Lists.{first-key, chunks}
 use Rattle.skiplist.specs.Image.{image, quantities-good, orders-good, fits}
 use Rattle.skiplist.proofs.Parts.{Up, and-left, and-right, up-past, good-up, up-out, up-front, below, below-here, part, without-here}
 use Rattle.skiplist.proofs.Shapes.{held-absent, up-behind, part-none}
@@ -30,14 +30,6 @@ fine-good o k q =
     let a = leb-true (o .total) 4294967295 (and-right (leb 1 (o .total)) (leb (o .total) 4294967295) (and-left (leb 1 (o .total) && leb (o .total) 4294967295) (leb (o .displayed) (o .total)) q)) in
     let b = leb-true (o .displayed) (o .total) (and-right (leb 1 (o .total) && leb (o .total) 4294967295) (leb (o .displayed) (o .total)) q) in
     record { key = omega (arith, ltb-true (o .key) prime k); total = omega arith; displayed = omega arith }
-
-pub fine-masked : (k : ℕ) (o : Order) → Fine o → Fine (masked k o)
-unfolding masked
-fine-masked k o f = go (eqb k 1)
-  where
-    go : (t : Bool) → Fine (record { key = o .key; total = cond t (o .total) 0; displayed = cond t (o .displayed) 0 })
-    go true = f
-    go false = record { key = f .key; total = omega arith; displayed = omega arith }
 
 module _ (s : Sizes) (xs : List Order) (o : Order) (zs : List Order) (w : Setting s xs o zs) where
   pub all-up : Up 1 (xs ++ o ∷ zs)

@@ -1,12 +1,12 @@
 -- The way down to one key: what stands at a place of a partition of level 1, and which order a key has. Assumes nothing.
-use mathlib.Core.Path.{_≡_, refl, sym, ap, _∙_, subst}
-use mathlib.Core.Bool.{true, false, cond, and-false}
-use mathlib.Core.List.{List, [], _∷_, _++_, map}
+use mathlib.Core.Path.{_≡_, refl, sym, ap, _∙_}
+use mathlib.Core.Bool.{true, cond, and-false}
+use mathlib.Core.List.{List, [], _∷_, _++_}
 use Prim.Native.Nat.{ℕ, zero, suc, _+_, _*_, _/_, _%_, _≤_, _<_}
 use native.Mathlib.Nat.{div-add-mod', mod-lt}
 use native.Mathlib.Omega.{arith}
 use borrow.Author.Tests.{ltb-true, eq-eqb, ne-eqb, le-leb, lt-leb}
-use lib.Dec.{ltb, leb, eqb}
+use lib.Dec.{ltb, eqb}
 use lib.ListN.{length, getD, take, drop, length-take, take-append-drop}
 use lib.Seq.{drop-nil, drop-drop, drop-at, drop-append-le}
 use Rattle.sizes.specs.Sizes.{beta, seed-good}
@@ -19,7 +19,6 @@ use Rattle.placement.specs.declared.Order.{Order}
 use Rattle.placement.specs.declared.Found.{Found}
 use Rattle.placement.specs.declared.Found.the-variants.{At, Nothing}
 use Rattle.sizes.proofs.Laws.Sizes.{limits}
-use Rattle.skiplist.specs.Lists.{masked}
 use Rattle.skiplist.specs.Image.{orders-in}
 use Rattle.skiplist.specs.Questions.{between, reserve}
 use Rattle.skiplist.proofs.Parts.{Up, and-left, and-right, up-from, below, below-here, part}
@@ -35,13 +34,8 @@ use Rattle.readings.specs.Visit.{Known, first-enough, with-key}
 use Rattle.readings.specs.declared.calls.Sought.{Sought}
 use Rattle.readings.specs.declared.calls.Sought.the-variants as sought
 use Rattle.readings.specs.declared.calls.Sought.the-variants.{Is}
+use Rattle.skiplist.proofs.Masks.{masked-one}
 use Rattle.readings.proofs.Laws.Chunked.{nodes-split, orders-up, Read, piece, chunk-none, chunk-read}
-
--- at level 1 a node is the order itself
-plain : (os : List Order) → map (masked 1) os ≡ os
-unfolding masked
-plain [] = refl
-plain (o ∷ os) = ap (λ (r : List Order). o ∷ r) (plain os)
 
 -- node j of those that stand in bytes
 node-here : (bs : List ℕ) (ns : List Order) (a j : ℕ) → j < length ns → nodes-from (length ns) (drop a bs) ≡ ns → drop j ns ≡ node-of bs (a + 12 * j) ∷ drop (suc j) ns
@@ -103,7 +97,7 @@ module _ (s : Sizes) (bs : List ℕ) (w : Known s bs) (some : 0 < s .nodes) (f m
           here : drop (m % s .nodes) (take (s .nodes) chunk-on) ≡ node-of bs (a + (8 + 12 * (m % s .nodes))) ∷ drop (suc (m % s .nodes)) (take (s .nodes) chunk-on)
           here =
               rw at-is at
-              (node-here bs (take (s .nodes) chunk-on) (53 + b * block-long s + 8) (m % s .nodes) (omega (arith, h, count-is)) (got .nodes ∙ plain (take (s .nodes) chunk-on)))
+              (node-here bs (take (s .nodes) chunk-on) (53 + b * block-long s + 8) (m % s .nodes) (omega (arith, h, count-is)) (got .nodes ∙ masked-one (take (s .nodes) chunk-on)))
 
       pub there-other : m % s .nodes < c → (a : ℕ) → a ≡ 53 + b * block-long s → (o : Order) → o ≡ node-of bs (a + (8 + 12 * (m % s .nodes))) → (o .key ≡ k → ⊥) → sought.Nothing ≡ with-key k left
       there-other h a ea o eo n = sym (there-is h a ea o eo ∙ rw (ne-eqb (o .key) k n))

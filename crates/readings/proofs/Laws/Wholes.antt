@@ -1,7 +1,7 @@
 -- Orders of a chunk of level 1 that are all in the range of a visit: they come by together. Assumes nothing.
 use mathlib.Core.Path.{_≡_, refl, sym, ap, _∙_, subst}
 use mathlib.Core.Bool.{Bool, true, false, cond, true≢false}
-use mathlib.Core.List.{List, [], _∷_, _++_, map, append-nil}
+use mathlib.Core.List.{List, [], _∷_, _++_, append-nil}
 use Prim.Native.Nat.{ℕ, zero, suc, _+_, _*_, _-_, _≤_, _<_}
 use native.Mathlib.Omega.{arith}
 use native.Mathlib.Nat.{add-zero, pos-of-ne-zero}
@@ -18,14 +18,14 @@ use Rattle.placement.specs.Decode.{node-in, nodes-from}
 use Rattle.placement.specs.declared.Order.{Order}
 use Rattle.placement.proofs.Laws.Bridge.{node-long}
 use Rattle.placement.proofs.Laws.Decoding.{nodes-again, nodes-count}
-use Rattle.skiplist.specs.Lists.{front, at-least, list-at, masked}
+use Rattle.skiplist.specs.Lists.{front, list-at}
 use Rattle.skiplist.specs.Image.{orders-in}
 use Rattle.skiplist.proofs.Parts.{Up, up-from, up-front, at-least-up}
 use Rattle.skiplist.proofs.Walk.{each, spread}
 use Rattle.table.specs.Walk.{node-of}
 use Rattle.table.proofs.Laws.MaskedKeys.{up-masked}
 use Rattle.readings.specs.declared.Visit.{Visit}
-use Rattle.readings.specs.Visit.{Scan, scan, next-found, more-found, wanted-by, row-in, step-by, steps, Known, Row, Whole, all-under}
+use Rattle.readings.specs.Visit.{Scan, scan, more-found, row-in, step-by, steps, Known, Row, Whole, all-under}
 use Rattle.readings.proofs.Laws.Visits.{next-more, wanted-all, told}
 use Rattle.readings.proofs.Laws.Chunked.{nodes-split, orders-up}
 use Rattle.readings.proofs.Laws.Tours.{step-long}

@@ -1,14 +1,15 @@
 -- `edits::changes::cancel` meets its contract: each need follows from the laws listed. Assumes nothing.
 use borrow.Author.Needs.{needs}
 use borrow.Author.Tests.{not-true, not-false}
-use Rattle.edits.proofs.Laws.EditAnswers.{checked, unchecked, key-yes, key-no}
+use Rattle.readings.proofs.Laws.Replies.{checked-yes, checked-no}
+use Rattle.edits.proofs.Laws.EditAnswers.{key-yes, key-no}
 use Rattle.edits.proofs.Laws.CancelAnswers.{cancel-no-4, cancel-no-5, cancel-no-9}
 use Rattle.readings.proofs.Laws.Replies.{key-least}
 use Rattle.edits.proofs.Laws.Sightings.{unseen-held, seen-held, seen-is-key, seen-cancels}
 use Rattle.edits.proofs.changes.cancel.Statement.{statement}
 use Rattle.edits.proofs.changes.cancel.Tie as tie
 
-ruleset laws = (needs, not-true, not-false, checked, unchecked, key-yes, key-no, key-least, cancel-no-4, cancel-no-5, cancel-no-9, unseen-held, seen-held, seen-is-key, seen-cancels)
+ruleset laws = (needs, not-true, not-false, checked-yes, checked-no, key-yes, key-no, key-least, cancel-no-4, cancel-no-5, cancel-no-9, unseen-held, seen-held, seen-is-key, seen-cancels)
 
 pub cancel-spec : {M : Type 1} → statement M
 cancel-spec =

@@ -1,11 +1,12 @@
 -- `edits::changes::cancel_sure` meets its contract: each need follows from the laws listed. Assumes nothing.
 use borrow.Author.Needs.{needs}
-use Rattle.edits.proofs.Laws.EditAnswers.{image-shaped, image-gamma, image-gamma-some, image-orders, image-nodes, image-blocks, image-blocks-some, image-seeds, image-head, image-head-kept, sized}
+use Rattle.readings.proofs.Laws.Answers.{known-long}
+use Rattle.edits.proofs.Laws.EditAnswers.{image-shaped, image-gamma, image-gamma-some, image-orders, image-nodes, image-blocks, image-blocks-some, image-seeds, image-head-kept, sized}
 use Rattle.edits.proofs.Laws.CancelAnswers.{held-some, cancel-done}
 use Rattle.edits.proofs.changes.cancel_sure.Statement.{statement}
 use Rattle.edits.proofs.changes.cancel_sure.Tie as tie
 
-ruleset laws = (needs, image-shaped, image-gamma, image-gamma-some, image-orders, image-nodes, image-blocks, image-blocks-some, image-seeds, image-head, image-head-kept, sized, held-some, cancel-done)
+ruleset laws = (needs, known-long, image-shaped, image-gamma, image-gamma-some, image-orders, image-nodes, image-blocks, image-blocks-some, image-seeds, image-head-kept, sized, held-some, cancel-done)
 
 pub cancel-sure-spec : {M : Type 1} → statement M
 cancel-sure-spec =

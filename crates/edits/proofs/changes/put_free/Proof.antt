@@ -1,11 +1,12 @@
 -- `edits::changes::put_free` meets its contract: each need follows from the laws listed. Assumes nothing.
 use borrow.Author.Needs.{needs}
-use Rattle.edits.proofs.Laws.EditAnswers.{image-shaped, image-nodes, image-head, image-head-kept, held-next}
+use Rattle.readings.proofs.Laws.Answers.{known-long}
+use Rattle.edits.proofs.Laws.EditAnswers.{image-shaped, image-nodes, image-head-kept, held-next}
 use Rattle.edits.proofs.Laws.PutAnswers.{put-no-8, put-done-new, put-sum}
 use Rattle.edits.proofs.changes.put_free.Statement.{statement}
 use Rattle.edits.proofs.changes.put_free.Tie as tie
 
-ruleset laws = (needs, image-shaped, image-nodes, image-head, image-head-kept, put-no-8, put-done-new, put-sum, held-next)
+ruleset laws = (needs, known-long, image-shaped, image-nodes, image-head-kept, put-no-8, put-done-new, put-sum, held-next)
 
 pub put-free-spec : {M : Type 1} → statement M
 put-free-spec =
