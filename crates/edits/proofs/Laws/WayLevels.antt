@@ -3,7 +3,7 @@ use mathlib.Core.Path.{_≡_, refl, sym, ap, _∙_}
 use mathlib.Core.Bool.{Bool, true, false}
 use mathlib.Core.List.{List, map}
 use Prim.Native.Nat.{ℕ, zero, suc, _+_, _*_, _-_, _≤_, _<_}
-use native.Mathlib.Nat.{zero-add, add-zero, add-suc, suc-add}
+use native.Mathlib.Nat.{zero-add, add-zero, add-suc}
 use native.Mathlib.Omega.{arith}
 use borrow.Author.Tests.{eqb-true, eqb-false}
 use lib.Dec.{eqb}
@@ -19,6 +19,7 @@ use Rattle.skiplist.proofs.Masks.{map-take, map-drop}
 use Rattle.skiplist.proofs.Faithful.{map-is}
 use Rattle.skiplist.proofs.Count.{count, counts}
 use Rattle.levels.specs.Edit.{Pieces}
+use Rattle.table.proofs.Laws.Counted.{counts-snoc}
 use Rattle.edits.specs.Change.{Between}
 
 module _ (s : Sizes) (os : List Order) (b : 0 < s .nodes) (u : Up 1 os) (k : ℕ) (pos : 0 < k) (low : k ≤ beta s) where
@@ -45,16 +46,10 @@ same-part s os qs b u v k f pos low e i =
 pub pred-suc : (j : ℕ) → suc j - 1 ≡ j
 pred-suc j = omega arith
 
--- the highest of the counted levels comes last
-counts-end : (k l : ℕ) (s : Sizes) (os : List Order) → counts (suc k) l s os ≡ counts k l s os + count s (l + k) os
-unfolding counts
-counts-end zero l s os = rw (add-zero l) (omega arith)
-counts-end (suc k) l s os = rw (add-suc l k, ← suc-add l k) (omega (arith, counts-end k (suc l) s os))
-
 pub counts-one : (k : ℕ) (s : Sizes) (os : List Order) → counts (suc k) 1 s os ≡ counts k 1 s os + count s (suc k) os
 counts-one k s os =
     let e : 1 + k ≡ suc k = omega arith in
-    rw e at (counts-end k 1 s os)
+    rw e at (counts-snoc k 1 s os)
 
 -- ONE LEVEL DONE: the map changed there only, and is there that of the new orders
 module _ (s : Sizes) (old new : List Order) (j : ℕ) (bs : List ℕ) (b : Between s old new (suc j) bs) where

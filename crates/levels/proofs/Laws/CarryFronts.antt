@@ -10,7 +10,8 @@ use Rattle.placement.specs.Chunks.{node-bytes, nodes-bytes}
 use Rattle.placement.specs.declared.Order.{Order}
 use Rattle.sizes.proofs.Laws.Parts.{sets-append}
 use Rattle.sizes.proofs.Laws.Numbers.{length-big}
-use Rattle.placement.proofs.Laws.Cells.{take-sets-end, drop-take}
+use Rattle.sizes.proofs.Laws.Numbers.{drop-take}
+use Rattle.placement.proofs.Laws.Cells.{take-sets-end}
 use Rattle.placement.proofs.Laws.Bridge.{node-long, nodes-long}
 use Rattle.skiplist.specs.Lists.{masked}
 use borrow.Author.Tests.{eq-eqb, ne-eqb}

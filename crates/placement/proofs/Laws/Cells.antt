@@ -7,7 +7,7 @@ use native.Mathlib.Nat.{add-zero, suc-add, suc-mul, zero-mul, mod-lt, add-comm, 
 use native.Mathlib.Omega.{arith}
 use lib.Dec.{eqb}
 use lib.ListN.{length, getD, set, take, drop, replicate, length-append, length-drop, length-set, length-replicate, take-append-drop}
-use lib.Seq.{sets, sets-eq, length-take-le, take-nil, take-at, drop-at, drop-append-add, getD-take, getD-drop}
+use lib.Seq.{sets, sets-eq, length-take-le, take-at, drop-at, drop-append-add, getD-take, getD-drop}
 use Rattle.sizes.specs.Numbers.{field}
 use Rattle.placement.specs.Decode.{cut}
 use Rattle.sizes.specs.Parts.{block-in, put-block, clear-in, copy-in, swap-in}
@@ -21,12 +21,6 @@ pub take-sets-end : {A : Type 0} (l : List A) (a : ℕ) (vs : List A) → a + le
 take-sets-end l a vs h =
     let e : length (take a l ++ vs) ≡ a + length vs = length-append (take a l) vs ∙ rw (length-take-le a l (omega arith)) in
     rw (sets-eq vs l a h) (take-at (take a l ++ vs) (drop (a + length vs) l) (a + length vs) e)
-
--- a part of a beginning
-pub drop-take : {A : Type 0} (a c : ℕ) (l : List A) → drop a (take (a + c) l) ≡ take c (drop a l)
-drop-take zero c l = rw zero-add
-drop-take (suc a) c [] = rw (suc-add, take-nil)
-drop-take (suc a) c (x ∷ l) = rw suc-add (drop-take a c l)
 
 unfoldable pub join : List (List ℕ) → List ℕ
 join [] = []

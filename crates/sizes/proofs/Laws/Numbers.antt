@@ -37,7 +37,8 @@ pub field-past : (x y : List ℕ) (a n : ℕ) → field (length x + a) n (x ++ y
 unfolding field
 field-past x y a n = rw drop-append-add
 
-drop-take : (a c : ℕ) (l : List ℕ) → drop a (take (a + c) l) ≡ take c (drop a l)
+-- a part of a beginning
+pub drop-take : {A : Type 0} (a c : ℕ) (l : List A) → drop a (take (a + c) l) ≡ take c (drop a l)
 drop-take zero c l = rw zero-add
 drop-take (suc a) c [] = rw (suc-add, take-nil)
 drop-take (suc a) c (x ∷ l) = rw suc-add (drop-take a c l)

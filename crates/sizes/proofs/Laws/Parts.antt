@@ -9,7 +9,7 @@ use native.Mathlib.Omega.{arith}
 use native.Mathlib.Nat.{mul-le-mul-right, add-zero, add-suc, suc-add}
 use lib.Dec.{ltb}
 use lib.ListN.{replicate, getD-replicate, length, getD, set, take, drop, length-take, length-drop, length-set}
-use lib.Seq.{sets, set-comm, take-all, sets-eq, length-sets, take-set-le, drop-set-lt, drop-set-add, getD-set-other, take-suc, take-at, length-take-le, getD-take, getD-drop}
+use lib.Seq.{sets, set-comm, take-all, take-set-le, drop-set-lt, drop-set-add, getD-set-other, take-suc, length-take-le, getD-take, getD-drop}
 use borrow.Author.Tests.{ltb-true, ltb-false}
 use Rattle.sizes.specs.Parts.{Apart, Forward, block-in, put-block, clear-in, copy-in, swap-in}
 use Rattle.sizes.proofs.Laws.Bytes.{block-end}
@@ -66,12 +66,6 @@ module _ {A : Type 0} where
   pub part-after : (n b : ℕ) (l : List A) (a : ℕ) (vs : List A) → a + length vs ≤ b → take n (drop b (sets l a vs)) ≡ take n (drop b l)
   part-after n b l a vs h = rw drop-sets
 
-  pub part-same : (n : ℕ) (l : List A) (a : ℕ) (vs : List A) → length vs ≡ n → a + n ≤ length l → take n (drop a (sets l a vs)) ≡ vs
-  part-same n l a vs e h =
-      let d : drop a (sets l a vs) ≡ sets (drop a l) 0 vs = ap (λ (k : ℕ). drop a (sets l k vs)) (sym (add-zero a)) ∙ drop-sets-add a l 0 vs in
-      let f : 0 + length vs ≤ length (drop a l) = simp length-drop (omega arith) in
-      rw (d, sets-eq vs (drop a l) 0 f) (take-at vs _ n e)
-
 pub blocks-apart : (i j w : ℕ) → i ≢ j → Apart (53 + i * w) (53 + j * w) w
 blocks-apart i j w ne = go (ltb i j) refl
   where
@@ -87,21 +81,6 @@ blocks-forward i j w = go (ltb i j) refl
     go : (t : Bool) → ltb i j ≡ t → Forward (53 + i * w) (53 + j * w) w
     go true t = inl (omega (arith, block-end i j w (ltb-true i j t)))
     go false t = inr (omega (arith, mul-le-mul-right w (ltb-false i j t)))
-
-pub length-put : (w : ℕ) (bs : List ℕ) (i : ℕ) (v : List ℕ) → length (put-block w bs i v) ≡ length bs
-unfolding put-block
-length-put w bs i v = length-sets bs (53 + i * w) v
-
-pub block-same : (w : ℕ) (bs : List ℕ) (i m : ℕ) (v : List ℕ) → length v ≡ w → length bs ≡ 53 + m * w → i < m → block-in w (put-block w bs i v) i ≡ v
-unfolding put-block block-in
-block-same w bs i m v e l h = part-same w bs (53 + i * w) v e (omega (arith, block-end i m w h))
-
-pub block-other : (w : ℕ) (bs : List ℕ) (i j : ℕ) (v : List ℕ) → length v ≡ w → j ≢ i → block-in w (put-block w bs i v) j ≡ block-in w bs j
-unfolding put-block block-in
-block-other w bs i j v e ne =
-    ⊎-elim (λ h. part-before w (53 + j * w) bs (53 + i * w) v h)
-    (λ h. part-after w (53 + j * w) bs (53 + i * w) v (omega arith))
-    (blocks-apart j i w ne)
 
 -- what a loop keeps that writes vs, of n elements, over l from a on: k of them are written
 pub record Written (l : List ℕ) (a : ℕ) (vs : List ℕ) (n : ℕ) (s : List ℕ) (k : ℕ) : Type 0 where
@@ -180,14 +159,6 @@ module _ (l : List ℕ) (a b n : ℕ) (ha : a + n ≤ length l) (hb : b + n ≤ 
     exchanged-end h =
         i .is
         ∙ rw (take-all k (take n (drop b l)) (omega (arith, length-part n b l hb)), take-all k (take n (drop a l)) (omega (arith, length-part n a l ha)))
-
-pub length-copy : (w : ℕ) (bs : List ℕ) (i j : ℕ) → length (copy-in w bs i j) ≡ length bs
-unfolding copy-in
-length-copy w bs i j = length-put w bs j (block-in w bs i)
-
-pub length-swap : (w : ℕ) (bs : List ℕ) (i j : ℕ) → length (swap-in w bs i j) ≡ length bs
-unfolding swap-in
-length-swap w bs i j = length-put w _ j _ ∙ length-put w bs i (block-in w bs j)
 
 -- as the functions on blocks ask: their parts lie at 53 and as many blocks
 pub forward-at : (i j w n a b : ℕ) → a ≡ 53 + i * w → b ≡ 53 + j * w → n ≡ w → Forward a b n

@@ -61,7 +61,8 @@ level-count s l os u =
     let h = parts-count (s .nodes) st X ((front ∷ run st X) ∷ []) 0 v in
     rw (partitions-front s l X, ← starting-above s l os u) (omega (arith, q, h))
 
-counts-snoc : (n l : ℕ) (s : Sizes) (os : List Order) → counts (suc n) l s os ≡ counts n l s os + count s (l + n) os
+-- the highest of the counted levels comes last
+pub counts-snoc : (n l : ℕ) (s : Sizes) (os : List Order) → counts (suc n) l s os ≡ counts n l s os + count s (l + n) os
 unfolding counts
 counts-snoc zero l s os =
     let e : l + 0 ≡ l = omega arith in

@@ -18,7 +18,7 @@ use Rattle.placement.specs.Decode.{chunk-of, block-of, cut, blocks-in}
 use Rattle.sizes.specs.declared.Sizes.{Sizes}
 use Rattle.sizes.proofs.Laws.Sizes.{and-parts}
 use Rattle.sizes.proofs.Laws.Bytes.{block-end}
-use Rattle.placement.proofs.Laws.Cells.{drop-take}
+use Rattle.sizes.proofs.Laws.Numbers.{drop-take}
 use Rattle.sizes.proofs.Laws.Parts.{getD-part}
 use Rattle.placement.proofs.Laws.Decoding.{Clean, zeros, filled}
 use Rattle.table.specs.declared.Tally.{Tally}
