@@ -51,7 +51,8 @@ fn pass_nodes(table: &[u8], at: usize, n: u32, y: u32, x: Spot) -> Spot
     spot
 }
 
-// How many nodes of a partition are below a key, the key of the last of them, and how many nodes there are: `whole`, or else only as far as a node that is not below the key, as none behind it is. `round` is 2^32 over the number of blocks, rounded up.
+// How many nodes of a partition are below a key, the key of the last of them, and how many nodes there are: in the `whole` partition, or only as far as
+// a node that is not below the key, since none behind it is. `round` is 2^32 over the number of blocks, rounded up.
 fn spot_in(table: &[u8], s: Sizes, round: u64, level: u32, first: u32, y: u32, whole: bool) -> Spot
     requires { ⌜ Shaped s (now table) × (round ≡ over (s .blocks)) × (level ≤ 19) ⌝ }
     ensures { λ r. ⌜ Spots s (now (table .entry)) level first y whole r ⌝ }

@@ -86,7 +86,8 @@ pub fn find_over(table: &[u8], s: Sizes, round: u64, g: u32, want: Label) -> Fou
     find_from(table, s, home_over(s, round, g, want), s.blocks, want)
 }
 
-// The same where levels are high more often than 1: such a chunk may stand far behind its home, and all chunks of lower levels in between are passed first.
+// The same on a way down, where most labels are of high levels: such a chunk may stand far behind its home, and all chunks of lower levels in between
+// are passed first.
 pub fn find_high(table: &[u8], s: Sizes, round: u64, g: u32, want: Label) -> Found
     requires { ⌜ Shaped s (now table) × (round ≡ over (s .blocks)) × (g ≡ hash-from 5 5 (s .seed) (want .first)) × (want .level ≤ 19) × (want .number ≤ 65535) ⌝ }
     ensures { λ r. ⌜ r ≡ search-in s (now (table .entry)) want ⌝ }
