@@ -1,4 +1,4 @@
--- What each line prints. Document 01, "The program and one full run". Assumes nothing: these are definitions.
+-- What each line prints. Document 01, "The program and one full run".
 use mathlib.Core.Path.{_≡_}
 use mathlib.Core.Bool.{cond}
 use mathlib.Core.List.{List, [], _∷_, _++_, map}
@@ -21,7 +21,7 @@ use Rattle.table.specs.Calls.{check-number, total-of, displayed-of, Seek-says}
 use Rattle.console.specs.Asked.{piece, seed-asked, sizes-asked, long-asked}
 use Rattle.console.specs.Lent.{Lent}
 use Rattle.console.specs.Output.{Said}
-use Rattle.console.specs.declared.Desk.{Desk}
+use Rattle.console.specs.declared.Lengths.{Lengths}
 
 -- "Each prints its number first, and on a refusal nothing more": what a call adds in that same line, and its further lines
 unfoldable pub answer-lines : (number : ℕ) → (adds : List ℕ) → (more : List (List ℕ)) → List (List ℕ)
@@ -97,7 +97,7 @@ Answered Blocks p room x z ls = (z ≡ x) × (ls ≡ blocks-lines x)
 Answered Bad p room x z ls = (z ≡ x) × (ls ≡ mark-lines)
 
 -- the same of the program's buffers, whose first bytes are the table and the output that waits; `room` is the length of the output that a span is lent
-pub record Step (c : Call) (p : List ℕ) (room : ℕ) (d : Desk) (table out : List ℕ) (e : Desk) (table-now out-now : List ℕ) : Type 0 where
+pub record Step (c : Call) (p : List ℕ) (room : ℕ) (d : Lengths) (table out : List ℕ) (e : Lengths) (table-now out-now : List ℕ) : Type 0 where
   pub lines : List (List ℕ)
   pub answered : Answered c p room (take (d .long) table) (take (e .long) table-now) lines
   pub behind : drop (e .long) table-now ≡ drop (e .long) table

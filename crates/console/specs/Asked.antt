@@ -1,5 +1,5 @@
 -- What a make's line asks for. Document 01, "The program and one full run": "`make γ B N M` with ten seed numbers", and "a table over 65,536 bytes whose
--- sizes are allowed prints `?`". Assumes nothing: these are definitions.
+-- sizes are allowed prints `?`".
 use mathlib.Core.Bool.{cond}
 use mathlib.Core.List.{List}
 use Prim.Native.Nat.{ℕ}

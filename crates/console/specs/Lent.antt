@@ -1,4 +1,4 @@
--- The program's buffers. Document 01, "The program and one full run": "a table over 65,536 bytes .. prints `?`". Assumes nothing: these are definitions.
+-- The program's buffers. Document 01, "The program and one full run": "a table over 65,536 bytes .. prints `?`".
 use mathlib.Core.Path.{_≡_}
 use mathlib.Core.Bool.{true}
 use mathlib.Core.List.{List}

@@ -1,5 +1,5 @@
 -- The output as it waits in a buffer of 65,536 bytes. Document 01, "The program and one full run": what each line prints comes after what those before it
--- print. Assumes nothing: these are definitions.
+-- print.
 use mathlib.Core.Path.{_≡_}
 use mathlib.Core.Bool.{cond}
 use mathlib.Core.List.{List, [], _∷_, _++_}

@@ -12,7 +12,7 @@ ghost use Rattle.skiplist.specs.Image.{is-image};
 ghost use Rattle.console.specs.Answers.{show-lines, order-line, span-lines, Seek-lines, keys-of, block-line, image-lines, blocks-lines, Step};
 ghost use Rattle.console.specs.Lent.{Lent, Laid};
 ghost use Rattle.console.specs.Output.{room-at, Said, Prints};
-use crate::Desk;
+use crate::Lengths;
 use crate::calls;
 use libc::STDOUT_FILENO;
 use lines::Call;
@@ -168,7 +168,7 @@ fn say_image(out: &mut [u8], used: usize, table: &[u8]) -> usize
     say_blocks(out, used, table, s.nodes as usize, s.blocks)
 }
 
-fn answer_blocks(out: &mut [u8], table: &[u8], d: Desk) -> usize
+fn answer_blocks(out: &mut [u8], table: &[u8], d: Lengths) -> usize
     requires { ⌜ Lent (now out) (d .used) × Lent (now table) (d .long) ⌝ }
     ensures { λ r. ⌜ Said (now (out .entry)) (d .used) (blocks-lines (take (d .long) (now (table .entry)))) (now (out .exit)) r ⌝ }
 {
@@ -181,7 +181,7 @@ fn answer_blocks(out: &mut [u8], table: &[u8], d: Desk) -> usize
     say_image(out, used, &table[0..long])
 }
 
-fn answer_show(out: &mut [u8], table: &[u8], d: Desk, key: u32) -> usize
+fn answer_show(out: &mut [u8], table: &[u8], d: Lengths, key: u32) -> usize
     requires { ⌜ Lent (now out) (d .used) × Lent (now table) (d .long) ⌝ }
     ensures { λ r. ⌜ Said (now (out .entry)) (d .used) (show-lines (take (d .long) (now (table .entry))) key) (now (out .exit)) r ⌝ }
 {
@@ -193,7 +193,7 @@ fn answer_show(out: &mut [u8], table: &[u8], d: Desk, key: u32) -> usize
     say(out, d.used, 0, &quantities)
 }
 
-fn answer_seek(out: &mut [u8], table: &[u8], d: Desk, lo: u32, hi: u32, reserve: u32) -> usize
+fn answer_seek(out: &mut [u8], table: &[u8], d: Lengths, lo: u32, hi: u32, reserve: u32) -> usize
     requires { ⌜ Lent (now out) (d .used) × Lent (now table) (d .long) ⌝ }
     ensures { λ r. ⌜ Prints (Seek-lines (take (d .long) (now (table .entry))) lo hi reserve) (now (out .entry)) (d .used) (now (out .exit)) r ⌝ }
 {
@@ -205,7 +205,7 @@ fn answer_seek(out: &mut [u8], table: &[u8], d: Desk, lo: u32, hi: u32, reserve:
     say(out, d.used, 0, &order)
 }
 
-fn answer_span(out: &mut [u8], table: &[u8], found: &mut [u8], d: Desk, lo: u32, hi: u32) -> usize
+fn answer_span(out: &mut [u8], table: &[u8], found: &mut [u8], d: Lengths, lo: u32, hi: u32) -> usize
     requires { ⌜ Lent (now out) (d .used) × Lent (now table) (d .long) ⌝ }
     ensures { λ r. ⌜ Said (now (out .entry)) (d .used) (span-lines (take (d .long) (now (table .entry))) lo hi (length (now (found .entry)))) (now (out .exit)) r ⌝ }
 {
@@ -219,13 +219,13 @@ fn answer_span(out: &mut [u8], table: &[u8], found: &mut [u8], d: Desk, lo: u32,
 }
 
 // A make whose table is too long is no call. A refused make keeps the older table.
-fn answer_make(table: &mut [u8], out: &mut [u8], d: Desk, pieces: [u32; 15]) -> Desk
+fn answer_make(table: &mut [u8], out: &mut [u8], d: Lengths, pieces: [u32; 15]) -> Lengths
     requires { ⌜ Lent (now out) (d .used) × Lent (now table) (d .long) ⌝ }
     ensures { λ r. ⌜ Step Call.Make pieces 0 d (now (table .entry)) (now (out .entry)) r (now (table .exit)) (now (out .exit)) ⌝ }
 {
     let long = calls::wanted(pieces);
     if 65536 < long {
-        return Desk {
+        return Lengths {
             long: d.long,
             used: say_unknown(out, d.used),
         };
@@ -233,12 +233,12 @@ fn answer_make(table: &mut [u8], out: &mut [u8], d: Desk, pieces: [u32; 15]) -> 
     let n = calls::make(table, long, pieces);
     let used = say_number(out, d.used, n);
     if n != 0 {
-        return Desk {
+        return Lengths {
             long: d.long,
             used: used,
         };
     }
-    Desk {
+    Lengths {
         long: long,
         used: used,
     }
@@ -249,7 +249,7 @@ fn answer_call(
     table: &mut [u8],
     found: &mut [u8],
     out: &mut [u8],
-    d: Desk,
+    d: Lengths,
     call: Call,
     p: [u32; 15],
 ) -> usize
@@ -273,7 +273,7 @@ fn answer_call(
     }
 }
 
-pub fn answer(table: &mut [u8], found: &mut [u8], out: &mut [u8], d: Desk, line: Line) -> Desk
+pub fn answer(table: &mut [u8], found: &mut [u8], out: &mut [u8], d: Lengths, line: Line) -> Lengths
     requires { ⌜ Lent (now out) (d .used) × Lent (now table) (d .long) ⌝ }
     ensures { λ r. ⌜ Step (line .call) (line .pieces) (length (now (found .entry))) d (now (table .entry)) (now (out .entry)) r (now (table .exit)) (now (out .exit)) ⌝ }
 {
@@ -282,7 +282,7 @@ pub fn answer(table: &mut [u8], found: &mut [u8], out: &mut [u8], d: Desk, line:
     if let Call::Make = call {
         return answer_make(table, out, d, pieces);
     }
-    Desk {
+    Lengths {
         long: d.long,
         used: answer_call(table, found, out, d, call, pieces),
     }

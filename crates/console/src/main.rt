@@ -17,15 +17,15 @@ use lines::reading::is_under_way;
 use lines::reading::start;
 
 // The bytes of the table, 0 before a make succeeds, and the bytes of the output that wait to be written.
-pub struct Desk {
+pub struct Lengths {
     pub long: usize,
     pub used: usize,
 }
 
-// A line that may go on in the next bytes that come, and the desk.
+// A line that may go on in the next bytes that come, and the lengths.
 pub struct Run {
     pub reader: Reader,
-    pub desk: Desk,
+    pub lengths: Lengths,
 }
 
 // A run after some bytes more, and how many reads may follow: none at the end of the input.
@@ -49,28 +49,28 @@ fn answer_next(
     at: usize,
     r: Run,
 ) -> Next
-    requires { ⌜ Lent (now out) (r .desk .used) × Lent (now table) (r .desk .long) × (at < length (now bytes)) ⌝ }
-    ensures { λ x. ⌜ Lent (now (out .exit)) (x .run .desk .used) × Lent (now (table .exit)) (x .run .desk .long) × (at < x .at) × Turned (length (now (found .entry))) (now (bytes .entry)) at (state r (now (table .entry)) (now (out .entry))) (x .at) (state (x .run) (now (table .exit)) (now (out .exit))) ⌝ }
+    requires { ⌜ Lent (now out) (r .lengths .used) × Lent (now table) (r .lengths .long) × (at < length (now bytes)) ⌝ }
+    ensures { λ x. ⌜ Lent (now (out .exit)) (x .run .lengths .used) × Lent (now (table .exit)) (x .run .lengths .long) × (at < x .at) × Turned (length (now (found .entry))) (now (bytes .entry)) at (state r (now (table .entry)) (now (out .entry))) (x .at) (state (x .run) (now (table .exit)) (now (out .exit))) ⌝ }
 {
     let went = advance(bytes, at, r.reader);
     let reader = went.reader;
     let end = went.at;
     if bytes.len() <= end {
-        let desk = r.desk;
+        let lengths = r.lengths;
         return Next {
             run: Run {
                 reader: reader,
-                desk: desk,
+                lengths: lengths,
             },
             at: end,
         };
     }
     let after = end + 1;
-    let desk = answer(table, found, out, r.desk, close(reader));
+    let lengths = answer(table, found, out, r.lengths, close(reader));
     Next {
         run: Run {
             reader: start(),
-            desk: desk,
+            lengths: lengths,
         },
         at: after,
     }
@@ -78,8 +78,8 @@ fn answer_next(
 
 // Answers each line that ends in these bytes.
 fn answer_all(table: &mut [u8], found: &mut [u8], out: &mut [u8], bytes: &[u8], r: Run) -> Run
-    requires { ⌜ Lent (now out) (r .desk .used) × Lent (now table) (r .desk .long) ⌝ }
-    ensures { λ x. ⌜ Lent (now (out .exit)) (x .desk .used) × Lent (now (table .exit)) (x .desk .long) × Taken (length (now (found .entry))) (now (bytes .entry)) 0 (state r (now (table .entry)) (now (out .entry))) (state x (now (table .exit)) (now (out .exit))) ⌝ }
+    requires { ⌜ Lent (now out) (r .lengths .used) × Lent (now table) (r .lengths .long) ⌝ }
+    ensures { λ x. ⌜ Lent (now (out .exit)) (x .lengths .used) × Lent (now (table .exit)) (x .lengths .long) × Taken (length (now (found .entry))) (now (bytes .entry)) 0 (state r (now (table .entry)) (now (out .entry))) (state x (now (table .exit)) (now (out .exit))) ⌝ }
 {
     let mut run = r;
     let mut at: usize = 0;
@@ -93,16 +93,16 @@ fn answer_all(table: &mut [u8], found: &mut [u8], out: &mut [u8], bytes: &[u8], 
 
 // The waiting output is written.
 fn written(out: &[u8], r: Run) -> Run
-    requires { ⌜ Lent (now out) (r .desk .used) ⌝ }
-    ensures { λ x. ⌜ Lent (now (out .entry)) (x .desk .used) × (x .desk .long ≡ r .desk .long) × (x ≡ emptied r) ⌝ }
+    requires { ⌜ Lent (now out) (r .lengths .used) ⌝ }
+    ensures { λ x. ⌜ Lent (now (out .entry)) (x .lengths .used) × (x .lengths .long ≡ r .lengths .long) × (x ≡ emptied r) ⌝ }
 {
-    let used = r.desk.used;
+    let used = r.lengths.used;
     io::write_all(STDOUT_FILENO, &out[0..used]);
     let reader = r.reader;
     Run {
         reader: reader,
-        desk: Desk {
-            long: r.desk.long,
+        lengths: Lengths {
+            long: r.lengths.long,
             used: 0,
         },
     }
@@ -110,8 +110,8 @@ fn written(out: &[u8], r: Run) -> Run
 
 // Answers each line that ends in these bytes, and writes the answers.
 fn answer_some(table: &mut [u8], found: &mut [u8], out: &mut [u8], bytes: &[u8], r: Run) -> Run
-    requires { ⌜ Lent (now out) (r .desk .used) × Lent (now table) (r .desk .long) ⌝ }
-    ensures { λ x. ⌜ Lent (now (out .exit)) (x .desk .used) × Lent (now (table .exit)) (x .desk .long) × Taken-whole (length (now (found .entry))) (now (bytes .entry)) (state r (now (table .entry)) (now (out .entry))) (state x (now (table .exit)) (now (out .exit))) ⌝ }
+    requires { ⌜ Lent (now out) (r .lengths .used) × Lent (now table) (r .lengths .long) ⌝ }
+    ensures { λ x. ⌜ Lent (now (out .exit)) (x .lengths .used) × Lent (now (table .exit)) (x .lengths .long) × Taken-whole (length (now (found .entry))) (now (bytes .entry)) (state r (now (table .entry)) (now (out .entry))) (state x (now (table .exit)) (now (out .exit))) ⌝ }
 {
     let run = answer_all(table, found, out, bytes, r);
     written(out, run)
@@ -119,8 +119,8 @@ fn answer_some(table: &mut [u8], found: &mut [u8], out: &mut [u8], bytes: &[u8],
 
 // Reads once and answers what came.
 fn read_more(table: &mut [u8], found: &mut [u8], out: &mut [u8], r: Run, left: u64) -> Turn
-    requires { ⌜ Lent (now out) (r .desk .used) × Lent (now table) (r .desk .long) × (0 < left) ⌝ }
-    ensures { λ x. ⌜ Lent (now (out .exit)) (x .run .desk .used) × Lent (now (table .exit)) (x .run .desk .long) × (x .left < left) ⌝ }
+    requires { ⌜ Lent (now out) (r .lengths .used) × Lent (now table) (r .lengths .long) × (0 < left) ⌝ }
+    ensures { λ x. ⌜ Lent (now (out .exit)) (x .run .lengths .used) × Lent (now (table .exit)) (x .run .lengths .long) × (x .left < left) ⌝ }
 {
     let less = left - 1;
     let mut bytes = [0u8; 65536];
@@ -138,13 +138,13 @@ fn read_more(table: &mut [u8], found: &mut [u8], out: &mut [u8], r: Run, left: u
 
 // The last line may lack its line end.
 fn finish(table: &mut [u8], found: &mut [u8], out: &mut [u8], r: Run)
-    requires { ⌜ Lent (now out) (r .desk .used) × Lent (now table) (r .desk .long) ⌝ }
+    requires { ⌜ Lent (now out) (r .lengths .used) × Lent (now table) (r .lengths .long) ⌝ }
     ensures { λ x. ⌜ Finished (length (now (found .entry))) (state r (now (table .entry)) (now (out .entry))) (now (table .exit)) (now (out .exit)) ⌝ }
 {
     let reader = r.reader;
     if is_under_way(reader) {
-        let desk = answer(table, found, out, r.desk, close(reader));
-        let used = desk.used;
+        let lengths = answer(table, found, out, r.lengths, close(reader));
+        let used = lengths.used;
         io::write_all(STDOUT_FILENO, &out[0..used]);
     }
 }
@@ -155,7 +155,7 @@ fn main() {
     let mut out = [0u8; 65536];
     let mut run = Run {
         reader: start(),
-        desk: Desk { long: 0, used: 0 },
+        lengths: Lengths { long: 0, used: 0 },
     };
     // A proved loop has to end, and nothing says that the input does: a number of reads that no run uses up.
     let mut left = u64::MAX;

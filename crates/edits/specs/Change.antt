@@ -1,4 +1,4 @@
--- A table on its way from some orders to others, level by level from a key's own down, and what one level of a put and of a cancel does to it. Assumes nothing: these are definitions.
+-- A table on its way from some orders to others, level by level from a key's own down, and what one level of a put and of a cancel does to it.
 use mathlib.Core.Path.{_≡_}
 use mathlib.Core.Bool.{true, false}
 use mathlib.Core.List.{List, _∷_, _++_}

@@ -1,4 +1,4 @@
--- What the parts of a put and of a cancel do, told by the map that a table keeps. Assumes nothing: these are definitions.
+-- What the parts of a put and of a cancel do, told by the map that a table keeps.
 use mathlib.Core.Path.{_≡_}
 use mathlib.Core.Bool.{Bool, true}
 use mathlib.Core.List.{List, [], _∷_, _++_}

@@ -1,5 +1,4 @@
 -- Nodes on the move, told by the map that a table keeps: a chunk taken out into a carry, a full chunk written from it, a partition's chunks poured behind a carry, and a row's first nodes written as a chunk.
--- Assumes nothing: these are definitions.
 use mathlib.Core.Path.{_≡_}
 use mathlib.Core.List.{List, [], _∷_, _++_}
 use Prim.Native.Nat.{ℕ, suc, _+_, _*_, _≤_, _<_}

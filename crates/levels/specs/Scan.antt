@@ -1,4 +1,4 @@
--- What the parts of a scan and of a growth give. Assumes nothing: these are definitions.
+-- What the parts of a scan and of a growth give.
 use mathlib.Core.Path.{_≡_}
 use mathlib.Core.Bool.{cond}
 use mathlib.Core.List.{List}

@@ -1,5 +1,4 @@
 -- Nodes on the move where labels stay, told by the map that a table keeps: a chunk set to some nodes, the first nodes of a carry written over a chunk, and all chunks of a partition from one on.
--- Assumes nothing: these are definitions.
 use mathlib.Core.Path.{_≡_}
 use mathlib.Core.List.{List, [], _++_}
 use Prim.Native.Nat.{ℕ, suc, _+_, _*_, _≤_, _<_}

@@ -1,5 +1,5 @@
 -- What a line says. Document 01, "The program and one full run": "decimal fields of one or more digits with one blank between", the seven words with
--- their fields, and "a line of another form, a field above 4,294,967,295 .. prints `?`". Assumes nothing: these are definitions.
+-- their fields, and "a line of another form, a field above 4,294,967,295 .. prints `?`".
 use mathlib.Core.Bool.{Bool, true, false, _&&_, cond}
 use mathlib.Core.List.{List, [], _∷_, map}
 use Prim.Native.Nat.{ℕ, _+_, _*_, _-_}

@@ -1,5 +1,5 @@
 -- The reader of lines as a machine: what each function of src/reading.rt gives. That the machine reads a line as specs/Grammar.antt says is
--- `read-is` of proofs/Laws/Reading.antt. Assumes nothing: these are definitions.
+-- `read-is` of proofs/Laws/Reading.antt.
 use mathlib.Core.Bool.{Bool, true, false, _&&_, cond}
 use mathlib.Core.List.{List, [], _∷_}
 use mathlib.Core.Path.{_≡_}

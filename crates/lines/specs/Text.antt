@@ -1,5 +1,4 @@
--- Numbers as text. Document 01, "The program and one full run": decimal fields, "output fields are parted the same way". Assumes nothing: these are
--- definitions.
+-- Numbers as text. Document 01, "The program and one full run": decimal fields, "output fields are parted the same way".
 use mathlib.Core.Path.{_≡_}
 use mathlib.Core.Bool.{true, cond}
 use mathlib.Core.List.{List, [], _∷_, _++_}
@@ -35,5 +34,5 @@ pub record Put (old new : List ℕ) (at : ℕ) (bytes : List ℕ) (r : ℕ) : Ty
   pub next : r ≡ at + length bytes
 
 -- STATEMENT: a numeral is a field that a line may have, and its value is the number
-unfoldable pub Reads-back : Type 0
-Reads-back = (n : ℕ) → n ≤ 4294967295 → (number (numeral n) ≡ true) × (value (numeral n) ≡ n)
+unfoldable pub Numeral-reads-back : Type 0
+Numeral-reads-back = (n : ℕ) → n ≤ 4294967295 → (number (numeral n) ≡ true) × (value (numeral n) ≡ n)

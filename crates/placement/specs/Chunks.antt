@@ -1,4 +1,4 @@
--- Chunks, labels, homes, and the bytes of a block. Document 01, "Lists, partitions, chunks" and "Bytes of the table". Assumes nothing: these are definitions.
+-- Chunks, labels, homes, and the bytes of a block. Document 01, "Lists, partitions, chunks" and "Bytes of the table".
 use mathlib.Core.Bool.{Bool, _&&_, _||_}
 use mathlib.Core.List.{List, [], _∷_, _++_}
 use Prim.Native.Nat.{ℕ, _+_, _*_, _-_, _%_}

@@ -1,4 +1,4 @@
--- Blocks read back from bytes. Assumes nothing: these are definitions.
+-- Blocks read back from bytes.
 use mathlib.Core.Bool.{cond}
 use mathlib.Core.List.{List, map}
 use Prim.Native.Nat.{ℕ}

@@ -1,5 +1,4 @@
 -- What placement promises the layer above, for chunks of any kind, with any homes and any order of labels: a table told as a map from labels to rows, [] for a label that is absent.
--- Assumes nothing: these are definitions.
 use mathlib.Core.Path.{_≡_}
 use mathlib.Core.Logic.{_≢_}
 use mathlib.Core.Bool.{Bool, cond}

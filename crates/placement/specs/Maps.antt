@@ -1,4 +1,4 @@
--- What placement promises the layer above: a table told as a map from labels to nodes, [] for a label that is absent, and the bytes that keep one. Assumes nothing: these are definitions.
+-- What placement promises the layer above: a table told as a map from labels to nodes, [] for a label that is absent, and the bytes that keep one.
 use mathlib.Core.Path.{_≡_}
 use mathlib.Core.Logic.{_≢_}
 use mathlib.Core.Bool.{Bool, true, _&&_}

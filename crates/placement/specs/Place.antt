@@ -1,4 +1,4 @@
--- Labels in the bytes of a table: the search for one, the removal and the insertion of a chunk. Document 01, "When bytes are an image". Assumes nothing: these are definitions.
+-- Labels in the bytes of a table: the search for one, the removal and the insertion of a chunk. Document 01, "When bytes are an image".
 use mathlib.Core.Path.{_≡_}
 use mathlib.Core.List.{List, _∷_, _++_}
 use mathlib.Core.Bool.{Bool, true, false, _&&_, _||_, not, cond}

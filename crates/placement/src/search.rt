@@ -3,7 +3,7 @@ ghost use mathlib.Core.Path.{_≡_};
 ghost use Prim.Native.Nat.{ℕ, _+_, _*_, _-_, _%_, _<_, _≤_};
 ghost use lib.Dec.{eqb};
 ghost use lib.ListN.{getD};
-ghost use Rattle.sizes.specs.Numbers.{field, over};
+ghost use Rattle.sizes.specs.Numbers.{over};
 ghost use Rattle.sizes.specs.Hash.{hash-from};
 ghost use Rattle.sizes.specs.Header.{block-long};
 ghost use Rattle.placement.specs.Place.{Shaped, label-in, home-of, probe, past-lower, search-in, free-in};
@@ -133,13 +133,4 @@ pub fn count_at(table: &[u8], s: Sizes, i: u32) -> u32
 {
     let at = offset(s, i);
     sizes::numbers::wide(table[at + 1])
-}
-
-// A field of node j of the chunk in a block: its key at 0, its total at 4, what is displayed of it at 8.
-pub fn node_at(table: &[u8], s: Sizes, i: u32, j: u32, a: u32) -> u32
-    requires { ⌜ Shaped s (now table) × (i < s .blocks) × (8 + (12 * j + a) + 4 ≤ block-long s) ⌝ }
-    ensures { λ r. ⌜ r ≡ field (53 + i * block-long s + (8 + (12 * j + a))) 4 (now (table .entry)) ⌝ }
-{
-    let at = offset(s, i);
-    sizes::numbers::be4(table, at + (8 + (12 * (j as usize) + a as usize)))
 }

@@ -1,5 +1,5 @@
 -- What a visit does with the orders that come by, one after the other by rising keys: it counts those in lo..hi, writes their rows,
--- or stops at the first that has a reserve. Assumes nothing: these are definitions.
+-- or stops at the first that has a reserve.
 use mathlib.Core.Path.{_≡_}
 use mathlib.Core.Bool.{Bool, true, false, _&&_, cond}
 use mathlib.Core.List.{List, [], _∷_, _++_, map}

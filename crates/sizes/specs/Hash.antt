@@ -1,4 +1,4 @@
--- Hashes and levels. Document 01, "Orders and hashes". Assumes nothing: these are definitions.
+-- Hashes and levels. Document 01, "Orders and hashes".
 use mathlib.Core.Bool.{Bool, _&&_, _||_, not, cond}
 use mathlib.Core.List.{List}
 use Prim.Native.Nat.{ℕ, zero, suc, _+_, _*_, _-_, _%_, _^_}

@@ -1,4 +1,4 @@
--- The header. Document 01, "Bytes of the table" and rule 1 of "When bytes are an image". Assumes nothing: these are definitions.
+-- The header. Document 01, "Bytes of the table" and rule 1 of "When bytes are an image".
 use mathlib.Core.Bool.{Bool, _&&_}
 use mathlib.Core.List.{List, [], _∷_, _++_}
 use Prim.Native.Nat.{ℕ, _+_, _*_}

@@ -1,4 +1,4 @@
--- Numbers in bytes. Document 01, "Bytes of the table": big-endian throughout. Assumes nothing: these are definitions.
+-- Numbers in bytes. Document 01, "Bytes of the table": big-endian throughout.
 use mathlib.Core.List.{List, [], _∷_, _++_}
 use Prim.Native.Nat.{ℕ, zero, suc, _+_, _*_, _-_, _/_, _%_, _^_}
 use lib.ListN.{take, drop}

@@ -1,4 +1,4 @@
--- Sizes and seed. Document 01, "Orders and hashes". Assumes nothing: these are definitions.
+-- Sizes and seed. Document 01, "Orders and hashes".
 use mathlib.Core.Bool.{Bool, true, _&&_, cond}
 use mathlib.Core.List.{List, [], _∷_}
 use Prim.Native.Nat.{ℕ, zero, suc, _+_, _^_}

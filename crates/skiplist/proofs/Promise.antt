@@ -1,24 +1,24 @@
 -- All that is promised, proved.
 use Rattle.skiplist.specs.Questions.{First-no-means}
 use Rattle.skiplist.specs.Rules.{Image-exactly, Paper-partitions, Paper-top, Beta-is, Level-is, Hash-is, Lists-are, Chunks-are}
-use Rattle.skiplist.specs.Promise.{Reads-back, Labels-rise, Rule-three, One-arrangement, Lists-image, Equal-exactly, Checks-exactly}
+use Rattle.skiplist.specs.Promise.{Image-reads-back, Labels-rise, Rule-three, One-arrangement, Lists-image, Equal-exactly, Checks-exactly}
 use Rattle.skiplist.specs.Examples.{One-to-nine}
-use Rattle.skiplist.proofs.Questions.{first-no-means}
-use Rattle.skiplist.proofs.Examples.{one-to-nine-hold}
-use Rattle.skiplist.proofs.Levels.{beta-is, level-is, hash-is}
-use Rattle.skiplist.proofs.Lists.{lists-are}
-use Rattle.skiplist.proofs.Paper.{paper-partitions, paper-top}
-use Rattle.skiplist.proofs.Pieces.{chunks-are}
-use Rattle.skiplist.proofs.Rise.{labels-do-rise}
-use Rattle.skiplist.proofs.Readback.{reads-back, lists-image-holds, equal-exactly-holds, checks-exactly-holds}
-use Rattle.skiplist.proofs.Arranged.{rule-three, one-arrangement}
-use Rattle.skiplist.proofs.Rules.{image-exactly}
+use Rattle.skiplist.proofs.Laws.Questions.{first-no-means}
+use Rattle.skiplist.proofs.Laws.Examples.{one-to-nine-hold}
+use Rattle.skiplist.proofs.Laws.Levels.{beta-is, level-is, hash-is}
+use Rattle.skiplist.proofs.Laws.Lists.{lists-are}
+use Rattle.skiplist.proofs.Laws.Paper.{paper-partitions, paper-top}
+use Rattle.skiplist.proofs.Laws.Pieces.{chunks-are}
+use Rattle.skiplist.proofs.Laws.Rise.{labels-do-rise}
+use Rattle.skiplist.proofs.Laws.Readback.{reads-back, lists-image-holds, equal-exactly-holds, checks-exactly-holds}
+use Rattle.skiplist.proofs.Laws.Arranged.{rule-three, one-arrangement}
+use Rattle.skiplist.proofs.Laws.Rules.{image-exactly}
 
 pub record Proved : Type 0 where
   -- DEMAND 1's first clause
   pub first-no : First-no-means
   -- DEMAND 2: images
-  pub reads : Reads-back
+  pub reads : Image-reads-back
   pub rise : Labels-rise
   pub rule-3 : Rule-three
   pub one-table : One-arrangement

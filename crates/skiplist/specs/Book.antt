@@ -1,4 +1,4 @@
--- The plain book, and what puts and cancels do to a table. Document 01, "The plain book". Assumes nothing: these are definitions.
+-- The plain book, and what puts and cancels do to a table. Document 01, "The plain book".
 use mathlib.Core.Bool.{cond}
 use mathlib.Core.List.{List, [], _∷_}
 use Prim.Native.Nat.{ℕ}

@@ -1,4 +1,4 @@
--- P1 to P9 of document 01, "Checked examples", as one list of claims, each with a test that is computed. Assumes nothing: these are definitions.
+-- P1 to P9 of document 01, "Checked examples", as one list of claims, each with a test that is computed.
 use mathlib.Core.Path.{_≡_}
 use mathlib.Core.Bool.{Bool, true, false, _&&_}
 use mathlib.Core.List.{List, [], _∷_, _++_}

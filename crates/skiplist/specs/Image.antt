@@ -1,4 +1,4 @@
--- The image of some orders, and when bytes are one. Document 01, "Bytes of the table" and "When bytes are an image". Assumes nothing: these are definitions.
+-- The image of some orders, and when bytes are one. Document 01, "Bytes of the table" and "When bytes are an image".
 use mathlib.Core.Bool.{Bool, true, false, _&&_, cond}
 use mathlib.Core.List.{List, [], _∷_, _++_}
 use Prim.Native.Nat.{ℕ, suc}

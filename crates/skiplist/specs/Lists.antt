@@ -1,4 +1,4 @@
--- Lists, partitions, chunks. Document 01, "Lists, partitions, chunks". Assumes nothing: these are definitions.
+-- Lists, partitions, chunks. Document 01, "Lists, partitions, chunks".
 use mathlib.Core.Bool.{Bool, _&&_, _||_, cond}
 use mathlib.Core.List.{List, [], _∷_, _++_, map}
 use Prim.Native.Nat.{ℕ, zero, suc}

@@ -1,4 +1,4 @@
--- Parts of lists and of partitions, by which a walk down the levels and an edit of one level are told. Assumes nothing: these are definitions.
+-- Parts of lists and of partitions, by which a walk down the levels and an edit of one level are told.
 use mathlib.Core.Bool.{Bool, true, _&&_, cond}
 use mathlib.Core.List.{List, [], _∷_, _++_}
 use Prim.Native.Nat.{ℕ, zero, suc, _+_, _/_, _≤_}

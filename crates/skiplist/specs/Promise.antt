@@ -1,4 +1,4 @@
--- What is promised of images and of lists of puts, cancels and readings. Each statement is a type; its proof stands in proofs/. Assumes nothing.
+-- What is promised of images and of lists of puts, cancels and readings. Each statement is a type; its proof stands in proofs/.
 use mathlib.Core.Path.{_≡_}
 use mathlib.Core.Bool.{Bool, true, _&&_}
 use mathlib.Core.List.{List, [], _∷_}
@@ -18,8 +18,8 @@ use Rattle.skiplist.specs.Book.{Call, book, after}
 -- ---- DEMAND 2: images
 
 -- an image reads back as its orders and sizes
-unfoldable pub Reads-back : Type 0
-Reads-back =
+unfoldable pub Image-reads-back : Type 0
+Image-reads-back =
     (s : Sizes) (os : List Order) → made s ≡ true → orders-good 1 os ≡ true → fits s os ≡ true →
     (is-image (image s os) ≡ true) × (orders-in (image s os) ≡ os) × (sizes-in (image s os) ≡ s)
 

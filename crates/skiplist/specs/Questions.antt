@@ -1,5 +1,4 @@
 -- Questions and their numbers. Document 01, "Calls and their questions": they run in order, the first "no" ends the call with its number, success is 0.
--- Assumes nothing: these are definitions.
 use mathlib.Core.Path.{_≡_}
 use mathlib.Core.Logic.{_⊎_}
 use mathlib.Core.Bool.{Bool, true, false, _&&_, _||_, cond}

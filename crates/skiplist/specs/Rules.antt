@@ -1,5 +1,5 @@
 -- Rules 1, 2 and 3 of "When bytes are an image" in document 01, as properties of bytes; and the rules of levels, lists and partitions
--- that source document 000 publishes. Each statement is a type; its proof stands in proofs/. Assumes nothing.
+-- that source document 000 publishes. Each statement is a type; its proof stands in proofs/.
 use mathlib.Core.Path.{_≡_}
 use mathlib.Core.Bool.{true, _&&_, cond}
 use mathlib.Core.List.{List, [], _∷_, _++_, map}

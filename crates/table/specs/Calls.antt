@@ -1,4 +1,4 @@
--- What each call answers and leaves behind. Document 01, "Calls and their questions" and "Contracts". Assumes nothing: these are definitions.
+-- What each call answers and leaves behind. Document 01, "Calls and their questions" and "Contracts".
 use mathlib.Core.Path.{_≡_}
 use mathlib.Core.Bool.{true, cond}
 use mathlib.Core.List.{List, [], _∷_, _++_}
@@ -60,7 +60,7 @@ unfoldable pub Span-says : (table : List ℕ) → (lo hi : ℕ) → Reply → (o
 Span-says x lo hi r o z = Span-as (first-no (asks-image x ++ asks-span lo hi (length o) (orders-in x))) (between lo hi (orders-in x)) r o z
 
 -- SEEK: 4, 5, 10, 12; some order that is held, lies in lo..hi and has the reserve, with its own quantities
-pub record Sought (os : List Order) (lo hi least : ℕ) (r : Reply) : Type 0 where
+pub record Seek-gives (os : List Order) (lo hi least : ℕ) (r : Reply) : Type 0 where
   pub number : r .number ≡ 0
   pub held-there : held (r .key) (between lo hi os) ≡ true
   pub own-total : r .total ≡ total-of (r .key) os
@@ -68,7 +68,7 @@ pub record Sought (os : List Order) (lo hi least : ℕ) (r : Reply) : Type 0 whe
   pub enough : least ≤ reserve (order (r .key) (r .total) (r .displayed))
 
 unfoldable pub Seek-as : (number : ℕ) → List Order → (lo hi least : ℕ) → Reply → Type 0
-Seek-as zero os lo hi l r = Sought os lo hi l r
+Seek-as zero os lo hi l r = Seek-gives os lo hi l r
 Seek-as (suc n) os lo hi l r = says (suc n) 0 0 0 r
 
 unfoldable pub Seek-says : (table : List ℕ) → (lo hi least : ℕ) → Reply → Type 0

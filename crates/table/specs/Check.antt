@@ -1,4 +1,4 @@
--- The check as it is computed: rule 1, one pass over the blocks, and the walk. Assumes nothing: these are definitions.
+-- The check as it is computed: rule 1, one pass over the blocks, and the walk.
 use mathlib.Core.Path.{_≡_}
 use mathlib.Core.Bool.{Bool, true, false, _&&_, cond}
 use mathlib.Core.List.{List}

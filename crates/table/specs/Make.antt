@@ -1,4 +1,4 @@
--- What make writes past the header: the front alone at each level. Assumes nothing: these are definitions.
+-- What make writes past the header: the front alone at each level.
 use mathlib.Core.Bool.{_&&_, cond}
 use mathlib.Core.List.{List, [], _∷_}
 use Prim.Native.Nat.{ℕ, _≤_}

@@ -1,5 +1,5 @@
 -- The three demands over whole lists of calls, by the very predicates that the calls' contracts cite. Document 00, and document 01, "The plain book".
--- Each statement is a type; its proof stands in proofs/. Assumes nothing.
+-- Each statement is a type; its proof stands in proofs/.
 use mathlib.Core.Path.{_≡_}
 use mathlib.Core.Bool.{Bool, true, _&&_, cond}
 use mathlib.Core.List.{List, [], _∷_}

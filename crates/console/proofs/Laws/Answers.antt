@@ -1,4 +1,4 @@
--- What is printed for a reply is what its line has to print. Assumes nothing.
+-- What is printed for a reply is what its line has to print.
 use mathlib.Core.Path.{_≡_, refl, sym, _∙_, subst}
 use mathlib.Core.Logic.{_≢_}
 use mathlib.Core.Bool.{Bool, true, false, cond}

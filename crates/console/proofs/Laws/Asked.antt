@@ -1,4 +1,4 @@
--- A make's numbers: the seed's bytes, and the length of the table. Assumes nothing.
+-- A make's numbers: the seed's bytes, and the length of the table.
 use mathlib.Core.Path.{_≡_, refl, ap, sym, _∙_, subst}
 use mathlib.Core.Bool.{Bool, true, false}
 use mathlib.Core.List.{List, [], _∷_, _++_, append-assoc, append-nil}

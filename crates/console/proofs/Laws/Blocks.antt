@@ -1,4 +1,4 @@
--- The blocks of an image, printed one line each. Assumes nothing.
+-- The blocks of an image, printed one line each.
 use mathlib.Core.Path.{_≡_, ap, sym, _∙_, subst}
 use mathlib.Core.Logic.{_≢_}
 use mathlib.Core.Bool.{true}
@@ -30,7 +30,7 @@ use Rattle.placement.proofs.Laws.Edits.{block-bytes-at}
 use Rattle.sizes.proofs.Laws.Bytes.{offset-end}
 use Rattle.skiplist.specs.Lists.{chunks}
 use Rattle.skiplist.specs.Image.{image, is-image, orders-in}
-use Rattle.skiplist.proofs.Image.{image-keeps}
+use Rattle.skiplist.proofs.Laws.Image.{image-keeps}
 use Rattle.readings.proofs.Laws.Answers.{known-image}
 use Rattle.table.specs.Calls.{check-number}
 use Rattle.table.proofs.Laws.Standing.{block-at, nodes-part}

@@ -1,4 +1,4 @@
--- The program's buffers: how much of one is in use. Assumes nothing.
+-- The program's buffers: how much of one is in use.
 use mathlib.Core.Path.{_≡_, refl, _∙_}
 use mathlib.Core.List.{List}
 use Prim.Native.Nat.{ℕ, _≤_}

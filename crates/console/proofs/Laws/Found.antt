@@ -1,4 +1,4 @@
--- What a span found fits the output that it was lent; and the first bytes of a buffer, lent to a call, come back. Assumes nothing.
+-- What a span found fits the output that it was lent; and the first bytes of a buffer, lent to a call, come back.
 use mathlib.Core.Path.{_≡_, refl, subst, _∙_}
 use mathlib.Core.Bool.{Bool, true, false, _&&_, cond}
 use mathlib.Core.List.{List, _++_}

@@ -1,4 +1,4 @@
--- Lines one after the other. Assumes nothing.
+-- Lines one after the other.
 use mathlib.Core.Path.{_≡_, sym, _∙_, subst}
 use mathlib.Core.Bool.{Bool, true}
 use mathlib.Core.List.{List}
@@ -9,13 +9,13 @@ use Rattle.lines.specs.declared.Reader.{Reader}
 use Rattle.lines.specs.Machine.{Advanced, beginning, close-of, under-way}
 use Rattle.console.specs.Answers.{Step}
 use Rattle.console.specs.Input.{State, Turned, ends, Taken, none, one, Finished, last}
-use Rattle.console.specs.declared.Desk.{Desk}
+use Rattle.console.specs.declared.Lengths.{Lengths}
 
 module _ (room : ℕ) (s : List ℕ) (at : ℕ) (a : State) (to : ℕ) (b : State) where
   pub line-ends : (q : Reader) (end : ℕ) (l : Line) → Advanced s at (a .run .reader) q end → end < length s → to ≡ end + 1 → b .run .reader ≡ beginning → l ≡ close-of q
-      → Step (l .call) (l .pieces) room (a .run .desk) (a .table) (a .out) (b .run .desk) (b .table) (b .out) → Turned room s at a to b
+      → Step (l .call) (l .pieces) room (a .run .lengths) (a .table) (a .out) (b .run .lengths) (b .table) (b .out) → Turned room s at a to b
   line-ends q end l v h n r e t =
-      ends q end v h n r (subst (λ (z : Line). Step (z .call) (z .pieces) room (a .run .desk) (a .table) (a .out) (b .run .desk) (b .table) (b .out)) e t)
+      ends q end v h n r (subst (λ (z : Line). Step (z .call) (z .pieces) room (a .run .lengths) (a .table) (a .out) (b .run .lengths) (b .table) (b .out)) e t)
 
 -- the lines up to a place are taken: whatever the rest leaves, the whole leaves
 abbrev pub So-far : (room : ℕ) (s : List ℕ) (start : State) (at : ℕ) (a : State) → Type 0
@@ -32,7 +32,7 @@ module _ (room : ℕ) (s : List ℕ) (start : State) where
   so-far-all at a f h = f a (none h)
 
 -- the last line
-pub last-line : (room : ℕ) (a : State) (d : Desk) (t : Bool) (l : Line) (x z : List ℕ) → t ≡ under-way (a .run .reader) → t ≡ true → l ≡ close-of (a .run .reader)
-    → Step (l .call) (l .pieces) room (a .run .desk) (a .table) (a .out) d x z → Finished room a x z
+pub last-line : (room : ℕ) (a : State) (d : Lengths) (t : Bool) (l : Line) (x z : List ℕ) → t ≡ under-way (a .run .reader) → t ≡ true → l ≡ close-of (a .run .reader)
+    → Step (l .call) (l .pieces) room (a .run .lengths) (a .table) (a .out) d x z → Finished room a x z
 last-line room a d t l x z e y h s =
-    last d (sym e ∙ y) (subst (λ (k : Line). Step (k .call) (k .pieces) room (a .run .desk) (a .table) (a .out) d x z) h s)
+    last d (sym e ∙ y) (subst (λ (k : Line). Step (k .call) (k .pieces) room (a .run .lengths) (a .table) (a .out) d x z) h s)

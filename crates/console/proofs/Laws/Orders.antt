@@ -1,4 +1,4 @@
--- Orders in bytes, printed one line each. Assumes nothing.
+-- Orders in bytes, printed one line each.
 use mathlib.Core.Path.{_≡_, refl, ap, sym, _∙_, subst}
 use mathlib.Core.Bool.{Bool, true, false, _&&_, cond}
 use mathlib.Core.List.{List, [], _∷_, _++_, map, map-append}
@@ -19,9 +19,9 @@ use Rattle.placement.specs.declared.Order.{Order}
 use Rattle.sizes.proofs.Laws.Numbers.{field-drop}
 use Rattle.skiplist.specs.Image.{quantities-good, orders-good, orders-in, is-image}
 use Rattle.skiplist.specs.Questions.{between}
-use Rattle.skiplist.proofs.Parts.{and-left, and-right, Good, good-parts}
-use Rattle.skiplist.proofs.Decode.{nodes-back}
-use Rattle.skiplist.proofs.Third.{image-parts}
+use Rattle.skiplist.proofs.Laws.Parts.{and-left, and-right, Good, good-parts}
+use Rattle.skiplist.proofs.Laws.Decode.{nodes-back}
+use Rattle.skiplist.proofs.Laws.Third.{image-parts}
 use Rattle.console.specs.Answers.{order-line}
 use Rattle.console.specs.Lent.{Lent}
 use Rattle.console.specs.Output.{Said}

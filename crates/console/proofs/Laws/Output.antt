@@ -1,4 +1,4 @@
--- Lines printed one after the other. Assumes nothing.
+-- Lines printed one after the other.
 use mathlib.Core.Path.{_≡_, refl, ap, sym, _∙_}
 use mathlib.Core.Bool.{Bool, true, false, cond}
 use mathlib.Core.List.{List, [], _∷_, _++_, append-assoc, append-nil}

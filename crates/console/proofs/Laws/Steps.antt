@@ -1,4 +1,4 @@
--- The step of one line, put together from what its call did and what was printed. Assumes nothing.
+-- The step of one line, put together from what its call did and what was printed.
 use mathlib.Core.Path.{_≡_, refl, ap, sym, _∙_, subst}
 use mathlib.Core.Logic.{_≢_, ⊎-elim}
 use denote.Enum.Declared.{tagOf}
@@ -21,10 +21,10 @@ use Rattle.console.specs.Answers.{answer-lines, mark-lines, make-number,
 use Rattle.console.specs.Asked.{piece, sizes-asked, long-asked, Make-asked}
 use Rattle.console.specs.Lent.{Lent, Front}
 use Rattle.console.specs.Output.{Said, Prints}
-use Rattle.console.specs.declared.Desk.{Desk}
+use Rattle.console.specs.declared.Lengths.{Lengths}
 
-abbrev desk : (long used : ℕ) → Desk
-desk l u = record { long = l; used = u }
+abbrev lengths : (long used : ℕ) → Lengths
+lengths l u = record { long = l; used = u }
 
 -- a number alone
 alone : (n : ℕ) → row n [] ∷ [] ≡ answer-lines n [] []
@@ -33,8 +33,8 @@ alone zero = refl
 alone (suc n) = refl
 
 -- MAKE
-module _ (p table out out′ : List ℕ) (room : ℕ) (d : Desk) (u long : ℕ) (l : Lent table (d .long)) (e : long ≡ long-asked p) where
-  pub make-marked : 65536 < long → Said out (d .used) mark-lines out′ u → Step Make p room d table out (desk (d .long) u) table out′
+module _ (p table out out′ : List ℕ) (room : ℕ) (d : Lengths) (u long : ℕ) (l : Lent table (d .long)) (e : long ≡ long-asked p) where
+  pub make-marked : 65536 < long → Said out (d .used) mark-lines out′ u → Step Make p room d table out (lengths (d .long) u) table out′
   unfolding Answered make-leaves make-lines
   make-marked h s =
       let t : ltb 65536 (long-asked p) ≡ true = ap (ltb 65536) (sym e) ∙ lt-ltb 65536 long h in
@@ -65,7 +65,7 @@ module _ (p table out out′ : List ℕ) (room : ℕ) (d : Desk) (u long : ℕ) 
         let t : ltb 65536 (long-asked p) ≡ false = ap (ltb 65536) (sym e) ∙ le-ltb 65536 long h in
         sym (rw (t, number-is))
 
-    pub make-refused : n ≢ 0 → Step Make p room d table out (desk (d .long) u) new out′
+    pub make-refused : n ≢ 0 → Step Make p room d table out (lengths (d .long) u) new out′
     unfolding Answered
     make-refused z =
         let b = ne-eqb n 0 z in
@@ -79,7 +79,7 @@ module _ (p table out out′ : List ℕ) (room : ℕ) (d : Desk) (u long : ℕ) 
           said = s;
         }
 
-    pub make-done : n ≡ 0 → Step Make p room d table out (desk long u) new out′
+    pub make-done : n ≡ 0 → Step Make p room d table out (lengths long u) new out′
     unfolding Answered
     make-done z =
         let b = eq-eqb n 0 z in
@@ -92,48 +92,48 @@ module _ (p table out out′ : List ℕ) (room : ℕ) (d : Desk) (u long : ℕ) 
         }
 
 -- A LINE OF ANY CALL BUT MAKE
-module _ (c : Call) (p table out out′ : List ℕ) (room : ℕ) (d : Desk) (u : ℕ) (l : Lent table (d .long)) where
+module _ (c : Call) (p table out out′ : List ℕ) (room : ℕ) (d : Lengths) (u : ℕ) (l : Lent table (d .long)) where
   step-kept : (lines : List (List ℕ)) → Answered c p room (take (d .long) table) (take (d .long) table) lines → Said out (d .used) lines out′ u
-      → Step c p room d table out (desk (d .long) u) table out′
+      → Step c p room d table out (lengths (d .long) u) table out′
   step-kept lines a s = record { lines = lines; answered = a; behind = refl; lent = l; said = s }
 
   step-changed : (new : List ℕ) (lines : List (List ℕ)) → length new ≡ length table → drop (d .long) new ≡ drop (d .long) table
-      → Answered c p room (take (d .long) table) (take (d .long) new) lines → Said out (d .used) lines out′ u → Step c p room d table out (desk (d .long) u) new out′
+      → Answered c p room (take (d .long) table) (take (d .long) new) lines → Said out (d .used) lines out′ u → Step c p room d table out (lengths (d .long) u) new out′
   step-changed new lines w b a s = record { lines = lines; answered = a; behind = b; lent = record { whole = w ∙ l .whole; within = l .within }; said = s }
 
   pub step-put : (new : List ℕ) (n : ℕ) → c ≡ Put → Front (d .long) table new (Put-says (piece p 1) (piece p 2) (piece p 3) n) → Said out (d .used) (row n [] ∷ []) out′ u
-      → Step c p room d table out (desk (d .long) u) new out′
+      → Step c p room d table out (lengths (d .long) u) new out′
   unfolding Answered Put-says Edit-says
   step-put new n e f s = step-changed new (row n [] ∷ []) (f .whole) (f .behind) (rw e (f .says .1, alone n ∙ rw (f .says .0))) s
 
   pub step-cancel : (new : List ℕ) (n : ℕ) → c ≡ Cancel → Front (d .long) table new (Cancel-says (piece p 1) n) → Said out (d .used) (row n [] ∷ []) out′ u
-      → Step c p room d table out (desk (d .long) u) new out′
+      → Step c p room d table out (lengths (d .long) u) new out′
   unfolding Answered Cancel-says Edit-says
   step-cancel new n e f s = step-changed new (row n [] ∷ []) (f .whole) (f .behind) (rw e (f .says .1, alone n ∙ rw (f .says .0))) s
 
-  pub step-show : c ≡ Show → Said out (d .used) (show-lines (take (d .long) table) (piece p 1)) out′ u → Step c p room d table out (desk (d .long) u) table out′
+  pub step-show : c ≡ Show → Said out (d .used) (show-lines (take (d .long) table) (piece p 1)) out′ u → Step c p room d table out (lengths (d .long) u) table out′
   unfolding Answered
   step-show e s = step-kept _ (rw e (refl, refl)) s
 
-  pub step-span : c ≡ Span → Said out (d .used) (span-lines (take (d .long) table) (piece p 1) (piece p 2) room) out′ u → Step c p room d table out (desk (d .long) u) table out′
+  pub step-span : c ≡ Span → Said out (d .used) (span-lines (take (d .long) table) (piece p 1) (piece p 2) room) out′ u → Step c p room d table out (lengths (d .long) u) table out′
   unfolding Answered
   step-span e s = step-kept _ (rw e (refl, refl)) s
 
   pub step-seek : c ≡ Seek → Prints (Seek-lines (take (d .long) table) (piece p 1) (piece p 2) (piece p 3)) out (d .used) out′ u
-      → Step c p room d table out (desk (d .long) u) table out′
+      → Step c p room d table out (lengths (d .long) u) table out′
   unfolding Answered
   step-seek e s = step-kept (s .lines) (rw e (refl, s .are)) (s .said)
 
-  pub step-blocks : c ≡ Blocks → Said out (d .used) (blocks-lines (take (d .long) table)) out′ u → Step c p room d table out (desk (d .long) u) table out′
+  pub step-blocks : c ≡ Blocks → Said out (d .used) (blocks-lines (take (d .long) table)) out′ u → Step c p room d table out (lengths (d .long) u) table out′
   unfolding Answered
   step-blocks e s = step-kept _ (rw e (refl, refl)) s
 
-  pub step-bad : c ≡ Bad → Said out (d .used) mark-lines out′ u → Step c p room d table out (desk (d .long) u) table out′
+  pub step-bad : c ≡ Bad → Said out (d .used) mark-lines out′ u → Step c p room d table out (lengths (d .long) u) table out′
   unfolding Answered
   step-bad e s = step-kept mark-lines (rw e (refl, refl)) s
 
 -- WHAT A MAKE LEAVES does not depend on the room for a span
-pub step-make : (c : Call) (p table out new out′ : List ℕ) (room : ℕ) (d e : Desk) → c ≡ Make → Step Make p 0 d table out e new out′ → Step c p room d table out e new out′
+pub step-make : (c : Call) (p table out new out′ : List ℕ) (room : ℕ) (d e : Lengths) → c ≡ Make → Step Make p 0 d table out e new out′ → Step c p room d table out e new out′
 unfolding Answered
 step-make c p table out new out′ room d e h s = record { lines = s .lines; answered = rw h (s .answered); behind = s .behind; lent = s .lent; said = s .said }
 

@@ -1,4 +1,4 @@
--- `console::answer_all` meets its contract: the buffers stay as long as they are, and each turn goes on by a byte at least. Assumes nothing.
+-- `console::answer_all` meets its contract: the buffers stay as long as they are, and each turn goes on by a byte at least.
 use borrow.Author.Needs.{needs}
 use mathlib.Core.Path.{_≡_}
 use Prim.Native.Nat.{_-_}
@@ -11,7 +11,7 @@ use Rattle.console.proofs.answer_all.Tie as tie
 
 abbrev Inv-loop : tie.InvT-loop
 Inv-loop table₀ found₀ out₀ bytes run₀ at₀ table found out run at =
-    Lent out (run .desk .used) × Lent table (run .desk .long) × (length found ≡ length found₀)
+    Lent out (run .lengths .used) × Lent table (run .lengths .long) × (length found ≡ length found₀)
     × So-far (length found₀) bytes (state run₀ table₀ out₀) at (state run table out)
 
 abbrev μ-loop : tie.MeasureT-loop

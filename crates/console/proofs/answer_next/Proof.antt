@@ -1,4 +1,4 @@
--- `console::answer_next` meets its contract. Assumes nothing.
+-- `console::answer_next` meets its contract.
 use borrow.Author.Needs.{needs}
 use mathlib.Core.Path.{refl}
 use Rattle.console.proofs.Laws.Input.{line-ends}

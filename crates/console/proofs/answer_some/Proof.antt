@@ -1,4 +1,4 @@
--- `console::answer_some` meets its contract. Assumes nothing.
+-- `console::answer_some` meets its contract.
 use borrow.Author.Needs.{needs}
 use Rattle.console.proofs.Laws.Buffers.{lent-moved}
 use Rattle.console.proofs.answer_some.Statement.{statement}

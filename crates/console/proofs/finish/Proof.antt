@@ -1,4 +1,4 @@
--- `console::finish` meets its contract. Assumes nothing.
+-- `console::finish` meets its contract.
 use borrow.Author.Needs.{needs}
 use Rattle.console.proofs.Laws.Input.{last-line}
 use Rattle.console.specs.Input.{nothing}

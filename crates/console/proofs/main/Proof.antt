@@ -1,4 +1,4 @@
--- `console::main` is safe and ends. What holds from read to read: the buffers are whole, and what is in use of them lies within. Assumes nothing.
+-- `console::main` is safe and ends. What holds from read to read: the buffers are whole, and what is in use of them lies within.
 use borrow.Author.Needs.{needs}
 use mathlib.Core.Path.{_≡_}
 use lib.ListN.{length}
@@ -11,7 +11,7 @@ ruleset laws = (needs, lent-none)
 
 abbrev Inv-loop : tie.InvT-loop
 Inv-loop table₀ found₀ out₀ run₀ left₀ table found out run left =
-    Lent out (run .desk .used) × Lent table (run .desk .long) × (length found ≡ 65536)
+    Lent out (run .lengths .used) × Lent table (run .lengths .long) × (length found ≡ 65536)
 
 abbrev μ-loop : tie.MeasureT-loop
 μ-loop table₀ found₀ out₀ run₀ left₀ table found out run left = left

@@ -1,4 +1,4 @@
--- A cancel's questions, 4, 5 and 9, and what it leaves. Assumes nothing.
+-- A cancel's questions, 4, 5 and 9, and what it leaves.
 use mathlib.Core.Path.{_≡_, refl, sym, ap, _∙_, subst}
 use mathlib.Core.Bool.{true, false, true≢false}
 use mathlib.Core.List.{List, _∷_, _++_}
@@ -16,10 +16,10 @@ use Rattle.placement.specs.declared.Order.{Order}
 use Rattle.skiplist.specs.Image.{image, is-image, orders-in}
 use Rattle.skiplist.specs.Questions.{first-no, asks-key, is-key, held, without}
 use Rattle.skiplist.specs.Book.{cancel, booked, key-refusal, refusal}
-use Rattle.skiplist.proofs.Parts.{Up, good-up, without-here}
-use Rattle.skiplist.proofs.Edits.{level-most}
-use Rattle.skiplist.proofs.Shapes.{Place, there, absent, place, held-absent}
-use Rattle.skiplist.proofs.Kept.{Kept}
+use Rattle.skiplist.proofs.Laws.Parts.{Up, good-up, without-here}
+use Rattle.skiplist.proofs.Laws.Edits.{level-most}
+use Rattle.skiplist.proofs.Laws.Shapes.{Place, there, absent, place, held-absent}
+use Rattle.skiplist.proofs.Laws.Kept.{Kept}
 use Rattle.table.specs.Calls.{Cancel-says}
 use Rattle.levels.specs.Edit.{Leads}
 use Rattle.edits.specs.Change.{Setting, Cancel-held, Sized}

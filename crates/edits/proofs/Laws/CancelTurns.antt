@@ -1,4 +1,4 @@
--- One level of a cancel: at the key's level the key goes out of a partition, below it the partition that it starts joins the one before. Assumes nothing.
+-- One level of a cancel: at the key's level the key goes out of a partition, below it the partition that it starts joins the one before.
 use mathlib.Core.Path.{_≡_, refl, sym, ap, _∙_}
 use mathlib.Core.List.{List, [], _∷_, _++_, map, map-append, append-nil}
 use Prim.Native.Nat.{ℕ, zero, suc, _+_, _≤_, _<_}
@@ -11,10 +11,10 @@ use Rattle.sizes.specs.Header.{header}
 use Rattle.sizes.specs.declared.Sizes.{Sizes}
 use Rattle.placement.specs.declared.Order.{Order}
 use Rattle.skiplist.specs.Lists.{masked, first-key}
-use Rattle.skiplist.proofs.Parts.{Up, part, below}
-use Rattle.skiplist.proofs.Descent.{tail-above}
-use Rattle.skiplist.proofs.Count.{pieces, count-same, count-high}
-use Rattle.skiplist.proofs.Edits.{level-most, head-part, tail-part, head-part-long, part-at, part-in, part-left, part-right, part-other}
+use Rattle.skiplist.proofs.Laws.Parts.{Up, part, below}
+use Rattle.skiplist.proofs.Laws.Descent.{tail-above}
+use Rattle.skiplist.proofs.Laws.Count.{pieces, count-same, count-high}
+use Rattle.skiplist.proofs.Laws.Edits.{level-most, head-part, tail-part, head-part-long, part-at, part-in, part-left, part-right, part-other}
 use Rattle.levels.specs.declared.Spot.{Spot}
 use Rattle.levels.specs.Edit.{Pieces, Scans, Cancels-in, Cancels-below}
 use Rattle.edits.specs.Change.{Setting, Between, Cancel-turn}

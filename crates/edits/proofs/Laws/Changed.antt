@@ -1,4 +1,4 @@
--- A level of a table on its way is done once its changed partitions are those of the new orders. Assumes nothing.
+-- A level of a table on its way is done once its changed partitions are those of the new orders.
 use mathlib.Core.Path.{_≡_, refl, sym, _∙_}
 use mathlib.Core.Bool.{Bool, true, false}
 use mathlib.Core.List.{List, map}
@@ -13,8 +13,8 @@ use Rattle.placement.specs.Maps.{map-of}
 use Rattle.sizes.specs.declared.Sizes.{Sizes}
 use Rattle.placement.specs.declared.Order.{Order}
 use Rattle.skiplist.specs.Lists.{masked, chunks}
-use Rattle.skiplist.proofs.Parts.{Up, part}
-use Rattle.skiplist.proofs.Count.{pieces, count}
+use Rattle.skiplist.proofs.Laws.Parts.{Up, part}
+use Rattle.skiplist.proofs.Laws.Count.{pieces, count}
 use Rattle.levels.specs.Edit.{Elsewhere, Elsewhere-both, Comes-in, Splits}
 use Rattle.edits.specs.Change.{Between}
 use Rattle.edits.proofs.Laws.WayLevels.{from-pieces, same-part, level-done}

@@ -1,4 +1,4 @@
--- How many chunks some orders can have at most: no more than a node for each key and level. Assumes nothing.
+-- How many chunks some orders can have at most: no more than a node for each key and level.
 use mathlib.Core.Path.{ap}
 use mathlib.Core.List.{List, [], _∷_}
 use Prim.Native.Nat.{ℕ, zero, suc, _*_, _≤_, _<_}
@@ -9,9 +9,9 @@ use Rattle.sizes.specs.Sizes.{beta}
 use Rattle.sizes.specs.declared.Sizes.{Sizes}
 use Rattle.placement.specs.declared.Order.{Order}
 use Rattle.skiplist.specs.Lists.{list-at, partitions, chunks}
-use Rattle.skiplist.proofs.Walk.{flat}
-use Rattle.skiplist.proofs.Nodes.{nodes-list}
-use Rattle.skiplist.proofs.Count.{pieces, pieces-all, count, counts, length-chunks}
+use Rattle.skiplist.proofs.Laws.Walk.{flat}
+use Rattle.skiplist.proofs.Laws.Nodes.{nodes-list}
+use Rattle.skiplist.proofs.Laws.Count.{pieces, pieces-all, count, counts, length-chunks}
 use Rattle.table.proofs.Laws.MaskedKeys.{least-most}
 
 pieces-most : (b n : ℕ) → pieces b n ≤ n

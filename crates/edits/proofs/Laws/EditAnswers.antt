@@ -1,4 +1,4 @@
--- Which number a put or a cancel gives, question by question, and what an image tells of its header. Assumes nothing.
+-- Which number a put or a cancel gives, question by question, and what an image tells of its header.
 use mathlib.Core.Path.{_≡_, sym, ap, _∙_, subst}
 use mathlib.Core.Bool.{Bool, true, false, _&&_, and-false}
 use mathlib.Core.List.{List, []}
@@ -24,9 +24,9 @@ use Rattle.skiplist.specs.Lists.{chunks}
 use Rattle.skiplist.specs.Image.{image, is-image, orders-in, quantities-good}
 use Rattle.skiplist.specs.Questions.{first-no, asks-put, is-key}
 use Rattle.skiplist.specs.Book.{Call, put, booked, put-refusal, refusal, done}
-use Rattle.skiplist.proofs.Kept.{fits-parts, Kept}
-use Rattle.skiplist.proofs.Third.{image-parts}
-use Rattle.skiplist.proofs.Image.{image-keeps}
+use Rattle.skiplist.proofs.Laws.Kept.{fits-parts, Kept}
+use Rattle.skiplist.proofs.Laws.Third.{image-parts}
+use Rattle.skiplist.proofs.Laws.Image.{image-keeps}
 use Rattle.table.specs.declared.Tally.{Tally}
 use Rattle.table.specs.Check.{swept, Examined}
 use Rattle.table.specs.Calls.{Edit-says, Put-says}

@@ -1,4 +1,4 @@
--- Where the node of a held key stands at level 1: at the head of a partition of its own, or behind the nodes below it. Assumes nothing.
+-- Where the node of a held key stands at level 1: at the head of a partition of its own, or behind the nodes below it.
 use mathlib.Core.Path.{_≡_, refl, sym, ap, _∙_, subst}
 use mathlib.Core.Bool.{Bool, true, false}
 use mathlib.Core.List.{List, [], _∷_, _++_, map-append}
@@ -13,10 +13,10 @@ use Rattle.placement.specs.Maps.{map-of}
 use Rattle.sizes.specs.declared.Sizes.{Sizes}
 use Rattle.placement.specs.declared.Order.{Order}
 use Rattle.skiplist.specs.Lists.{first-key, chunks}
-use Rattle.skiplist.proofs.Parts.{part}
-use Rattle.skiplist.proofs.Descent.{tail-above}
-use Rattle.skiplist.proofs.Image.{image-keeps}
-use Rattle.skiplist.proofs.Edits.{beta-least, level-least, head-part, tail-part, part-in, part-left, part-right, part-other}
+use Rattle.skiplist.proofs.Laws.Parts.{part}
+use Rattle.skiplist.proofs.Laws.Descent.{tail-above}
+use Rattle.skiplist.proofs.Laws.Image.{image-keeps}
+use Rattle.skiplist.proofs.Laws.Edits.{beta-least, level-least, head-part, tail-part, part-in, part-left, part-right, part-other}
 use Rattle.levels.specs.declared.Spot.{Spot}
 use Rattle.levels.specs.Edit.{Reaches, Replaces, Leads}
 use Rattle.edits.specs.Change.{Put-held}

@@ -1,4 +1,4 @@
--- A put's last questions, 7 and 8, and what it leaves. Assumes nothing.
+-- A put's last questions, 7 and 8, and what it leaves.
 use mathlib.Core.Path.{_≡_, refl, sym, ap, _∙_, subst}
 use mathlib.Core.Bool.{true, false, true≢false, and-false}
 use mathlib.Core.List.{List, _∷_, _++_}
@@ -22,10 +22,10 @@ use Rattle.skiplist.specs.Lists.{first-key, chunks}
 use Rattle.skiplist.specs.Image.{image, is-image, orders-in, quantities-good, fits}
 use Rattle.skiplist.specs.Questions.{first-no, asks-put, is-key, held, order, with-order}
 use Rattle.skiplist.specs.Book.{put, booked, put-refusal, refusal}
-use Rattle.skiplist.proofs.Parts.{Up, and-left, up-from, up-past, good-up, below}
-use Rattle.skiplist.proofs.Edits.{head-part, level-most}
-use Rattle.skiplist.proofs.Shapes.{Place, there, absent, place, held-there, held-absent, put-new, put-old}
-use Rattle.skiplist.proofs.Kept.{fits-parts, fits-make, Kept, kept-put}
+use Rattle.skiplist.proofs.Laws.Parts.{Up, and-left, up-from, up-past, good-up, below}
+use Rattle.skiplist.proofs.Laws.Edits.{head-part, level-most}
+use Rattle.skiplist.proofs.Laws.Shapes.{Place, there, absent, place, held-there, held-absent, put-new, put-old}
+use Rattle.skiplist.proofs.Laws.Kept.{fits-parts, fits-make, Kept, kept-put}
 use Rattle.table.specs.Calls.{Put-says}
 use Rattle.levels.specs.Edit.{Way, Leads, Grows}
 use Rattle.edits.specs.Change.{Put-new, Put-held, Put-sure, Sized, Put-free}

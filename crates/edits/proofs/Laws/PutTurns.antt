@@ -1,4 +1,4 @@
--- One level of a put: at the key's level the key comes into a partition, below it the key starts one. Assumes nothing.
+-- One level of a put: at the key's level the key comes into a partition, below it the key starts one.
 use mathlib.Core.Path.{_≡_, sym}
 use mathlib.Core.List.{List, [], _∷_, _++_, map, map-append}
 use Prim.Native.Nat.{ℕ, zero, suc, _+_, _≤_, _<_}
@@ -11,10 +11,10 @@ use Rattle.sizes.specs.Header.{header}
 use Rattle.sizes.specs.declared.Sizes.{Sizes}
 use Rattle.placement.specs.declared.Order.{Order}
 use Rattle.skiplist.specs.Lists.{masked, first-key}
-use Rattle.skiplist.proofs.Parts.{up-from}
-use Rattle.skiplist.proofs.Descent.{tail-above}
-use Rattle.skiplist.proofs.Count.{pieces, count-same, count-high, counts-more}
-use Rattle.skiplist.proofs.Edits.{level-most, head-part, tail-part, head-part-long, part-at, part-in, part-left, part-right, part-other}
+use Rattle.skiplist.proofs.Laws.Parts.{up-from}
+use Rattle.skiplist.proofs.Laws.Descent.{tail-above}
+use Rattle.skiplist.proofs.Laws.Count.{pieces, count-same, count-high, counts-more}
+use Rattle.skiplist.proofs.Laws.Edits.{level-most, head-part, tail-part, head-part-long, part-at, part-in, part-left, part-right, part-other}
 use Rattle.levels.specs.declared.Spot.{Spot}
 use Rattle.levels.specs.Edit.{Pieces, Scans, Puts-in, Puts-below}
 use Rattle.edits.specs.Change.{Setting, Between, Put-turn}

@@ -1,4 +1,4 @@
--- What an order among others tells: keys rise, numbers are small; and how the partitions of a level change by it. Assumes nothing.
+-- What an order among others tells: keys rise, numbers are small; and how the partitions of a level change by it.
 use mathlib.Core.Path.{_≡_, sym, _∙_}
 use mathlib.Core.Bool.{true, _&&_}
 use mathlib.Core.List.{List, [], _∷_, _++_}
@@ -15,11 +15,11 @@ use Rattle.placement.specs.declared.Order.{Order}
 use Rattle.sizes.proofs.Laws.Sizes.{limits}
 use Rattle.skiplist.specs.Lists.{first-key, chunks}
 use Rattle.skiplist.specs.Image.{image, quantities-good, orders-good, fits}
-use Rattle.skiplist.proofs.Parts.{Up, and-left, and-right, up-past, good-up, up-out, up-front, below, below-here, part, without-here}
-use Rattle.skiplist.proofs.Shapes.{held-absent, up-behind, part-none}
-use Rattle.skiplist.proofs.Kept.{good-without, fits-parts, fits-fewer}
-use Rattle.skiplist.proofs.Third.{good-at}
-use Rattle.skiplist.proofs.Edits.{head-part, part-with, with-part}
+use Rattle.skiplist.proofs.Laws.Parts.{Up, and-left, and-right, up-past, good-up, up-out, up-front, below, below-here, part, without-here}
+use Rattle.skiplist.proofs.Laws.Shapes.{held-absent, up-behind, part-none}
+use Rattle.skiplist.proofs.Laws.Kept.{good-without, fits-parts, fits-fewer}
+use Rattle.skiplist.proofs.Laws.Third.{good-at}
+use Rattle.skiplist.proofs.Laws.Edits.{head-part, part-with, with-part}
 use Rattle.levels.specs.Edit.{Way}
 use Rattle.edits.specs.Change.{Setting}
 use Rattle.table.proofs.Laws.MaskedKeys.{head-first-below}

@@ -1,4 +1,4 @@
--- A key is held exactly where the search for an order with that key alone finds one. Assumes nothing.
+-- A key is held exactly where the search for an order with that key alone finds one.
 use mathlib.Core.Path.{_≡_, sym, ap, _∙_, subst}
 use mathlib.Core.Bool.{Bool, true, false}
 use mathlib.Core.List.{List}

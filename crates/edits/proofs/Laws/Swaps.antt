@@ -1,4 +1,4 @@
--- A put of a held key: the quantities of its node of level 1 change, and nothing else. Assumes nothing.
+-- A put of a held key: the quantities of its node of level 1 change, and nothing else.
 use mathlib.Core.Path.{_≡_, refl, sym, ap, _∙_, subst}
 use mathlib.Core.Bool.{Bool, true, false, cond}
 use mathlib.Core.List.{List, _∷_, _++_, map, map-append}
@@ -15,11 +15,11 @@ use Rattle.sizes.specs.declared.Sizes.{Sizes}
 use Rattle.placement.specs.declared.Order.{Order}
 use Rattle.skiplist.specs.Lists.{masked, first-key, chunks}
 use Rattle.skiplist.specs.Image.{image}
-use Rattle.skiplist.proofs.Parts.{Up, part}
-use Rattle.skiplist.proofs.Masks.{masked-one}
-use Rattle.skiplist.proofs.Count.{count, counts, count-low, count-same, count-high, length-chunks}
-use Rattle.skiplist.proofs.Image.{image-keeps}
-use Rattle.skiplist.proofs.Edits.{beta-least, head-part, tail-part, part-with, with-part}
+use Rattle.skiplist.proofs.Laws.Parts.{Up, part}
+use Rattle.skiplist.proofs.Laws.Masks.{masked-one}
+use Rattle.skiplist.proofs.Laws.Count.{count, counts, count-low, count-same, count-high, length-chunks}
+use Rattle.skiplist.proofs.Laws.Image.{image-keeps}
+use Rattle.skiplist.proofs.Laws.Edits.{beta-least, head-part, tail-part, part-with, with-part}
 use Rattle.levels.specs.Edit.{Replaces}
 use Rattle.edits.specs.Change.{Setting, Between}
 use Rattle.edits.proofs.Laws.WayLevels.{level-nodes, as-pieces}

@@ -1,4 +1,4 @@
--- A pass over the blocks of a table finds unused bytes zero, and counts the full blocks. Assumes nothing.
+-- A pass over the blocks of a table finds unused bytes zero, and counts the full blocks.
 use mathlib.Core.Path.{_≡_, refl, sym, ap, _∙_}
 use mathlib.Core.Bool.{true, false}
 use mathlib.Core.List.{List, [], _∷_, _++_}
@@ -22,7 +22,7 @@ use Rattle.placement.proofs.Laws.Edits.{block-bytes-at}
 use Rattle.placement.proofs.Laws.Tables.{sound-blocks}
 use Rattle.skiplist.specs.Lists.{chunks}
 use Rattle.skiplist.specs.Image.{is-image, orders-in, image}
-use Rattle.skiplist.proofs.Image.{image-keeps}
+use Rattle.skiplist.proofs.Laws.Image.{image-keeps}
 use Rattle.table.specs.Check.{zeros-from, used-of, more-of, unused, block-clean, sweep-from, swept}
 use Rattle.table.specs.declared.Tally.{Tally}
 use Rattle.edits.proofs.Laws.EditAnswers.{on-image}

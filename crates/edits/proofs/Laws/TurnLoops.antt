@@ -1,4 +1,4 @@
--- The loops of `put_new` and `cancel_held`: one turn for each level, from the key's own down. Assumes nothing.
+-- The loops of `put_new` and `cancel_held`: one turn for each level, from the key's own down.
 use mathlib.Core.Path.{_≡_, refl, sym, _∙_, subst}
 use mathlib.Core.List.{List, _∷_, _++_}
 use Prim.Native.Nat.{ℕ, suc, _+_, _-_, _≤_, _<_}
@@ -13,8 +13,8 @@ use Rattle.placement.specs.declared.Order.{Order}
 use Rattle.placement.proofs.Laws.Loops.{shaped-same}
 use Rattle.skiplist.specs.Lists.{first-key, chunks}
 use Rattle.skiplist.specs.Image.{image}
-use Rattle.skiplist.proofs.Edits.{head-part, level-most, part-above}
-use Rattle.skiplist.proofs.Count.{count, count-low}
+use Rattle.skiplist.proofs.Laws.Edits.{head-part, level-most, part-above}
+use Rattle.skiplist.proofs.Laws.Count.{count, count-low}
 use Rattle.edits.specs.Change.{Setting, Between, Put-turn, Cancel-turn, Put-new, Cancel-held}
 use Rattle.edits.proofs.Laws.WayLevels.{same-part, levels-kept}
 use Rattle.edits.proofs.Laws.Settings.{all-up, less-up, key-pos, some-nodes, less-good, less-fit}

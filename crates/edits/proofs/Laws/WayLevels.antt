@@ -1,4 +1,4 @@
--- The map of an image, level by level; and one level of a table on its way. Assumes nothing.
+-- The map of an image, level by level; and one level of a table on its way.
 use mathlib.Core.Path.{_≡_, refl, sym, ap, _∙_}
 use mathlib.Core.Bool.{Bool, true, false}
 use mathlib.Core.List.{List, map}
@@ -14,10 +14,10 @@ use Rattle.placement.specs.Maps.{Map, map-of, Table}
 use Rattle.sizes.specs.declared.Sizes.{Sizes}
 use Rattle.placement.specs.declared.Order.{Order}
 use Rattle.skiplist.specs.Lists.{masked, chunks}
-use Rattle.skiplist.proofs.Parts.{Up, part}
-use Rattle.skiplist.proofs.Masks.{map-take, map-drop}
-use Rattle.skiplist.proofs.Faithful.{map-is}
-use Rattle.skiplist.proofs.Count.{count, counts}
+use Rattle.skiplist.proofs.Laws.Parts.{Up, part}
+use Rattle.skiplist.proofs.Laws.Masks.{map-take, map-drop}
+use Rattle.skiplist.proofs.Laws.Faithful.{map-is}
+use Rattle.skiplist.proofs.Laws.Count.{count, counts}
 use Rattle.levels.specs.Edit.{Pieces}
 use Rattle.table.proofs.Laws.Counted.{counts-snoc}
 use Rattle.edits.specs.Change.{Between}

@@ -1,4 +1,4 @@
--- What a reach and a scan of a partition of an image's level tell, and what an edit there asks. Assumes nothing.
+-- What a reach and a scan of a partition of an image's level tell, and what an edit there asks.
 use mathlib.Core.Path.{_≡_, sym, ap, _∙_}
 use mathlib.Core.Bool.{true}
 use mathlib.Core.List.{List, _∷_, _++_, map}
@@ -11,9 +11,9 @@ use Rattle.placement.specs.Maps.{Map, Table, Fine}
 use Rattle.sizes.specs.declared.Sizes.{Sizes}
 use Rattle.placement.specs.declared.Order.{Order}
 use Rattle.skiplist.specs.Lists.{masked, first-key}
-use Rattle.skiplist.proofs.Parts.{Up, below}
-use Rattle.skiplist.proofs.Descent.{last-from, step-down, head-below}
-use Rattle.skiplist.proofs.Edits.{head-part}
+use Rattle.skiplist.proofs.Laws.Parts.{Up, below}
+use Rattle.skiplist.proofs.Laws.Descent.{last-from, step-down, head-below}
+use Rattle.skiplist.proofs.Laws.Edits.{head-part}
 use Rattle.levels.specs.declared.Spot.{Spot}
 use Rattle.levels.specs.Edit.{Pieces, Scans, Reaches, Room}
 use Rattle.levels.proofs.Laws.Scanning.{reached}

@@ -1,4 +1,4 @@
--- Where a table's way starts, and where it ends: from the image of the old orders to that of the new ones. Assumes nothing.
+-- Where a table's way starts, and where it ends: from the image of the old orders to that of the new ones.
 use mathlib.Core.Path.{_≡_, refl, sym, _∙_, subst}
 use mathlib.Core.Bool.{true}
 use mathlib.Core.List.{List, []}
@@ -16,12 +16,12 @@ use Rattle.sizes.proofs.Laws.Sizes.{some-nodes}
 use Rattle.placement.proofs.Laws.Tables.{count-keeps}
 use Rattle.skiplist.specs.Lists.{chunks}
 use Rattle.skiplist.specs.Image.{image, orders-good, fits}
-use Rattle.skiplist.proofs.Parts.{good-up}
-use Rattle.skiplist.proofs.Content.{content-outside, content-level-zero}
-use Rattle.skiplist.proofs.Rise.{chunks-rise}
-use Rattle.skiplist.proofs.Faithful.{map-content}
-use Rattle.skiplist.proofs.Count.{length-chunks}
-use Rattle.skiplist.proofs.Image.{image-keeps, is-the-image}
+use Rattle.skiplist.proofs.Laws.Parts.{good-up}
+use Rattle.skiplist.proofs.Laws.Content.{content-outside, content-level-zero}
+use Rattle.skiplist.proofs.Laws.Rise.{chunks-rise}
+use Rattle.skiplist.proofs.Laws.Faithful.{map-content}
+use Rattle.skiplist.proofs.Laws.Count.{length-chunks}
+use Rattle.skiplist.proofs.Laws.Image.{image-keeps, is-the-image}
 use Rattle.edits.specs.Change.{Between}
 
 -- no chunks above the top level, and none of level 0

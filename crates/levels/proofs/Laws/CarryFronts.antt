@@ -1,4 +1,4 @@
--- Rows of nodes in bytes: what copies and writes of whole nodes do to the nodes that a row begins with. Assumes nothing.
+-- Rows of nodes in bytes: what copies and writes of whole nodes do to the nodes that a row begins with.
 use mathlib.Core.Path.{_≡_, refl, sym, ap, _∙_}
 use mathlib.Core.List.{List, [], _∷_, _++_, append-assoc, append-nil}
 use Prim.Native.Nat.{ℕ, zero, suc, _+_, _*_, _≤_}

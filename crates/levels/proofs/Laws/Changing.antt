@@ -1,4 +1,4 @@
--- The quantities of one node changed in place. Assumes nothing.
+-- The quantities of one node changed in place.
 use mathlib.Core.Path.{_≡_, refl, sym, ap, _∙_}
 use mathlib.Core.Logic.{_≢_}
 use mathlib.Core.Bool.{true≢false}
@@ -24,7 +24,7 @@ use Rattle.sizes.proofs.Laws.Parts.{sets-append}
 use Rattle.sizes.proofs.Laws.Bytes.{block-end}
 use Rattle.placement.proofs.Laws.Edits.{block-written}
 use Rattle.placement.proofs.Laws.Tables.{find-told, write-keeps, shaped}
-use Rattle.skiplist.proofs.Count.{pieces}
+use Rattle.skiplist.proofs.Laws.Count.{pieces}
 use Rattle.placement.proofs.Laws.Bridge.{nodes-long}
 use Rattle.placement.proofs.Laws.Loops.{length-head}
 use Rattle.levels.specs.Edit.{Pieces, Elsewhere, Comes-in, Replaces}

@@ -1,4 +1,4 @@
--- How many chunks so many nodes have, and the chunks of a list one by one. Assumes nothing.
+-- How many chunks so many nodes have, and the chunks of a list one by one.
 use mathlib.Core.Path.{_≡_, refl, sym, ap, _∙_}
 use mathlib.Core.List.{List, [], _∷_}
 use Prim.Native.Nat.{ℕ, zero, suc, _+_, _*_, _-_, _/_, _≤_, _<_}
@@ -8,7 +8,7 @@ use native.Mathlib.Omega.{arith}
 use lib.ListN.{length, take, drop, length-drop}
 use lib.Seq.{drop-drop, take-nil}
 use Rattle.placement.specs.declared.Order.{Order}
-use Rattle.skiplist.proofs.Count.{pieces, pieces-less, pieces-up}
+use Rattle.skiplist.proofs.Laws.Count.{pieces, pieces-less, pieces-up}
 use Rattle.levels.specs.Pour.{one}
 
 pub pieces-none : (b : ℕ) → pieces b 0 ≡ 0

@@ -1,4 +1,4 @@
--- A full chunk written from a carry. Assumes nothing.
+-- A full chunk written from a carry.
 use mathlib.Core.Path.{_≡_, refl, sym, ap, _∙_, subst}
 use mathlib.Core.Logic.{_≢_}
 use mathlib.Core.Bool.{true≢false}

@@ -1,4 +1,4 @@
--- Laws of a growth: the chunks of so many nodes, what a key adds at a level, and the way down to it. Assumes nothing.
+-- Laws of a growth: the chunks of so many nodes, what a key adds at a level, and the way down to it.
 use mathlib.Core.Path.{_≡_, refl, sym, ap, _∙_, subst}
 use mathlib.Core.Bool.{Bool, true, false}
 use mathlib.Core.List.{List, _∷_, _++_, map, map-append}
@@ -16,13 +16,13 @@ use Rattle.sizes.specs.declared.Sizes.{Sizes}
 use Rattle.placement.specs.declared.Order.{Order}
 use Rattle.sizes.proofs.Laws.Sizes.{some-nodes}
 use Rattle.skiplist.specs.Lists.{masked, first-key, chunks}
-use Rattle.skiplist.proofs.Parts.{Up, below, up-front, good-up, part}
-use Rattle.skiplist.proofs.Edits.{head-part, tail-part, part-at, level-most}
-use Rattle.skiplist.proofs.Descent.{last-from, step-down, start-top, head-below, tail-above}
-use Rattle.skiplist.proofs.Count.{pieces, pieces-up, pieces-cut, count, counts, count-low, count-same, count-high, length-chunks}
-use Rattle.skiplist.proofs.Faithful.{map-is}
-use Rattle.skiplist.proofs.Masks.{map-take, map-drop, below-masked, up-masked, last-masked}
-use Rattle.skiplist.proofs.Image.{image-keeps}
+use Rattle.skiplist.proofs.Laws.Parts.{Up, below, up-front, good-up, part}
+use Rattle.skiplist.proofs.Laws.Edits.{head-part, tail-part, part-at, level-most}
+use Rattle.skiplist.proofs.Laws.Descent.{last-from, step-down, start-top, head-below, tail-above}
+use Rattle.skiplist.proofs.Laws.Count.{pieces, pieces-up, pieces-cut, count, counts, count-low, count-same, count-high, length-chunks}
+use Rattle.skiplist.proofs.Laws.Faithful.{map-is}
+use Rattle.skiplist.proofs.Laws.Masks.{map-take, map-drop, below-masked, up-masked, last-masked}
+use Rattle.skiplist.proofs.Laws.Image.{image-keeps}
 use Rattle.levels.specs.declared.Spot.{Spot}
 use Rattle.levels.specs.Edit.{Pieces, Scans, Reaches, Way, Leads, Grows}
 use Rattle.levels.specs.Scan.{Grown}

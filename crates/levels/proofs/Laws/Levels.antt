@@ -1,4 +1,4 @@
--- What the edits of one level do: a key put into its partition or taken out of it, a partition split or joined. Assumes nothing.
+-- What the edits of one level do: a key put into its partition or taken out of it, a partition split or joined.
 use mathlib.Core.Path.{_≡_, refl, sym, ap, _∙_}
 use mathlib.Core.Bool.{Bool, true, false, cond}
 use mathlib.Core.List.{List, [], _∷_, _++_, append-assoc}
@@ -15,7 +15,7 @@ use Rattle.sizes.specs.declared.Sizes.{Sizes}
 use Rattle.placement.specs.declared.Order.{Order}
 use Rattle.placement.proofs.Laws.Tables.{count-most}
 use Rattle.skiplist.specs.Lists.{masked}
-use Rattle.skiplist.proofs.Count.{pieces}
+use Rattle.skiplist.proofs.Laws.Count.{pieces}
 use Rattle.levels.specs.declared.Spot.{Spot}
 use Rattle.levels.specs.Edit.{Puts-in, Cancels-in}
 use Rattle.levels.specs.Pour.{at, Front, Reads}

@@ -1,4 +1,4 @@
--- A partition split before a key, and a partition joined to the one before it. Assumes nothing.
+-- A partition split before a key, and a partition joined to the one before it.
 use mathlib.Core.Path.{_≡_, refl, sym, ap, _∙_, subst}
 use mathlib.Core.List.{List, [], _∷_, _++_, append-assoc}
 use Prim.Native.Nat.{ℕ, suc, _+_, _*_, _-_, _/_, _%_, _≤_, _<_}
@@ -14,7 +14,7 @@ use Rattle.sizes.specs.declared.Sizes.{Sizes}
 use Rattle.placement.specs.declared.Order.{Order}
 use Rattle.placement.proofs.Laws.Tables.{count-most}
 use Rattle.skiplist.specs.Lists.{masked}
-use Rattle.skiplist.proofs.Count.{pieces, pieces-cut}
+use Rattle.skiplist.proofs.Laws.Count.{pieces, pieces-cut}
 use Rattle.levels.specs.declared.Spot.{Spot}
 use Rattle.levels.specs.Edit.{Pieces, Elsewhere-both, Splits, Puts-below, Cancels-below}
 use Rattle.levels.specs.Pour.{at, one, Reads, Taken, Takes, Pourable, Poured, Pours}

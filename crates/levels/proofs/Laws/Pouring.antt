@@ -1,4 +1,4 @@
--- A pouring under way: chunks are taken behind a carry and written from it, until all stand in their new places. Assumes nothing.
+-- A pouring under way: chunks are taken behind a carry and written from it, until all stand in their new places.
 use mathlib.Core.Path.{_≡_, refl, sym, ap, _∙_, subst}
 use mathlib.Core.Logic.{_≢_}
 use mathlib.Core.List.{List, [], _∷_, _++_, append-assoc, append-nil}
@@ -17,7 +17,7 @@ use Rattle.placement.specs.declared.Found.{Found}
 use Rattle.placement.specs.declared.Order.{Order}
 use Rattle.placement.specs.declared.Label.{Label}
 use Rattle.placement.proofs.Laws.Maps.{Label-is, is, isnt, label-is}
-use Rattle.skiplist.proofs.Count.{pieces}
+use Rattle.skiplist.proofs.Laws.Count.{pieces}
 use Rattle.levels.specs.Edit.{Pieces}
 use Rattle.levels.specs.Pour.{at, Front, one, Taken, Takes, Writable, Flushed, waits, writes, Flushes, Pourable, Poured, Pours, Put, Puts, Kept}
 use Rattle.levels.proofs.Laws.Takes.{one-some, one-none}

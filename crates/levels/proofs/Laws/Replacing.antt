@@ -1,4 +1,4 @@
--- The chunks of a partition before and from a key on, and what it does to a partition that chunks from one on are shifted. Assumes nothing.
+-- The chunks of a partition before and from a key on, and what it does to a partition that chunks from one on are shifted.
 use mathlib.Core.Path.{_≡_, refl, sym, ap, _∙_, subst}
 use mathlib.Core.Logic.{_≢_}
 use mathlib.Core.List.{List, [], _∷_, _++_, append-assoc, append-nil}
@@ -13,7 +13,7 @@ use Rattle.placement.specs.Maps.{Map, Table, Fine, Fines, labelled, nodes-of, w
 use Rattle.sizes.specs.declared.Sizes.{Sizes}
 use Rattle.placement.specs.declared.Order.{Order}
 use Rattle.placement.specs.declared.Label.{Label}
-use Rattle.skiplist.proofs.Count.{pieces}
+use Rattle.skiplist.proofs.Laws.Count.{pieces}
 use Rattle.levels.specs.Edit.{Pieces, Elsewhere, Comes-in}
 use Rattle.levels.specs.Pour.{one}
 use Rattle.levels.specs.Shift.{Shiftable, Shifted}

@@ -1,4 +1,4 @@
--- Laws of a scan: a node comes by, the nodes of a chunk, the chunks of a partition. Assumes nothing.
+-- Laws of a scan: a node comes by, the nodes of a chunk, the chunks of a partition.
 use mathlib.Core.Path.{_≡_, refl, sym, ap, _∙_, subst}
 use mathlib.Core.Logic.{_≢_}
 use mathlib.Core.Bool.{Bool, true, false, true≢false, and-false}
@@ -27,8 +27,8 @@ use Rattle.placement.specs.declared.Found.the-variants.{At, Nothing}
 use Rattle.sizes.proofs.Laws.Sizes.{some-nodes}
 use Rattle.placement.proofs.Laws.Tables.{find-told, count-most, count-some, remove-keeps}
 use Rattle.placement.proofs.Laws.Reading.{node-at, count-read, key-read}
-use Rattle.skiplist.proofs.Parts.{Up, below, up-front, and-left, and-right}
-use Rattle.skiplist.proofs.Descent.{last-from}
+use Rattle.skiplist.proofs.Laws.Parts.{Up, below, up-front, and-left, and-right}
+use Rattle.skiplist.proofs.Laws.Descent.{last-from}
 use Rattle.levels.specs.declared.Spot.{Spot}
 use Rattle.levels.specs.Edit.{Pieces, Scans, Reaches, Spots}
 use Rattle.levels.specs.Scan.{passed, passes}

@@ -1,4 +1,4 @@
--- A partition under way from some nodes to others, chunk by chunk in place. Assumes nothing.
+-- A partition under way from some nodes to others, chunk by chunk in place.
 use mathlib.Core.Path.{_≡_, refl, sym, ap, _∙_, subst}
 use mathlib.Core.Logic.{_⊎_, inl, inr}
 use mathlib.Core.List.{List, [], _∷_, _++_, append-assoc, append-nil}
@@ -13,7 +13,7 @@ use Rattle.placement.specs.Maps.{Map, Table, Fines, with-nodes}
 use Rattle.placement.specs.Place.{Shaped}
 use Rattle.sizes.specs.declared.Sizes.{Sizes}
 use Rattle.placement.specs.declared.Order.{Order}
-use Rattle.skiplist.proofs.Count.{pieces}
+use Rattle.skiplist.proofs.Laws.Count.{pieces}
 use Rattle.levels.specs.Edit.{Pieces}
 use Rattle.levels.specs.Pour.{at, Front, one, Read, Reads, Kept}
 use Rattle.levels.specs.Shift.{Stored, Settable, Renewed, Renews, Shiftable, Shifted, Shifts}

@@ -1,4 +1,4 @@
--- A chunk set to the first nodes of a row, in place where it is there. Assumes nothing.
+-- A chunk set to the first nodes of a row, in place where it is there.
 use mathlib.Core.Path.{_≡_, refl, sym, ap, _∙_, subst}
 use mathlib.Core.Bool.{true, false, true≢false}
 use mathlib.Core.List.{List, [], _∷_}

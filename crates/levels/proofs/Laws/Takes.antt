@@ -1,4 +1,4 @@
--- A chunk taken out of a table, its nodes behind those of a carry. Assumes nothing.
+-- A chunk taken out of a table, its nodes behind those of a carry.
 use mathlib.Core.Path.{_≡_, refl, sym, ap, _∙_, subst}
 use mathlib.Core.Logic.{_≢_}
 use mathlib.Core.Bool.{true≢false}

@@ -1,4 +1,4 @@
--- What is written reads back. Assumes nothing.
+-- What is written reads back.
 use mathlib.Core.Path.{_≡_, refl, _∙_}
 use mathlib.Core.Bool.{Bool, true, false, _&&_, cond}
 use mathlib.Core.List.{List, [], _∷_, _++_}
@@ -7,7 +7,7 @@ use native.Mathlib.Omega.{arith}
 use lib.Dec.{leb, ltb}
 use borrow.Author.Tests.{le-leb, ltb-true, ltb-false}
 use Rattle.lines.specs.Grammar.{worth, within, some, value, number}
-use Rattle.lines.specs.Text.{numeral, numeral-in, Reads-back}
+use Rattle.lines.specs.Text.{numeral, numeral-in, Numeral-reads-back}
 
 worth-more : (base z v : ℕ) (p : List ℕ) (b : ℕ) → worth base z v (p ++ (b ∷ [])) ≡ base * worth base z v p + (b - z)
 unfolding worth
@@ -59,8 +59,8 @@ back-some k n = go (ltb n 10)
     go true = refl
     go false = some-more (numeral-in k (n / 10)) (48 + n % 10)
 
-pub reads-back : Reads-back
-unfolding Reads-back number value numeral
+pub reads-back : Numeral-reads-back
+unfolding Numeral-reads-back number value numeral
 reads-back n h =
     let b : Back 10 n = back 10 n (omega arith) in
     (rw (back-some 9 n, b .digits, b .is, le-leb n 4294967295 h), b .is)

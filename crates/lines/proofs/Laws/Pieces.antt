@@ -1,4 +1,4 @@
--- The machine reads a line piece by piece, and a piece as a number. Assumes nothing.
+-- The machine reads a line piece by piece, and a piece as a number.
 use mathlib.Core.Path.{_≡_, refl, _∙_}
 use mathlib.Core.Bool.{Bool, true, false, _&&_, _||_, cond, and-false, and-true, or-false, or-true}
 use mathlib.Core.List.{List, [], _∷_, map}

@@ -1,4 +1,4 @@
--- A line that is read byte by byte and closed says what the grammar says of the whole line. Assumes nothing.
+-- A line that is read byte by byte and closed says what the grammar says of the whole line.
 use mathlib.Core.Path.{_≡_, refl, ap, _∙_}
 use mathlib.Core.Bool.{Bool, true, false, _&&_, cond}
 use mathlib.Core.List.{List, [], _∷_, _++_, map}

@@ -1,4 +1,4 @@
--- The functions of the reader, one law for each return. Assumes nothing.
+-- The functions of the reader, one law for each return.
 use mathlib.Core.Path.{_≡_, refl, ap, sym, _∙_}
 use mathlib.Core.Bool.{Bool, true, false, _&&_, and-false}
 use mathlib.Core.List.{List, [], _∷_}

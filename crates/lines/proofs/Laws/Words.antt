@@ -1,4 +1,4 @@
--- A word and its number of base 32 are known by each other, and so is the call of a line. Assumes nothing.
+-- A word and its number of base 32 are known by each other, and so is the call of a line.
 use mathlib.Core.Path.{_≡_, refl, ap, sym, _∙_}
 use mathlib.Core.Bool.{Bool, true, false, _&&_, cond, and-false, true≢false}
 use mathlib.Core.List.{List, [], _∷_}

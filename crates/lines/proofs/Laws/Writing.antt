@@ -1,4 +1,4 @@
--- Numbers as text: a numeral digit by digit, and bytes put behind bytes. Assumes nothing.
+-- Numbers as text: a numeral digit by digit, and bytes put behind bytes.
 use mathlib.Core.Path.{_≡_, refl, ap, sym, _∙_}
 use mathlib.Core.Bool.{Bool, true, false, cond}
 use mathlib.Core.List.{List, [], _∷_, _++_, append-assoc, append-nil}

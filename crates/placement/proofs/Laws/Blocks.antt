@@ -1,4 +1,4 @@
--- First laws of a table of blocks, going round. Assumes nothing.
+-- First laws of a table of blocks, going round.
 use mathlib.Core.Path.{_≡_, sym, ap, _∙_}
 use mathlib.Core.Logic.{_≢_}
 use mathlib.Core.List.{List}

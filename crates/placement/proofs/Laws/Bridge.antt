@@ -1,4 +1,4 @@
--- This version's blocks in bytes: a head of 8 bytes with the label, nodes of 12 bytes each, and zeros. The laws of bytes over any width are in Rows and Coded; here the width is fixed. Assumes nothing.
+-- This version's blocks in bytes: a head of 8 bytes with the label, nodes of 12 bytes each, and zeros. The laws of bytes over any width are in Rows and Coded; here the width is fixed.
 use mathlib.Core.Path.{_≡_, refl}
 use mathlib.Core.List.{List, [], append-assoc, map}
 use Prim.Native.Nat.{ℕ, suc, _+_, _*_}

@@ -1,4 +1,4 @@
--- A table as its head of 53 bytes and a list of blocks, each the list of its bytes: what the bytes say is what the blocks say. Assumes nothing.
+-- A table as its head of 53 bytes and a list of blocks, each the list of its bytes: what the bytes say is what the blocks say.
 use mathlib.Core.Path.{_≡_, refl, ap, sym, _∙_}
 use mathlib.Core.List.{List, [], _∷_, _++_}
 use mathlib.Core.Bool.{Bool, true, false, cond}

@@ -1,4 +1,4 @@
--- BLOCKS OF ANY KIND IN BYTES: any coding of a block in w bytes with its label at the front. What is read, written, moved and searched in the bytes of a table is so in its list of blocks. Assumes nothing.
+-- BLOCKS OF ANY KIND IN BYTES: any coding of a block in w bytes with its label at the front. What is read, written, moved and searched in the bytes of a table is so in its list of blocks.
 use mathlib.Core.Path.{_≡_, refl, ap, sym, _∙_}
 use mathlib.Core.List.{List, [], _∷_, _++_, map}
 use Prim.Native.Nat.{ℕ, zero, suc, _%_, _≤_, _<_}

@@ -1,4 +1,4 @@
--- Bytes that are a block's are those of the block read back from them. Assumes nothing.
+-- Bytes that are a block's are those of the block read back from them.
 use mathlib.Core.Path.{_≡_, refl, sym, ap, _∙_, subst}
 use mathlib.Core.Logic.{_≢_}
 use mathlib.Core.Bool.{Bool, cond, true≢false}

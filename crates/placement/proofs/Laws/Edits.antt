@@ -1,4 +1,4 @@
--- Search, removal, insertion and change by the code, on a header and blocks as bytes, are those of the theory on the blocks. Assumes nothing.
+-- Search, removal, insertion and change by the code, on a header and blocks as bytes, are those of the theory on the blocks.
 use mathlib.Core.Path.{_≡_, refl, sym, ap, _∙_}
 use mathlib.Core.Logic.{_≢_}
 use mathlib.Core.Bool.{false}

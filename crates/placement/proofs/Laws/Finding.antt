@@ -1,4 +1,4 @@
--- The search by the code, over the labels of blocks, is the search of the theory. Assumes nothing.
+-- The search by the code, over the labels of blocks, is the search of the theory.
 use mathlib.Core.Path.{_≡_, refl, sym, ap, _∙_}
 use mathlib.Core.Logic.{_≢_}
 use mathlib.Core.Bool.{Bool, true, false, cond}

@@ -1,4 +1,4 @@
--- Insertion by ordered probes: walk from home, change the carried chunk for the first larger label, stop at an empty block. Assumes nothing.
+-- Insertion by ordered probes: walk from home, change the carried chunk for the first larger label, stop at an empty block.
 use mathlib.Core.Path.{_≡_, refl, sym, ap, _∙_}
 use mathlib.Core.Logic.{_⊎_, inl, inr}
 use mathlib.Core.Bool.{Bool, true, false, cond, true≢false, false≢true}

@@ -1,4 +1,4 @@
--- THE PROMISES FOR THIS VERSION: those of chunks of any kind, for its chunks and for maps by the parts of a label. Assumes nothing.
+-- THE PROMISES FOR THIS VERSION: those of chunks of any kind, for its chunks and for maps by the parts of a label.
 use mathlib.Core.Path.{_≡_}
 use mathlib.Core.Logic.{_≢_}
 use mathlib.Core.List.{List, []}

@@ -1,4 +1,4 @@
--- THE PROMISE FOR CHUNKS OF ANY KIND: what search, insertion, change and removal of the theory do to the map that a table keeps. A version of the table is an instance of `Lawful`. Assumes nothing.
+-- THE PROMISE FOR CHUNKS OF ANY KIND: what search, insertion, change and removal of the theory do to the map that a table keeps. A version of the table is an instance of `Lawful`.
 use mathlib.Core.Path.{_≡_, refl, sym, ap, _∙_, subst}
 use mathlib.Core.Logic.{_≢_, _⊎_, inl, inr}
 use mathlib.Core.Bool.{Bool, true, false, true≢false}

@@ -1,4 +1,4 @@
--- The order of labels: level, then first key, then chunk number. Assumes nothing.
+-- The order of labels: level, then first key, then chunk number.
 use mathlib.Core.Path.{_≡_, refl, sym, _∙_}
 use mathlib.Core.Logic.{_⊎_, inl, inr}
 use mathlib.Core.Bool.{Bool, true, false, _&&_, _||_, true≢false}

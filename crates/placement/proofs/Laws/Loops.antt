@@ -1,4 +1,4 @@
--- What the loops of this crate keep, and their turns. Assumes nothing.
+-- What the loops of this crate keep, and their turns.
 use mathlib.Core.Path.{_≡_, refl, sym, ap, _∙_}
 use mathlib.Core.List.{List, [], _∷_, _++_}
 use mathlib.Core.Bool.{Bool, true, false, _&&_, _||_, cond, and-false}
@@ -514,6 +514,3 @@ inserted-same g l n xs bs = refl
 -- as the functions that read ask
 pub byte-at : (bs : List ℕ) (r a b : ℕ) → r ≡ getD bs (a + 1) 0 → a ≡ b → r ≡ getD bs (b + 1) 0
 byte-at bs r a b e h = e ∙ rw h
-
-pub field-at : (bs : List ℕ) (r a b c : ℕ) → r ≡ field (a + c) 4 bs → a ≡ b → r ≡ field (b + c) 4 bs
-field-at bs r a b c e h = e ∙ rw h

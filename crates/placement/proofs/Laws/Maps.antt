@@ -1,4 +1,4 @@
--- This version's chunks are of a lawful kind: labels by their three parts. Assumes nothing.
+-- This version's chunks are of a lawful kind: labels by their three parts.
 use mathlib.Core.Path.{_≡_, refl, sym, ap}
 use mathlib.Core.Logic.{_≢_}
 use mathlib.Core.Bool.{Bool, true, false, true≢false}

@@ -1,5 +1,5 @@
 -- ANOTHER KIND OF CHUNKS keeps the promise by application alone, so a later version need only be lawful: labels are numbers in falling order, rows are bytes, the home is the label mod m.
--- And rows of another width, 16 bytes with one number, are read back. Assumes nothing.
+-- And rows of another width, 16 bytes with one number, are read back.
 use mathlib.Core.Path.{_≡_, refl}
 use mathlib.Core.Logic.{_≢_}
 use mathlib.Core.Bool.{Bool}

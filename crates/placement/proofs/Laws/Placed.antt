@@ -1,4 +1,4 @@
--- The placement by rising labels keeps rule 3 and holds just the chunks placed. Assumes nothing.
+-- The placement by rising labels keeps rule 3 and holds just the chunks placed.
 use mathlib.Core.Path.{_≡_, refl, sym, ap, _∙_}
 use mathlib.Core.Logic.{_⊎_, inl, inr}
 use mathlib.Core.Bool.{Bool, true, false, true≢false, false≢true}

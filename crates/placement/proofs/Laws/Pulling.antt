@@ -1,4 +1,4 @@
--- The removal by the code, on a list of blocks, is the removal of the theory. Assumes nothing.
+-- The removal by the code, on a list of blocks, is the removal of the theory.
 use mathlib.Core.Path.{_≡_, refl, sym, ap, _∙_}
 use mathlib.Core.Bool.{Bool, true, false, _&&_, not, cond}
 use mathlib.Core.List.{List}

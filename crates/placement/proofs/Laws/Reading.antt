@@ -1,4 +1,4 @@
--- What stands in the bytes of a block that a search found: the number of nodes, and each node. Assumes nothing.
+-- What stands in the bytes of a block that a search found: the number of nodes, and each node.
 use mathlib.Core.Path.{_≡_, sym, ap, _∙_}
 use mathlib.Core.List.{List, [], _∷_, _++_, append-assoc, append-nil}
 use Prim.Native.Nat.{ℕ, zero, suc, _+_, _*_, _-_, _≤_, _<_}

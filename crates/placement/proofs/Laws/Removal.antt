@@ -1,4 +1,4 @@
--- Removal: empty the block, and pull later chunks back toward home. Assumes nothing.
+-- Removal: empty the block, and pull later chunks back toward home.
 use mathlib.Core.Path.{_≡_, refl, sym, ap, _∙_}
 use mathlib.Core.Logic.{_≢_, _⊎_, inl, inr}
 use mathlib.Core.Bool.{Bool, true, false, cond, true≢false, false≢true}

@@ -1,4 +1,4 @@
--- Rows of any width w, by any coding of a row in w bytes: how long they are, a field of one, and rows read back. This version's nodes have w = 12. Assumes nothing.
+-- Rows of any width w, by any coding of a row in w bytes: how long they are, a field of one, and rows read back. This version's nodes have w = 12.
 use mathlib.Core.Path.{_≡_, refl, sym, ap, _∙_}
 use mathlib.Core.Logic.{_≢_}
 use mathlib.Core.Bool.{true≢false}

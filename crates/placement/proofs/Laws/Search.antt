@@ -1,4 +1,4 @@
--- The search for a label from its home ends at the first block that is empty, has that label or has a larger one, or after m blocks. Assumes nothing.
+-- The search for a label from its home ends at the first block that is empty, has that label or has a larger one, or after m blocks.
 use mathlib.Core.Path.{_≡_, refl, sym, ap, _∙_}
 use mathlib.Core.Logic.{_⊎_, inl, inr}
 use mathlib.Core.Bool.{Bool, true, false, cond, true≢false}

@@ -1,4 +1,4 @@
--- Where the search for each label that stands ends at its block, rule 3 holds: what a check of the bytes rests on. Assumes nothing.
+-- Where the search for each label that stands ends at its block, rule 3 holds: what a check of the bytes rests on.
 use mathlib.Core.Path.{_≡_, refl, sym, ap, _∙_, subst}
 use mathlib.Core.Logic.{_≢_}
 use mathlib.Core.Bool.{Bool, true, false, cond, true≢false}

@@ -1,4 +1,4 @@
--- The insertion by the code, on a list of blocks, is the insertion of the theory. Assumes nothing.
+-- The insertion by the code, on a list of blocks, is the insertion of the theory.
 use mathlib.Core.Path.{_≡_, refl, sym, ap, _∙_}
 use mathlib.Core.Logic.{_≢_}
 use mathlib.Core.Bool.{Bool, true, false, cond, true≢false}

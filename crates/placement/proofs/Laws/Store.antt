@@ -1,4 +1,4 @@
--- One store into a table that keeps rule 3. Assumes nothing.
+-- One store into a table that keeps rule 3.
 use mathlib.Core.Path.{_≡_, refl, sym, ap, _∙_}
 use mathlib.Core.Logic.{_≢_, _⊎_, inl, inr}
 use mathlib.Core.Bool.{Bool, true}

@@ -1,4 +1,4 @@
--- WHAT PLACEMENT PROMISES: what search, removal, insertion and change by the code do to the map that the bytes of a table keep. Assumes nothing.
+-- WHAT PLACEMENT PROMISES: what search, removal, insertion and change by the code do to the map that the bytes of a table keep.
 use mathlib.Core.Path.{_≡_, refl, sym, ap, _∙_, subst}
 use mathlib.Core.Logic.{_≢_}
 use mathlib.Core.Bool.{true, false, true≢false}

@@ -1,4 +1,4 @@
--- Rule 3 leaves only one arrangement of the same chunks. Assumes nothing.
+-- Rule 3 leaves only one arrangement of the same chunks.
 use mathlib.Core.Path.{_≡_, refl, sym, ap, _∙_}
 use mathlib.Core.Bool.{Bool, true, false, true≢false}
 use mathlib.Core.List.{List, [], _∷_}

@@ -1,4 +1,4 @@
--- One step of each walk, as a loop of the code takes it. Assumes nothing.
+-- One step of each walk, as a loop of the code takes it.
 use mathlib.Core.Path.{_≡_}
 use mathlib.Core.Bool.{Bool, true, false}
 use mathlib.Core.List.{List}

@@ -1,4 +1,4 @@
--- A visit of a whole table, and what it answers: the number of orders in a range, their rows, the first that has a reserve. Assumes nothing.
+-- A visit of a whole table, and what it answers: the number of orders in a range, their rows, the first that has a reserve.
 use mathlib.Core.Path.{_≡_, refl, sym, ap, _∙_, subst}
 use mathlib.Core.Bool.{Bool, true, false, _&&_, cond}
 use mathlib.Core.List.{List, [], _∷_, _++_}
@@ -20,10 +20,10 @@ use Rattle.placement.proofs.Laws.Tables.{shaped}
 use Rattle.skiplist.specs.Lists.{front, chunks}
 use Rattle.skiplist.specs.Image.{is-image, orders-in}
 use Rattle.skiplist.specs.Questions.{is-key, between}
-use Rattle.skiplist.proofs.Walk.{walk-all}
-use Rattle.skiplist.proofs.Kept.{fits-parts}
-use Rattle.skiplist.proofs.Image.{image-keeps}
-use Rattle.skiplist.proofs.Third.{image-parts}
+use Rattle.skiplist.proofs.Laws.Walk.{walk-all}
+use Rattle.skiplist.proofs.Laws.Kept.{fits-parts}
+use Rattle.skiplist.proofs.Laws.Image.{image-keeps}
+use Rattle.skiplist.proofs.Laws.Third.{image-parts}
 use Rattle.readings.specs.declared.Visit.{Visit}
 use Rattle.readings.specs.declared.calls.Sought.the-variants.{Is, Nothing}
 use Rattle.table.specs.Calls.{says}

@@ -1,4 +1,4 @@
--- What the search for a chunk finds in an image: the next piece of a partition, as its bytes say. Assumes nothing.
+-- What the search for a chunk finds in an image: the next piece of a partition, as its bytes say.
 use mathlib.Core.Path.{_≡_, refl, sym, ap, _∙_, subst}
 use mathlib.Core.List.{List, [], _∷_, map}
 use Prim.Native.Nat.{ℕ, zero, suc, _+_, _*_, _≤_, _<_}
@@ -21,9 +21,9 @@ use Rattle.placement.proofs.Laws.Tables.{find-told}
 use Rattle.placement.proofs.Laws.Reading.{node-at, count-read, key-read, total-read, displayed-read}
 use Rattle.skiplist.specs.Lists.{masked, chunks}
 use Rattle.skiplist.specs.Image.{orders-in}
-use Rattle.skiplist.proofs.Parts.{Up, good-up, part}
-use Rattle.skiplist.proofs.Faithful.{map-is}
-use Rattle.skiplist.proofs.Image.{image-keeps}
+use Rattle.skiplist.proofs.Laws.Parts.{Up, good-up, part}
+use Rattle.skiplist.proofs.Laws.Faithful.{map-is}
+use Rattle.skiplist.proofs.Laws.Image.{image-keeps}
 use Rattle.table.specs.Walk.{node-of}
 use Rattle.readings.specs.Visit.{Known}
 use Rattle.table.proofs.Laws.Steps.{node-made}

@@ -1,4 +1,4 @@
--- The way down to one key: what stands at a place of a partition of level 1, and which order a key has. Assumes nothing.
+-- The way down to one key: what stands at a place of a partition of level 1, and which order a key has.
 use mathlib.Core.Path.{_≡_, refl, sym, ap, _∙_}
 use mathlib.Core.Bool.{true, cond, and-false}
 use mathlib.Core.List.{List, [], _∷_, _++_}
@@ -21,10 +21,10 @@ use Rattle.placement.specs.declared.Found.the-variants.{At, Nothing}
 use Rattle.sizes.proofs.Laws.Sizes.{limits}
 use Rattle.skiplist.specs.Image.{orders-in}
 use Rattle.skiplist.specs.Questions.{between, reserve}
-use Rattle.skiplist.proofs.Parts.{Up, and-left, and-right, up-from, below, below-here, part}
-use Rattle.skiplist.proofs.Shapes.{Place, there, absent, place, held-absent, up-behind, part-none}
-use Rattle.skiplist.proofs.Descent.{tail-above}
-use Rattle.skiplist.proofs.Edits.{beta-least, level-least, head-part, tail-part, part-at, part-right, tail-same}
+use Rattle.skiplist.proofs.Laws.Parts.{Up, and-left, and-right, up-from, below, below-here, part}
+use Rattle.skiplist.proofs.Laws.Shapes.{Place, there, absent, place, held-absent, up-behind, part-none}
+use Rattle.skiplist.proofs.Laws.Descent.{tail-above}
+use Rattle.skiplist.proofs.Laws.Edits.{beta-least, level-least, head-part, tail-part, part-at, part-right, tail-same}
 use Rattle.table.specs.Walk.{node-of}
 use Rattle.levels.specs.declared.Spot.{Spot}
 use Rattle.levels.specs.Edit.{Reaches, Way, Leads}
@@ -34,7 +34,7 @@ use Rattle.readings.specs.Visit.{Known, first-enough, with-key}
 use Rattle.readings.specs.declared.calls.Sought.{Sought}
 use Rattle.readings.specs.declared.calls.Sought.the-variants as sought
 use Rattle.readings.specs.declared.calls.Sought.the-variants.{Is}
-use Rattle.skiplist.proofs.Masks.{masked-one}
+use Rattle.skiplist.proofs.Laws.Masks.{masked-one}
 use Rattle.readings.proofs.Laws.Chunked.{nodes-split, orders-up, Read, piece, chunk-none, chunk-read}
 
 -- node j of those that stand in bytes

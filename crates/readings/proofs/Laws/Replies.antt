@@ -1,4 +1,4 @@
--- The answers of lookup, span and seek: each question in its order, and what is said where none turns the call down. Assumes nothing.
+-- The answers of lookup, span and seek: each question in its order, and what is said where none turns the call down.
 use mathlib.Core.Path.{_≡_, refl, sym, ap, _∙_, subst}
 use mathlib.Core.Bool.{Bool, true, false, _&&_, _||_, cond, true≢false}
 use mathlib.Core.List.{List, [], _∷_, _++_}
@@ -12,9 +12,9 @@ use Rattle.sizes.specs.Header.{sizes-in}
 use Rattle.placement.specs.declared.Order.{Order}
 use Rattle.skiplist.specs.Image.{is-image, orders-in}
 use Rattle.skiplist.specs.Questions.{Question, ask, first-no, is-key, held, between, reserve, any-reserve, asks-image, asks-key, asks-range, asks-span, asks-seek}
-use Rattle.skiplist.proofs.Parts.{Up, and-left, up-past}
-use Rattle.skiplist.proofs.Shapes.{held-there}
-use Rattle.skiplist.proofs.Opens.{Spot, nothing}
+use Rattle.skiplist.proofs.Laws.Parts.{Up, and-left, up-past}
+use Rattle.skiplist.proofs.Laws.Shapes.{held-there}
+use Rattle.skiplist.proofs.Laws.Opens.{Spot, nothing}
 use Rattle.readings.specs.declared.Visit.{Visit}
 use Rattle.table.specs.declared.Reply.{Reply}
 use Rattle.readings.specs.declared.calls.Sought.{Sought}

@@ -1,5 +1,5 @@
 -- Where the nodes of a level stand, and what they open: a partition is a stretch of its list, and all orders under a node come before
--- the next node. Assumes nothing.
+-- the next node.
 use mathlib.Core.Path.{_≡_, refl, sym, ap, _∙_, subst}
 use mathlib.Core.Bool.{Bool, true, false, cond}
 use mathlib.Core.List.{List, [], _∷_, _++_, map, append-assoc, append-nil}
@@ -13,11 +13,11 @@ use Rattle.sizes.specs.Hash.{level}
 use Rattle.sizes.specs.declared.Sizes.{Sizes}
 use Rattle.placement.specs.declared.Order.{Order}
 use Rattle.skiplist.specs.Lists.{front, at-least, list-at, rest, partitions, first-key, masked}
-use Rattle.skiplist.proofs.Parts.{Up, Heads, pick, part, pick-past, below, below-here}
-use Rattle.skiplist.proofs.Edits.{parts-heads}
-use Rattle.skiplist.proofs.Walk.{each, spread, each-append, flat, spread-all}
-use Rattle.skiplist.proofs.Nodes.{nodes-list}
-use Rattle.skiplist.proofs.Opens.{Spot, nothing, shape, walks-part}
+use Rattle.skiplist.proofs.Laws.Parts.{Up, Heads, pick, part, pick-past, below, below-here}
+use Rattle.skiplist.proofs.Laws.Edits.{parts-heads}
+use Rattle.skiplist.proofs.Laws.Walk.{each, spread, each-append, flat, spread-all}
+use Rattle.skiplist.proofs.Laws.Nodes.{nodes-list}
+use Rattle.skiplist.proofs.Laws.Opens.{Spot, nothing, shape, walks-part}
 use Rattle.readings.specs.Visit.{Row}
 
 -- STRETCHES of a list

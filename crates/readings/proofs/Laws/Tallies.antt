@@ -1,4 +1,4 @@
--- What the orders of a table leave of a visit: the number of those in the range, their rows, or the first that has the reserve. Assumes nothing.
+-- What the orders of a table leave of a visit: the number of those in the range, their rows, or the first that has the reserve.
 use mathlib.Core.Path.{_≡_, refl, sym, ap, _∙_, subst}
 use mathlib.Core.Bool.{Bool, true, false, _&&_, cond, and-false}
 use mathlib.Core.List.{List, [], _∷_}
@@ -15,8 +15,8 @@ use Rattle.placement.specs.declared.Order.{Order}
 use Rattle.sizes.proofs.Laws.Parts.{sets-append}
 use Rattle.placement.proofs.Laws.Bridge.{node-long}
 use Rattle.skiplist.specs.Questions.{reserve, between}
-use Rattle.skiplist.proofs.Parts.{Up}
-use Rattle.skiplist.proofs.Segment.{between-above}
+use Rattle.skiplist.proofs.Laws.Parts.{Up}
+use Rattle.skiplist.proofs.Laws.Segment.{between-above}
 use Rattle.readings.specs.declared.Visit.{Visit}
 use Rattle.readings.specs.declared.calls.Sought.{Sought}
 use Rattle.readings.specs.declared.calls.Sought.the-variants.{Is, Nothing}

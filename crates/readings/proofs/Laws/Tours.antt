@@ -1,4 +1,4 @@
--- The turns of a visit: the nodes that are left of a chunk, and the chunks that are left of a partition. Assumes nothing.
+-- The turns of a visit: the nodes that are left of a chunk, and the chunks that are left of a partition.
 use mathlib.Core.Path.{_≡_, refl, sym, ap, _∙_, subst}
 use mathlib.Core.Bool.{Bool, true, false, cond}
 use mathlib.Core.List.{List, [], _∷_, map}
@@ -22,8 +22,8 @@ use Rattle.placement.specs.declared.Found.the-variants.{At, Nothing}
 use Rattle.sizes.proofs.Laws.Numbers.{field-drop}
 use Rattle.skiplist.specs.Lists.{masked}
 use Rattle.skiplist.specs.Image.{orders-in}
-use Rattle.skiplist.proofs.Parts.{and-left, and-right, part}
-use Rattle.skiplist.proofs.Walk.{each, spread, each-append}
+use Rattle.skiplist.proofs.Laws.Parts.{and-left, and-right, part}
+use Rattle.skiplist.proofs.Laws.Walk.{each, spread, each-append}
 use Rattle.readings.specs.declared.Visit.{Visit}
 use Rattle.table.specs.Walk.{node-of}
 use Rattle.readings.specs.Visit.{Scan, scan, step-by, steps, Known, Row, passed-in, passed-front, under, all-under}

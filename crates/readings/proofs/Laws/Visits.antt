@@ -1,4 +1,4 @@
--- Laws of what the visit's small functions give, and of orders that come by one after the other. Assumes nothing.
+-- Laws of what the visit's small functions give, and of orders that come by one after the other.
 use mathlib.Core.Path.{_≡_, refl, sym, ap, _∙_}
 use mathlib.Core.Bool.{Bool, true, false, cond}
 use mathlib.Core.List.{List, [], _∷_, _++_, append-assoc}
@@ -14,7 +14,7 @@ use Rattle.placement.specs.declared.Order.{Order}
 use Rattle.sizes.proofs.Laws.Numbers.{length-big}
 use Rattle.sizes.proofs.Laws.Parts.{sets-append}
 use Rattle.skiplist.specs.Questions.{reserve}
-use Rattle.skiplist.proofs.Parts.{and-left, and-right, below}
+use Rattle.skiplist.proofs.Laws.Parts.{and-left, and-right, below}
 use Rattle.readings.specs.declared.Visit.{Visit}
 use Rattle.readings.specs.Visit.{Scan, scan, next-found, more-found, ended-visit, wanted-by, row-in, step-by, steps, passed-in}
 

@@ -1,4 +1,4 @@
--- Orders of a chunk of level 1 that are all in the range of a visit: they come by together. Assumes nothing.
+-- Orders of a chunk of level 1 that are all in the range of a visit: they come by together.
 use mathlib.Core.Path.{_≡_, refl, sym, ap, _∙_, subst}
 use mathlib.Core.Bool.{Bool, true, false, cond, true≢false}
 use mathlib.Core.List.{List, [], _∷_, _++_, append-nil}
@@ -20,8 +20,8 @@ use Rattle.placement.proofs.Laws.Bridge.{node-long}
 use Rattle.placement.proofs.Laws.Decoding.{nodes-again, nodes-count}
 use Rattle.skiplist.specs.Lists.{front, list-at}
 use Rattle.skiplist.specs.Image.{orders-in}
-use Rattle.skiplist.proofs.Parts.{Up, up-from, up-front, at-least-up}
-use Rattle.skiplist.proofs.Walk.{each, spread}
+use Rattle.skiplist.proofs.Laws.Parts.{Up, up-from, up-front, at-least-up}
+use Rattle.skiplist.proofs.Laws.Walk.{each, spread}
 use Rattle.table.specs.Walk.{node-of}
 use Rattle.table.proofs.Laws.MaskedKeys.{up-masked}
 use Rattle.readings.specs.declared.Visit.{Visit}

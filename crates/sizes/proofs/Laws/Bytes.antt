@@ -1,4 +1,4 @@
--- Laws of fields in bytes. Assumes nothing.
+-- Laws of fields in bytes.
 use mathlib.Core.Path.{_≡_}
 use mathlib.Core.List.{List, _∷_}
 use Prim.Native.Nat.{ℕ, suc, _+_, _*_, _≤_, _<_}

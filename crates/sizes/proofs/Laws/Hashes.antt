@@ -1,4 +1,4 @@
--- Laws of hashes and levels. Assumes nothing.
+-- Laws of hashes and levels.
 use mathlib.Core.Path.{_≡_, refl, sym, ap, _∙_}
 use mathlib.Core.List.{List, [], _∷_}
 use mathlib.Core.Bool.{Bool, true, false, not, cond}

@@ -1,4 +1,4 @@
--- The functions on headers: a number read byte by byte, the table of fields, the tests of sizes and seed, and rule 1. Assumes nothing.
+-- The functions on headers: a number read byte by byte, the table of fields, the tests of sizes and seed, and rule 1.
 use mathlib.Core.Path.{_≡_, refl, ap, sym, _∙_}
 use mathlib.Core.List.{List, [], _∷_, _++_}
 use mathlib.Core.Bool.{Bool, true, false, _&&_}

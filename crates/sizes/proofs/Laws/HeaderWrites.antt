@@ -1,4 +1,4 @@
--- Headers written: a number byte by byte, the values of the fields, and all seventeen in turn. Assumes nothing.
+-- Headers written: a number byte by byte, the values of the fields, and all seventeen in turn.
 use mathlib.Core.Logic.{inl}
 use mathlib.Core.Path.{_≡_, refl, ap, sym, _∙_}
 use mathlib.Core.List.{List, [], _∷_, _++_, append-assoc, append-nil}

@@ -1,4 +1,4 @@
--- The header: its length, the sizes that it has, and its number of orders written. Assumes nothing.
+-- The header: its length, the sizes that it has, and its number of orders written.
 use mathlib.Core.Path.{_≡_, refl, sym, ap, _∙_}
 use mathlib.Core.Bool.{true}
 use mathlib.Core.List.{List, [], _∷_, _++_, append-nil}

@@ -1,4 +1,4 @@
--- Numbers in bytes: what is written is read back, and what is read is written again. Assumes nothing.
+-- Numbers in bytes: what is written is read back, and what is read is written again.
 use mathlib.Core.Path.{_≡_, refl, sym, ap, _∙_, subst}
 use mathlib.Core.List.{List, [], _∷_, _++_}
 use Prim.Native.Nat.{ℕ, zero, suc, _+_, _*_, _-_, _/_, _%_, _^_, _≤_, _<_}

@@ -1,4 +1,4 @@
--- Laws of 2^32 over d, rounded up, which stands in for a division by d. Assumes nothing.
+-- Laws of 2^32 over d, rounded up, which stands in for a division by d.
 use mathlib.Core.Path.{_≡_, refl, sym, ap, _∙_}
 use mathlib.Core.Bool.{Bool, true, false}
 use Prim.Native.Nat.{ℕ, _+_, _*_, _-_, _/_, _%_, _≤_, _<_}

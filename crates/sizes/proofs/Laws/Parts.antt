@@ -1,4 +1,4 @@
--- Laws of bytes written over a list from a place on (`sets` of `lib.Seq`), and of the parts of the list afterwards. Assumes nothing.
+-- Laws of bytes written over a list from a place on (`sets` of `lib.Seq`), and of the parts of the list afterwards.
 use mathlib.Core.Path.{_≡_, refl, ap, sym, _∙_}
 use mathlib.Core.Logic.{_≢_, _⊎_, inl, inr, ⊎-elim}
 use mathlib.Core.Bool.{Bool, true, false}

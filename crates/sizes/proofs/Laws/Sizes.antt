@@ -1,4 +1,4 @@
--- What the test of sizes and seed says. Assumes nothing.
+-- What the test of sizes and seed says.
 use mathlib.Core.Path.{_≡_, refl}
 use mathlib.Core.Bool.{Bool, true, false, _&&_, false≢true}
 use Prim.Native.Nat.{zero, _≤_, _<_}

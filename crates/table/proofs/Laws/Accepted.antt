@@ -1,4 +1,4 @@
--- Bytes that the check accepts: rule 1, the orders that they hold, and the partitions that were read. Assumes nothing.
+-- Bytes that the check accepts: rule 1, the orders that they hold, and the partitions that were read.
 use mathlib.Core.Path.{_≡_, refl, ap, _∙_, subst}
 use mathlib.Core.Bool.{true, _&&_}
 use mathlib.Core.List.{List, [], _∷_}
@@ -18,9 +18,9 @@ use Rattle.sizes.proofs.Laws.Sizes.{and-parts, some-blocks, some-nodes}
 use Rattle.sizes.proofs.Laws.HeaderLoops.{Ruled, ruled}
 use Rattle.skiplist.specs.Lists.{front}
 use Rattle.skiplist.specs.Image.{quantities-good, orders-good}
-use Rattle.skiplist.proofs.Parts.{Up}
-use Rattle.skiplist.proofs.Edits.{beta-least}
-use Rattle.skiplist.proofs.Opens.{Walks, shape}
+use Rattle.skiplist.proofs.Laws.Parts.{Up}
+use Rattle.skiplist.proofs.Laws.Edits.{beta-least}
+use Rattle.skiplist.proofs.Laws.Opens.{Walks, shape}
 use Rattle.table.specs.declared.Seen.{Seen}
 use Rattle.table.specs.Walk.{nothing-in, quantities-ok, count-in}
 use Rattle.table.specs.Check.{swept, walked, ended, check-passes}

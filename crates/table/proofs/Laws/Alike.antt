@@ -8,8 +8,8 @@ use borrow.Author.Tests.{ltb-true, ltb-false, eqb-true, eqb-false, eq-eqb, ne-eq
 use lib.Dec.{ltb, eqb}
 use Rattle.placement.specs.declared.Order.{Order}
 use Rattle.skiplist.specs.Questions.{held}
-use Rattle.skiplist.proofs.Parts.{Up}
-use Rattle.skiplist.proofs.Kept.{held-past}
+use Rattle.skiplist.proofs.Laws.Parts.{Up}
+use Rattle.skiplist.proofs.Laws.Kept.{held-past}
 use Rattle.table.specs.Calls.{total-of, displayed-of}
 use Rattle.table.specs.Promise.{Same-orders}
 

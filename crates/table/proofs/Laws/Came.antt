@@ -1,4 +1,4 @@
--- What comes by between two states of a walk, and the nodes of a chunk as a list. Assumes nothing.
+-- What comes by between two states of a walk, and the nodes of a chunk as a list.
 use mathlib.Core.Path.{_≡_, refl, sym, _∙_, subst}
 use mathlib.Core.Bool.{Bool, true, false, cond, false≢true}
 use mathlib.Core.List.{List, [], _∷_, _++_}

@@ -1,4 +1,4 @@
--- The whole check: what rule 1 gives the pass and the walk, and what the three say together. Assumes nothing.
+-- The whole check: what rule 1 gives the pass and the walk, and what the three say together.
 use mathlib.Core.Path.{_≡_, refl, ap, sym, _∙_, subst}
 use mathlib.Core.Bool.{Bool, true, false, and-false, true≢false}
 use mathlib.Core.List.{List}

@@ -1,4 +1,4 @@
--- COMPLETE: an image passes the check. Assumes nothing.
+-- COMPLETE: an image passes the check.
 use mathlib.Core.Path.{_≡_, refl, ap, _∙_, subst}
 use mathlib.Core.Bool.{true, false, _&&_}
 use mathlib.Core.List.{List, [], _∷_, _++_, map}
@@ -35,15 +35,15 @@ use Rattle.placement.proofs.Laws.Decoding.{Clean, zeros, filled}
 use Rattle.placement.proofs.Laws.Tables.{sound-blocks, find-told, shaped}
 use Rattle.skiplist.specs.Lists.{front, masked, chunks, blocks}
 use Rattle.skiplist.specs.Image.{image, quantities-good, orders-good, fits}
-use Rattle.skiplist.specs.Promise.{Reads-back}
-use Rattle.skiplist.proofs.Parts.{good-parts, good-up, part}
-use Rattle.skiplist.proofs.Faithful.{map-is}
-use Rattle.skiplist.proofs.Kept.{fits-parts}
-use Rattle.skiplist.proofs.Opens.{walks-all}
-use Rattle.skiplist.proofs.Sound.{chunks-sound}
-use Rattle.skiplist.proofs.Image.{blocks-keep, image-keeps}
-use Rattle.skiplist.proofs.Decode.{blocks-back}
-use Rattle.skiplist.proofs.Readback.{image-rule-1, reads-back}
+use Rattle.skiplist.specs.Promise.{Image-reads-back}
+use Rattle.skiplist.proofs.Laws.Parts.{good-parts, good-up, part}
+use Rattle.skiplist.proofs.Laws.Faithful.{map-is}
+use Rattle.skiplist.proofs.Laws.Kept.{fits-parts}
+use Rattle.skiplist.proofs.Laws.Opens.{walks-all}
+use Rattle.skiplist.proofs.Laws.Sound.{chunks-sound}
+use Rattle.skiplist.proofs.Laws.Image.{blocks-keep, image-keeps}
+use Rattle.skiplist.proofs.Laws.Decode.{blocks-back}
+use Rattle.skiplist.proofs.Laws.Readback.{image-rule-1, reads-back}
 use Rattle.table.specs.declared.Seen.{Seen}
 use Rattle.table.specs.Walk.{nothing-in, quantities-ok, spot, chunk-spot, count-in}
 use Rattle.table.specs.Check.{swept, walked, ended, check-passes}
@@ -185,7 +185,7 @@ module _ (s : Sizes) (os : List Order) (m : made s ≡ true) (g : orders-good 1 
 
   -- COMPLETE
   pub check-complete : check-passes (image s os) ≡ true
-  unfolding check-passes Reads-back
+  unfolding check-passes Image-reads-back
   check-complete =
       let e = reads-back s os m g f .2 in
       let w = swept-image in

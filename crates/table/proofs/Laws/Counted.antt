@@ -1,4 +1,4 @@
--- How many chunks lie under a node, and that under the front at the top there are as many as the orders have. Assumes nothing.
+-- How many chunks lie under a node, and that under the front at the top there are as many as the orders have.
 use mathlib.Core.Path.{_≡_, refl, sym, ap, _∙_, subst}
 use mathlib.Core.Bool.{Bool, true, false, cond}
 use mathlib.Core.List.{List, [], _∷_, _++_, append-assoc}
@@ -10,13 +10,13 @@ use Rattle.sizes.specs.Sizes.{beta}
 use Rattle.sizes.specs.declared.Sizes.{Sizes}
 use Rattle.placement.specs.declared.Order.{Order}
 use Rattle.skiplist.specs.Lists.{front, at-least, list-at, starts-one, run, rest, first-key, chunks}
-use Rattle.skiplist.proofs.Runs.{partitions-front}
-use Rattle.skiplist.proofs.Parts.{Up, Heads, pick, part, pick-at}
-use Rattle.skiplist.proofs.Edits.{parts-heads}
-use Rattle.skiplist.proofs.Descent.{none-above}
-use Rattle.skiplist.proofs.Walk.{each, starting, each-part, starting-above}
-use Rattle.skiplist.proofs.Count.{pieces, pieces-all, count, counts, length-chunks}
-use Rattle.skiplist.proofs.Opens.{keys, Exact, Spots, Heading, headed}
+use Rattle.skiplist.proofs.Laws.Runs.{partitions-front}
+use Rattle.skiplist.proofs.Laws.Parts.{Up, Heads, pick, part, pick-at}
+use Rattle.skiplist.proofs.Laws.Edits.{parts-heads}
+use Rattle.skiplist.proofs.Laws.Descent.{none-above}
+use Rattle.skiplist.proofs.Laws.Walk.{each, starting, each-part, starting-above}
+use Rattle.skiplist.proofs.Laws.Count.{pieces, pieces-all, count, counts, length-chunks}
+use Rattle.skiplist.proofs.Laws.Opens.{keys, Exact, Spots, Heading, headed}
 
 -- a number for each key, summed over some nodes
 unfoldable pub under : ((key : ℕ) → ℕ) → List Order → ℕ

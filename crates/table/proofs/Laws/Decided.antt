@@ -1,4 +1,4 @@
--- The answer of a check. Assumes nothing.
+-- The answer of a check.
 use mathlib.Core.Path.{_≡_, sym, _∙_}
 use mathlib.Core.Bool.{Bool, true, false}
 use mathlib.Core.List.{List, [], _∷_}

@@ -1,4 +1,4 @@
--- THE CHECK DECIDES QUESTION 4. Assumes nothing.
+-- THE CHECK DECIDES QUESTION 4.
 use mathlib.Core.Path.{_≡_, refl, sym, ap, _∙_}
 use mathlib.Core.Bool.{Bool, true, false}
 use mathlib.Core.List.{List}
@@ -6,7 +6,7 @@ use Prim.Native.Nat.{ℕ}
 use Rattle.sizes.specs.Header.{sizes-in}
 use Rattle.sizes.proofs.Laws.Numbers.{Bytes}
 use Rattle.skiplist.specs.Image.{orders-in, is-image}
-use Rattle.skiplist.proofs.Third.{image-parts}
+use Rattle.skiplist.proofs.Laws.Third.{image-parts}
 use Rattle.table.specs.Check.{check-passes}
 use Rattle.table.proofs.Laws.Sound.{check-sound}
 use Rattle.table.proofs.Laws.Complete.{check-complete}

@@ -10,8 +10,8 @@ use Rattle.skiplist.specs.Image.{image, orders-in}
 use Rattle.skiplist.specs.Questions.{Question, first-no, asks-image, asks-key, asks-span, asks-seek, sizes, between}
 use Rattle.skiplist.specs.Book.{put-refusal, key-refusal, refusal}
 use Rattle.skiplist.specs.Rules.{Rules}
-use Rattle.skiplist.proofs.Parts.{good-up}
-use Rattle.skiplist.proofs.Rules.{image-rules}
+use Rattle.skiplist.proofs.Laws.Parts.{good-up}
+use Rattle.skiplist.proofs.Laws.Rules.{image-rules}
 use Rattle.table.specs.Calls.{Edit-says, Put-says, Cancel-says, Look-says, Look-as, Span-says, Span-as, Seek-says, Seek-as}
 use Rattle.table.specs.Promise.{left-by, Demand-3, Demand-2-rules, Demand-2-lookup, Demand-2-span, Demand-2-seek, Demand-1-edits}
 use Rattle.table.proofs.Laws.Runs.{Holds, run-holds}

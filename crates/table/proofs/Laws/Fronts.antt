@@ -1,4 +1,4 @@
--- The chunks of no orders: the front alone at each level. Assumes nothing.
+-- The chunks of no orders: the front alone at each level.
 use mathlib.Core.Path.{_≡_, refl, ap, _∙_, subst}
 use mathlib.Core.Logic.{_≢_}
 use mathlib.Core.Bool.{Bool, true, false, _&&_, cond, true≢false}

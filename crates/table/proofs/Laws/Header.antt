@@ -1,4 +1,4 @@
--- A header that obeys rule 1, written again from what was read. Assumes nothing.
+-- A header that obeys rule 1, written again from what was read.
 use mathlib.Core.Path.{_≡_, refl, sym, ap, _∙_}
 use mathlib.Core.List.{List, [], _∷_, _++_}
 use Prim.Native.Nat.{ℕ, zero, suc, _+_, _*_, _≤_}

@@ -1,4 +1,4 @@
--- The nodes of a level 1 chunk: what the walk of them gives follows from their number and what the next key is at least. Assumes nothing.
+-- The nodes of a level 1 chunk: what the walk of them gives follows from their number and what the next key is at least.
 use mathlib.Core.Path.{_≡_, refl, ap, sym, _∙_}
 use mathlib.Core.Bool.{Bool, true, false, _&&_, cond, and-false, and-true, and-comm, and-assoc, and-eq-true-iff}
 use mathlib.Core.List.{List}

@@ -20,8 +20,8 @@ use Rattle.skiplist.specs.Image.{image}
 use Rattle.skiplist.specs.Questions.{first-no, sizes, asks-make}
 use Rattle.skiplist.specs.Book.{make-refusal}
 use Rattle.skiplist.specs.Promise.{byte-list}
-use Rattle.skiplist.proofs.Kept.{kept-none}
-use Rattle.skiplist.proofs.Image.{image-keeps}
+use Rattle.skiplist.proofs.Laws.Kept.{kept-none}
+use Rattle.skiplist.proofs.Laws.Image.{image-keeps}
 use Rattle.table.specs.Calls.{Make-says}
 use Rattle.table.specs.Promise.{Make-reaches, Make-only}
 

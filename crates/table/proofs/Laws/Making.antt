@@ -1,4 +1,4 @@
--- Make: its three questions, and the bytes that it leaves, which are the image of no orders. Assumes nothing.
+-- Make: its three questions, and the bytes that it leaves, which are the image of no orders.
 use mathlib.Core.Path.{_≡_, refl, sym, ap, _∙_, subst}
 use mathlib.Core.Bool.{Bool, true, false, _&&_, cond, and-false}
 use mathlib.Core.List.{List, [], _∷_, _++_, append-nil}
@@ -26,7 +26,7 @@ use Rattle.skiplist.specs.Lists.{front, at-least, list-at, starts-one, run, res
 use Rattle.skiplist.specs.Image.{image, orders-good, fits}
 use Rattle.skiplist.specs.Questions.{first-no, sizes, asks-make}
 use Rattle.skiplist.specs.Book.{make-refusal}
-use Rattle.skiplist.proofs.Image.{is-the-image}
+use Rattle.skiplist.proofs.Laws.Image.{is-the-image}
 use Rattle.table.specs.Calls.{Make-says}
 use Rattle.table.specs.Make.{fronts-map, Fronts}
 

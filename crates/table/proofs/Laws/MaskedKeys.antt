@@ -1,4 +1,4 @@
--- Masked nodes have the keys of the nodes; and how long a partition can be. Assumes nothing.
+-- Masked nodes have the keys of the nodes; and how long a partition can be.
 use mathlib.Core.Path.{_≡_}
 use mathlib.Core.Bool.{Bool, true, false, cond}
 use mathlib.Core.List.{List, [], _∷_, _++_}
@@ -11,11 +11,11 @@ use Rattle.sizes.specs.Hash.{level}
 use Rattle.sizes.specs.declared.Sizes.{Sizes}
 use Rattle.placement.specs.declared.Order.{Order}
 use Rattle.skiplist.specs.Lists.{front, at-least, starts-one, run, first-key}
-pub use Rattle.skiplist.proofs.Masks.{below-masked, up-masked, last-masked}
-use Rattle.skiplist.proofs.Runs.{opened}
-use Rattle.skiplist.proofs.Parts.{and-left, below}
-use Rattle.skiplist.proofs.Descent.{head-below}
-use Rattle.skiplist.proofs.Edits.{head-part, tail-part, head-part-long}
+pub use Rattle.skiplist.proofs.Laws.Masks.{below-masked, up-masked, last-masked}
+use Rattle.skiplist.proofs.Laws.Runs.{opened}
+use Rattle.skiplist.proofs.Laws.Parts.{and-left, below}
+use Rattle.skiplist.proofs.Laws.Descent.{head-below}
+use Rattle.skiplist.proofs.Laws.Edits.{head-part, tail-part, head-part-long}
 
 -- ---- how long
 

@@ -1,4 +1,4 @@
--- The partitions that an accepted table reads are those of its orders, masked. Assumes nothing.
+-- The partitions that an accepted table reads are those of its orders, masked.
 use mathlib.Core.Path.{_≡_, refl, sym, ap, _∙_, subst}
 use mathlib.Core.Bool.{Bool, true, false, _&&_, cond, true≢false}
 use mathlib.Core.List.{List, [], _∷_, _++_, append-assoc, map}
@@ -15,13 +15,13 @@ use Rattle.placement.specs.declared.Order.{Order}
 use Rattle.sizes.proofs.Laws.Sizes.{and-parts}
 use Rattle.skiplist.specs.Lists.{front, at-least, list-at, starts-one, run, partitions, first-key, masked}
 use Rattle.placement.specs.Blocks.{Among}
-use Rattle.skiplist.proofs.Parts.{Up, Heads, up-from, up-past, up-front, pick, part, pick-at}
-use Rattle.skiplist.proofs.Edits.{beta-least, stays, tail-part, parts-heads}
-use Rattle.skiplist.proofs.Descent.{all-there}
-use Rattle.skiplist.proofs.Shapes.{up-behind, from-key, part-direct}
-use Rattle.skiplist.proofs.Masks.{masked-one}
-use Rattle.skiplist.proofs.Segment.{tail-segment, part-segment}
-use Rattle.skiplist.proofs.Opens.{keys, Heading, Walks, Found, dive, found-piece, read-part, read-front, part-front, one-level}
+use Rattle.skiplist.proofs.Laws.Parts.{Up, Heads, up-from, up-past, up-front, pick, part, pick-at}
+use Rattle.skiplist.proofs.Laws.Edits.{beta-least, stays, tail-part, parts-heads}
+use Rattle.skiplist.proofs.Laws.Descent.{all-there}
+use Rattle.skiplist.proofs.Laws.Shapes.{up-behind, from-key, part-direct}
+use Rattle.skiplist.proofs.Laws.Masks.{masked-one}
+use Rattle.skiplist.proofs.Laws.Segment.{tail-segment, part-segment}
+use Rattle.skiplist.proofs.Laws.Opens.{keys, Heading, Walks, Found, dive, found-piece, read-part, read-front, part-front, one-level}
 use Rattle.table.specs.Walk.{nothing-in, quantities-ok}
 use Rattle.table.proofs.Laws.Reading.{part-sound, weigh-all, weigh-read}
 

@@ -11,9 +11,9 @@ use Rattle.placement.specs.declared.Order.{Order}
 use Rattle.skiplist.specs.Image.{is-image, orders-in}
 use Rattle.skiplist.specs.Questions.{first-no, asks-image, asks-key, asks-range, asks-span, asks-seek, is-key, held, between, reserve, any-reserve}
 use Rattle.skiplist.specs.Book.{Call, refusal, done}
-use Rattle.skiplist.proofs.Parts.{Up, good-up}
-use Rattle.skiplist.proofs.Third.{image-parts}
-use Rattle.table.specs.Calls.{says, Edit-says, Put-says, Cancel-says, check-number, total-of, displayed-of, Look-says, Look-as, Span-says, Span-as, Sought, Seek-says, Seek-as}
+use Rattle.skiplist.proofs.Laws.Parts.{Up, good-up}
+use Rattle.skiplist.proofs.Laws.Third.{image-parts}
+use Rattle.table.specs.Calls.{says, Edit-says, Put-says, Cancel-says, check-number, total-of, displayed-of, Look-says, Look-as, Span-says, Span-as, Seek-gives, Seek-says, Seek-as}
 use Rattle.table.specs.Promise.{Act, put, cancel, lookup, span, seek, check, Does, Runs, Runs-exist}
 use Rattle.table.specs.declared.Reply.{Reply}
 use Rattle.table.proofs.Laws.Makes.{passes}
@@ -22,7 +22,7 @@ use Rattle.table.proofs.Laws.Alike.{here, there}
 -- an order that a seek may give, with a key from a on
 record Found (a : ℕ) (os : List Order) (lo hi l : ℕ) : Type 0 where
   reply : Reply
-  sought : Sought os lo hi l reply
+  sought : Seek-gives os lo hi l reply
   above : a ≤ reply .key
 
 held-more : (k : ℕ) (o : Order) (qs : List Order) (t : Bool) → held k qs ≡ true → held k (cond t (o ∷ qs) qs) ≡ true

@@ -1,4 +1,4 @@
--- Chunks that all stand, in as many full blocks as there are chunks: each stands once. Assumes nothing.
+-- Chunks that all stand, in as many full blocks as there are chunks: each stands once.
 use mathlib.Core.Path.{_≡_, refl, sym, ap, _∙_}
 use mathlib.Core.Bool.{Bool, true, false}
 use mathlib.Core.List.{List}
@@ -14,7 +14,7 @@ use Rattle.placement.specs.Chunks.{Chunk, label-before}
 use Rattle.placement.proofs.Laws.Blocks.{stored-long, stored-elsewhere}
 use Rattle.placement.proofs.Laws.Store.{before-store}
 use Rattle.placement.proofs.Laws.Placed.{Rising, store-count}
-use Rattle.skiplist.proofs.Rules.{fewer}
+use Rattle.skiplist.proofs.Laws.Rules.{fewer}
 
 module _ (m : ℕ) (some : zero < m) where
   pub once : (cs : List Chunk) (bs : List (Block Chunk)) → length bs ≡ m → Rising label-before cs → ((c : Chunk) → Among c cs → Stands m bs c) → how-many bs ≡ length cs →

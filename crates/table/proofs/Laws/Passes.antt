@@ -1,4 +1,4 @@
--- Laws of the pass over the blocks, and of its end. Assumes nothing.
+-- Laws of the pass over the blocks, and of its end.
 use mathlib.Core.Path.{_≡_, refl, sym, _∙_}
 use mathlib.Core.Bool.{Bool, true, false, _&&_, cond, and-true, and-assoc}
 use mathlib.Core.List.{List}

@@ -15,8 +15,8 @@ use Rattle.sizes.proofs.Laws.Sizes.{and-parts, limits}
 use Rattle.skiplist.specs.Image.{image, orders-in, quantities-good, orders-good, is-image}
 use Rattle.skiplist.specs.Questions.{first-no, asks-image}
 use Rattle.skiplist.specs.Book.{Call, book}
-use Rattle.skiplist.proofs.Parts.{good-parts}
-use Rattle.skiplist.proofs.Third.{image-parts, puts, book-puts}
+use Rattle.skiplist.proofs.Laws.Parts.{good-parts}
+use Rattle.skiplist.proofs.Laws.Third.{image-parts, puts, book-puts}
 use Rattle.table.specs.Calls.{check-number}
 use Rattle.table.specs.Promise.{Act, put, Runs, Made-by, left-by, word, in-range, all-in-range, Given, Demand-3-check, Runs-exist, Make-reaches}
 use Rattle.table.proofs.Laws.Makes.{passes, make-reaches, make-writes}

@@ -1,4 +1,4 @@
--- A walk that comes to its end reads partitions that open one another. Assumes nothing.
+-- A walk that comes to its end reads partitions that open one another.
 use mathlib.Core.Path.{_≡_, refl, sym, ap, _∙_, subst}
 use mathlib.Core.Bool.{Bool, true, false, _&&_, not, cond, false≢true}
 use mathlib.Core.List.{List, [], _∷_, _++_, append-assoc, append-nil}
@@ -19,8 +19,8 @@ use Rattle.placement.specs.declared.Order.{Order}
 use Rattle.placement.specs.declared.Found.{Found}
 use Rattle.sizes.proofs.Laws.Sizes.{and-parts}
 use Rattle.placement.proofs.Laws.Decoding.{nodes-count}
-use Rattle.skiplist.proofs.Count.{pieces, pieces-less}
-use Rattle.skiplist.proofs.Opens.{Exact, Nodes, Walks}
+use Rattle.skiplist.proofs.Laws.Count.{pieces, pieces-less}
+use Rattle.skiplist.proofs.Laws.Opens.{Exact, Nodes, Walks}
 use Rattle.table.specs.declared.Seen.{Seen}
 use Rattle.table.specs.Walk.{wrong-seen, quantities-ok, belongs-in, counts, counted, enters-ok, entered-seen, ended-seen, stops-at, node-good, spot, chunk-spot, count-in, chunk-by, chunks-by, opens-of}
 use Rattle.table.proofs.Laws.Came.{Weighs, Step, step-none, step-both, wrong-not, nodes-on, chunk-read, chunk-are}

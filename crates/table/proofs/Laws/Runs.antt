@@ -12,10 +12,10 @@ use Rattle.sizes.proofs.Laws.Sizes.{limits}
 use Rattle.skiplist.specs.Image.{image, is-image, orders-in}
 use Rattle.skiplist.specs.Questions.{sizes}
 use Rattle.skiplist.specs.Book.{Call, reading, booked, book, refusal, done, after}
-use Rattle.skiplist.specs.Promise.{Reads-back, Lists-image}
-use Rattle.skiplist.proofs.Kept.{Kept, kept-none, kept-book}
-use Rattle.skiplist.proofs.Third.{image-parts}
-use Rattle.skiplist.proofs.Readback.{reads-back, lists-image-holds}
+use Rattle.skiplist.specs.Promise.{Image-reads-back, Lists-image}
+use Rattle.skiplist.proofs.Laws.Kept.{Kept, kept-none, kept-book}
+use Rattle.skiplist.proofs.Laws.Third.{image-parts}
+use Rattle.skiplist.proofs.Laws.Readback.{reads-back, lists-image-holds}
 use Rattle.table.specs.Calls.{Edit-says, Put-says, Cancel-says}
 use Rattle.table.specs.Promise.{Act, put, cancel, lookup, span, seek, check, Does, Runs, Made-by, entered, left-by, Runs-fixed, Make-only}
 use Rattle.table.proofs.Laws.Makes.{make-only}
@@ -83,7 +83,7 @@ pub record Holds (s : Sizes) (os : List Order) (z : List ℕ) : Type 0 where
   pub sizes : sizes-in z ≡ s
 
 pub holds-image : (s : Sizes) (os : List Order) (z : List ℕ) → made s ≡ true → Kept s os → z ≡ image s os → Holds s os z
-unfolding Reads-back
+unfolding Image-reads-back
 holds-image s os z m k e =
     let q = reads-back s os m (k .good) (k .fit) in
     record { allowed = m; kept = k; bytes = e; good = ap is-image e ∙ q .0; orders = ap orders-in e ∙ q .1; sizes = ap sizes-in e ∙ q .2 }

@@ -1,4 +1,4 @@
--- SOUND: bytes that pass the check are an image. Assumes nothing.
+-- SOUND: bytes that pass the check are an image.
 use mathlib.Core.Path.{_≡_, refl, sym, ap, _∙_, subst}
 use mathlib.Core.Bool.{true}
 use mathlib.Core.List.{List, [], _∷_, map}
@@ -34,17 +34,17 @@ use Rattle.placement.proofs.Laws.Searched.{checked-keeps}
 use Rattle.skiplist.specs.Lists.{masked, chunks, blocks}
 use Rattle.skiplist.specs.Image.{image, fits, is-image}
 use Rattle.skiplist.specs.Rules.{Piece, Chunks-are}
-use Rattle.skiplist.specs.Promise.{Reads-back, One-arrangement}
-use Rattle.skiplist.proofs.Parts.{part}
-use Rattle.skiplist.proofs.Masks.{map-take, map-drop}
-use Rattle.skiplist.proofs.Faithful.{Filled, chunks-filled}
-use Rattle.skiplist.proofs.Kept.{fits-make}
-use Rattle.skiplist.proofs.Pieces.{chunks-are}
-use Rattle.skiplist.proofs.Rising.{chunks-rising}
-use Rattle.skiplist.proofs.Opens.{Heading}
-use Rattle.skiplist.proofs.Decode.{blocks-back}
-use Rattle.skiplist.proofs.Arranged.{one-arrangement}
-use Rattle.skiplist.proofs.Readback.{reads-back}
+use Rattle.skiplist.specs.Promise.{Image-reads-back, One-arrangement}
+use Rattle.skiplist.proofs.Laws.Parts.{part}
+use Rattle.skiplist.proofs.Laws.Masks.{map-take, map-drop}
+use Rattle.skiplist.proofs.Laws.Faithful.{Filled, chunks-filled}
+use Rattle.skiplist.proofs.Laws.Kept.{fits-make}
+use Rattle.skiplist.proofs.Laws.Pieces.{chunks-are}
+use Rattle.skiplist.proofs.Laws.Rising.{chunks-rising}
+use Rattle.skiplist.proofs.Laws.Opens.{Heading}
+use Rattle.skiplist.proofs.Laws.Decode.{blocks-back}
+use Rattle.skiplist.proofs.Laws.Arranged.{one-arrangement}
+use Rattle.skiplist.proofs.Laws.Readback.{reads-back}
 use Rattle.table.specs.Check.{check-passes}
 use Rattle.table.proofs.Laws.Counted.{met-all}
 use Rattle.table.proofs.Laws.Reading.{part-sound, piece-read}
@@ -180,7 +180,7 @@ module _ (bs : List ℕ) (u : Bytes bs) (a : Accepted bs) where
       sym (table .is ∙ rw (h, arranged))
 
   pub accepted-image : is-image bs ≡ true
-  unfolding Reads-back
+  unfolding Image-reads-back
   accepted-image = subst (λ (z : List ℕ). is-image z ≡ true) bytes-are (reads-back s os good (a .good) fit .0)
 
 -- SOUND

@@ -1,4 +1,4 @@
--- Blocks read back from bytes, one at a time: what a search found stands there. Assumes nothing.
+-- Blocks read back from bytes, one at a time: what a search found stands there.
 use mathlib.Core.Path.{_≡_, refl, sym, ap, _∙_, subst}
 use mathlib.Core.Bool.{Bool, true, false, _&&_, cond, true≢false, false≢true}
 use mathlib.Core.List.{List, [], _∷_}

@@ -1,4 +1,4 @@
--- Laws of what the walk's small functions give. Assumes nothing.
+-- Laws of what the walk's small functions give.
 use mathlib.Core.Path.{_≡_, refl, _∙_}
 use mathlib.Core.Bool.{Bool, true, false, and-false}
 use mathlib.Core.List.{List}

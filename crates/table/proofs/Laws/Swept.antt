@@ -1,4 +1,4 @@
--- The pass over the blocks: it counts the full ones, and where it is clean the unused bytes are zero. Assumes nothing.
+-- The pass over the blocks: it counts the full ones, and where it is clean the unused bytes are zero.
 use mathlib.Core.Path.{_≡_, refl, sym, ap, _∙_, subst}
 use mathlib.Core.Bool.{Bool, true, false, cond, false≢true}
 use mathlib.Core.List.{List, _∷_, map}

@@ -1,4 +1,4 @@
--- Over bytes where each search finds the chunk of its partition, a walk goes on exactly by the orders and chunks under a node. Assumes nothing.
+-- Over bytes where each search finds the chunk of its partition, a walk goes on exactly by the orders and chunks under a node.
 use mathlib.Core.Path.{_≡_, refl, sym, ap, _∙_, subst}
 use mathlib.Core.Bool.{Bool, true, false, cond, true≢false}
 use mathlib.Core.List.{List, [], _∷_, _++_, append-assoc, map}
@@ -17,8 +17,8 @@ use Rattle.placement.specs.Place.{found-at}
 use Rattle.sizes.specs.declared.Sizes.{Sizes}
 use Rattle.placement.specs.declared.Order.{Order}
 use Rattle.skiplist.specs.Lists.{masked}
-use Rattle.skiplist.proofs.Count.{pieces, pieces-less}
-use Rattle.skiplist.proofs.Opens.{Exact, Nodes, Walks, shape}
+use Rattle.skiplist.proofs.Laws.Count.{pieces, pieces-less}
+use Rattle.skiplist.proofs.Laws.Opens.{Exact, Nodes, Walks, shape}
 use Rattle.table.specs.declared.Seen.{Seen}
 use Rattle.table.specs.Walk.{nothing-in, quantities-ok, belongs-in, counts, counted, enters-ok, entered-seen, ended-seen, stops-at, node-good, spot, chunk-spot, count-in, chunk-by, chunks-by, opens-of}
 use Rattle.table.proofs.Laws.Came.{Rising, Step, rising-split, step-split, nodes-on, chunk-read, chunk-are}

@@ -22,9 +22,9 @@ use Rattle.skiplist.specs.Image.{image, into, all-into, gathered, orders-in, qu
 use Rattle.skiplist.specs.Questions.{Question, ask, first-no, is-key, held, without, with-order, order, between, reserve, any-reserve, asks-image, asks-put, asks-key, asks-range, asks-span, asks-seek}
 use Rattle.skiplist.specs.Book.{cancel, put-refusal, key-refusal, booked, refusal, done}
 use Rattle.skiplist.specs.Examples.{run-seed, run-sizes, empty-table, put-3, put-6}
-use Rattle.skiplist.proofs.Parts.{or-left, or-right, good-up}
-use Rattle.skiplist.proofs.Kept.{held-without, kept-none, kept-put, kept-cancel}
-use Rattle.skiplist.proofs.Third.{image-parts}
+use Rattle.skiplist.proofs.Laws.Parts.{or-left, or-right, good-up}
+use Rattle.skiplist.proofs.Laws.Kept.{held-without, kept-none, kept-put, kept-cancel}
+use Rattle.skiplist.proofs.Laws.Third.{image-parts}
 use Rattle.table.specs.Calls.{says, Edit-says, Put-says, Cancel-says, check-number, Look-says, Look-as, Span-says, Span-as, Seek-says, Seek-as}
 use Rattle.table.specs.declared.Reply.{Reply}
 use Rattle.table.proofs.Laws.Makes.{passes}

@@ -1,4 +1,4 @@
--- `console::answers::answer` meets its contract. Assumes nothing.
+-- `console::answers::answer` meets its contract.
 use borrow.Author.Needs.{needs}
 use Rattle.console.proofs.Laws.Steps.{step-make, not-make}
 use Rattle.console.proofs.answers.answer.Statement.{statement}

@@ -1,4 +1,4 @@
--- `console::answers::answer_blocks` meets its contract. Assumes nothing.
+-- `console::answers::answer_blocks` meets its contract.
 use borrow.Author.Needs.{needs}
 use Rattle.readings.proofs.Laws.Replies.{checked-yes}
 use Rattle.console.proofs.Laws.Blocks.{blocks-no, blocks-yes, front-image, front-lines}

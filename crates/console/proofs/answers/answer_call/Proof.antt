@@ -1,4 +1,4 @@
--- `console::answers::answer_call` meets its contract. Assumes nothing.
+-- `console::answers::answer_call` meets its contract.
 use borrow.Author.Needs.{needs}
 use Rattle.console.proofs.Laws.Steps.{step-put, step-cancel, step-show, step-span, step-seek, step-blocks, step-bad, bad-left}
 use Rattle.console.proofs.answers.answer_call.Statement.{statement}

@@ -1,4 +1,4 @@
--- `console::answers::answer_make` meets its contract. Assumes nothing.
+-- `console::answers::answer_make` meets its contract.
 use borrow.Author.Needs.{needs}
 use Rattle.console.proofs.Laws.Steps.{make-marked, make-refused, make-done}
 use Rattle.console.proofs.answers.answer_make.Statement.{statement}

@@ -1,4 +1,4 @@
--- `console::answers::answer_seek` meets its contract: each need follows from the laws listed. Assumes nothing.
+-- `console::answers::answer_seek` meets its contract: each need follows from the laws listed.
 use borrow.Author.Needs.{needs}
 use Rattle.console.proofs.Laws.Answers.{seek-no, seek-yes}
 use Rattle.console.proofs.answers.answer_seek.Statement.{statement}

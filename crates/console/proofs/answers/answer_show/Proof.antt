@@ -1,4 +1,4 @@
--- `console::answers::answer_show` meets its contract: each need follows from the laws listed. Assumes nothing.
+-- `console::answers::answer_show` meets its contract: each need follows from the laws listed.
 use borrow.Author.Needs.{needs}
 use Rattle.console.proofs.Laws.Answers.{show-no, show-yes}
 use Rattle.console.proofs.answers.answer_show.Statement.{statement}

@@ -1,4 +1,4 @@
--- `console::answers::answer_span` meets its contract. Assumes nothing.
+-- `console::answers::answer_span` meets its contract.
 use borrow.Author.Needs.{needs}
 use native.Mathlib.Omega.{arith}
 use Rattle.console.proofs.Laws.Answers.{span-no, span-yes}

@@ -1,4 +1,4 @@
--- `console::answers::head_row` meets its contract. Assumes nothing.
+-- `console::answers::head_row` meets its contract.
 use borrow.Author.Needs.{needs}
 use Rattle.console.proofs.Laws.Blocks.{head-made}
 use Rattle.console.proofs.answers.head_row.Statement.{statement}

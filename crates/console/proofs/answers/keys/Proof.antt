@@ -1,4 +1,4 @@
--- `console::answers::keys` meets its contract: each need follows from the laws listed. Assumes nothing.
+-- `console::answers::keys` meets its contract: each need follows from the laws listed.
 use borrow.Author.Needs.{needs}
 use Rattle.console.proofs.Laws.Blocks.{Keying, keying-start, keying-more, keying-end}
 use Prim.Native.Nat.{_-_}

@@ -1,4 +1,4 @@
--- `console::answers::room` meets its contract: each need follows from the laws listed. Assumes nothing.
+-- `console::answers::room` meets its contract: each need follows from the laws listed.
 use borrow.Author.Needs.{needs}
 use Rattle.console.proofs.Laws.Output.{room-made, room-kept}
 use Rattle.console.proofs.answers.room.Statement.{statement}

@@ -1,4 +1,4 @@
--- `console::answers::say` meets its contract: each need follows from the laws listed. Assumes nothing.
+-- `console::answers::say` meets its contract: each need follows from the laws listed.
 use borrow.Author.Needs.{needs}
 use Rattle.console.proofs.Laws.Output.{said-row}
 use Rattle.console.proofs.answers.say.Statement.{statement}

@@ -1,4 +1,4 @@
--- `console::answers::say_block` meets its contract. Assumes nothing.
+-- `console::answers::say_block` meets its contract.
 use borrow.Author.Needs.{needs}
 use Rattle.console.proofs.Laws.Blocks.{block-empty, block-full}
 use Rattle.console.proofs.answers.say_block.Statement.{statement}

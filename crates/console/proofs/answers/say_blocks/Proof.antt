@@ -1,4 +1,4 @@
--- `console::answers::say_blocks` meets its contract: each need follows from the laws listed. Assumes nothing.
+-- `console::answers::say_blocks` meets its contract: each need follows from the laws listed.
 use borrow.Author.Needs.{needs}
 use Rattle.console.proofs.Laws.Blocks.{Walking, walking-start, walking-room, walking-count, walking-more, walking-end}
 use Prim.Native.Nat.{_-_}

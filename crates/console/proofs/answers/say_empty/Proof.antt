@@ -1,4 +1,4 @@
--- `console::answers::say_empty` meets its contract: each need follows from the laws listed. Assumes nothing.
+-- `console::answers::say_empty` meets its contract: each need follows from the laws listed.
 use borrow.Author.Needs.{needs}
 use Rattle.console.proofs.Laws.Output.{said-dash}
 use Rattle.console.proofs.answers.say_empty.Statement.{statement}

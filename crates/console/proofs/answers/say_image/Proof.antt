@@ -1,4 +1,4 @@
--- `console::answers::say_image` meets its contract. Assumes nothing.
+-- `console::answers::say_image` meets its contract.
 use borrow.Author.Needs.{needs}
 use Rattle.console.proofs.Laws.Blocks.{laid}
 use Rattle.readings.proofs.Laws.Answers.{known-long}

@@ -1,4 +1,4 @@
--- `console::answers::say_order` meets its contract. Assumes nothing.
+-- `console::answers::say_order` meets its contract.
 use borrow.Author.Needs.{needs}
 use Rattle.console.proofs.Laws.Orders.{order-said}
 use Rattle.console.proofs.answers.say_order.Statement.{statement}

@@ -1,4 +1,4 @@
--- `console::answers::say_orders` meets its contract: each need follows from the laws listed. Assumes nothing.
+-- `console::answers::say_orders` meets its contract: each need follows from the laws listed.
 use borrow.Author.Needs.{needs}
 use Prim.Native.Nat.{_-_}
 use Rattle.console.proofs.Laws.Orders.{Saying, saying-start, saying-more, saying-end}

@@ -1,4 +1,4 @@
--- `console::answers::say_unknown` meets its contract: each need follows from the laws listed. Assumes nothing.
+-- `console::answers::say_unknown` meets its contract: each need follows from the laws listed.
 use borrow.Author.Needs.{needs}
 use Rattle.console.proofs.Laws.Output.{said-mark}
 use Rattle.console.proofs.answers.say_unknown.Statement.{statement}

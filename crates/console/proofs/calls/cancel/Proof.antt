@@ -1,4 +1,4 @@
--- `console::calls::cancel` meets its contract. Assumes nothing.
+-- `console::calls::cancel` meets its contract.
 use borrow.Author.Needs.{needs}
 use Rattle.console.proofs.Laws.Found.{front-back}
 use Rattle.console.proofs.calls.cancel.Statement.{statement}

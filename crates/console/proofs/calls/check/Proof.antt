@@ -1,4 +1,4 @@
--- `console::calls::check` meets its contract. Assumes nothing.
+-- `console::calls::check` meets its contract.
 use borrow.Author.Needs.{needs}
 use Rattle.console.proofs.Laws.Found.{front-check}
 use Rattle.console.proofs.calls.check.Statement.{statement}

@@ -1,4 +1,4 @@
--- `console::calls::make` meets its contract. Assumes nothing.
+-- `console::calls::make` meets its contract.
 use borrow.Author.Needs.{needs}
 use Rattle.console.proofs.Laws.Asked.{make-asked}
 use Rattle.console.proofs.Laws.Found.{front-back}

@@ -1,4 +1,4 @@
--- `console::calls::put` meets its contract. Assumes nothing.
+-- `console::calls::put` meets its contract.
 use borrow.Author.Needs.{needs}
 use Rattle.console.proofs.Laws.Found.{front-back}
 use Rattle.console.proofs.calls.put.Statement.{statement}

@@ -1,4 +1,4 @@
--- `console::calls::seek` meets its contract. Assumes nothing.
+-- `console::calls::seek` meets its contract.
 use borrow.Author.Needs.{needs}
 use Rattle.console.proofs.Laws.Found.{front-seek}
 use Rattle.console.proofs.calls.seek.Statement.{statement}

@@ -1,4 +1,4 @@
--- `console::calls::show` meets its contract. Assumes nothing.
+-- `console::calls::show` meets its contract.
 use borrow.Author.Needs.{needs}
 use Rattle.console.proofs.Laws.Found.{front-look}
 use Rattle.console.proofs.calls.show.Statement.{statement}

@@ -1,4 +1,4 @@
--- `console::calls::span` meets its contract. Assumes nothing.
+-- `console::calls::span` meets its contract.
 use borrow.Author.Needs.{needs}
 use Rattle.console.proofs.Laws.Found.{front-span}
 use Rattle.console.proofs.calls.span.Statement.{statement}

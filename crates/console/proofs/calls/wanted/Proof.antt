@@ -1,4 +1,4 @@
--- `console::calls::wanted` meets its contract: each need follows from the laws listed. Assumes nothing.
+-- `console::calls::wanted` meets its contract: each need follows from the laws listed.
 use borrow.Author.Needs.{needs}
 use Rattle.sizes.proofs.Laws.HeaderLoops.{good-nodes, good-blocks}
 use Rattle.console.proofs.Laws.Asked.{long-yes, long-no}

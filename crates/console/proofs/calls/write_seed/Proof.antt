@@ -1,4 +1,4 @@
--- `console::calls::write_seed` meets its contract: each need follows from the laws listed. Assumes nothing.
+-- `console::calls::write_seed` meets its contract: each need follows from the laws listed.
 use borrow.Author.Needs.{needs}
 use Prim.Native.Nat.{_-_}
 use Rattle.console.proofs.Laws.Asked.{Seeding, seeding-start, seeding-more, seeding-end}

@@ -1,4 +1,4 @@
--- `edits::changes::cancel` meets its contract: each need follows from the laws listed. Assumes nothing.
+-- `edits::changes::cancel` meets its contract: each need follows from the laws listed.
 use borrow.Author.Needs.{needs}
 use borrow.Author.Tests.{not-true, not-false}
 use Rattle.readings.proofs.Laws.Replies.{checked-yes, checked-no}

@@ -1,4 +1,4 @@
--- `edits::changes::cancel_held` meets its contract: each need follows from the laws listed. Assumes nothing.
+-- `edits::changes::cancel_held` meets its contract: each need follows from the laws listed.
 use borrow.Author.Needs.{needs}
 use Rattle.edits.proofs.Laws.TurnLoops.{Cancelling, cancelling-start, cancelling-more, cancelling-end}
 use Rattle.edits.proofs.changes.cancel_held.Statement.{statement}

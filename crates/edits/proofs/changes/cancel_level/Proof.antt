@@ -1,4 +1,4 @@
--- `edits::changes::cancel_level` meets its contract: each need follows from the laws listed. Assumes nothing.
+-- `edits::changes::cancel_level` meets its contract: each need follows from the laws listed.
 use borrow.Author.Needs.{needs}
 use Rattle.edits.proofs.Laws.CancelTurns.{cancel-turn-in, cancel-turn-below}
 use Rattle.edits.proofs.changes.cancel_level.Statement.{statement}

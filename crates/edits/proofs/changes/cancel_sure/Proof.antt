@@ -1,4 +1,4 @@
--- `edits::changes::cancel_sure` meets its contract: each need follows from the laws listed. Assumes nothing.
+-- `edits::changes::cancel_sure` meets its contract: each need follows from the laws listed.
 use borrow.Author.Needs.{needs}
 use Rattle.readings.proofs.Laws.Answers.{known-long}
 use Rattle.edits.proofs.Laws.EditAnswers.{image-shaped, image-gamma, image-gamma-some, image-orders, image-nodes, image-blocks, image-blocks-some, image-seeds, image-head-kept, sized}

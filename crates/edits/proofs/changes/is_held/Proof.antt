@@ -1,4 +1,4 @@
--- `edits::changes::is_held` meets its contract: each need follows from the laws listed. Assumes nothing.
+-- `edits::changes::is_held` meets its contract: each need follows from the laws listed.
 use borrow.Author.Needs.{needs}
 use Rattle.edits.proofs.Laws.Sightings.{seen-is, unseen-is}
 use Rattle.edits.proofs.changes.is_held.Statement.{statement}

@@ -1,4 +1,4 @@
--- `edits::changes::put` meets its contract: each need follows from the laws listed. Assumes nothing.
+-- `edits::changes::put` meets its contract: each need follows from the laws listed.
 use borrow.Author.Needs.{needs}
 use borrow.Author.Tests.{not-true, not-false}
 use Rattle.edits.proofs.Laws.EditAnswers.{examined-yes, examined-no, examined-full, key-yes, key-no, put-no-4, put-no-5, put-no-6-none, put-no-6-less, put-sure}

@@ -1,4 +1,4 @@
--- `edits::changes::put_free` meets its contract: each need follows from the laws listed. Assumes nothing.
+-- `edits::changes::put_free` meets its contract: each need follows from the laws listed.
 use borrow.Author.Needs.{needs}
 use Rattle.readings.proofs.Laws.Answers.{known-long}
 use Rattle.edits.proofs.Laws.EditAnswers.{image-shaped, image-nodes, image-head-kept, held-next}

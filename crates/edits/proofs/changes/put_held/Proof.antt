@@ -1,4 +1,4 @@
--- `edits::changes::put_held` meets its contract: each need follows from the laws listed. Assumes nothing.
+-- `edits::changes::put_held` meets its contract: each need follows from the laws listed.
 use borrow.Author.Needs.{needs}
 use Rattle.edits.proofs.Laws.Helds.{put-held-high, put-held-low}
 use Rattle.edits.proofs.changes.put_held.Statement.{statement}

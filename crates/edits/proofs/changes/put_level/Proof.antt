@@ -1,4 +1,4 @@
--- `edits::changes::put_level` meets its contract: each need follows from the laws listed. Assumes nothing.
+-- `edits::changes::put_level` meets its contract: each need follows from the laws listed.
 use borrow.Author.Needs.{needs}
 use Rattle.edits.proofs.Laws.PutTurns.{put-turn-in, put-turn-below}
 use Rattle.edits.proofs.changes.put_level.Statement.{statement}

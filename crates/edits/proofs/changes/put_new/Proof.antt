@@ -1,4 +1,4 @@
--- `edits::changes::put_new` meets its contract: each need follows from the laws listed. Assumes nothing.
+-- `edits::changes::put_new` meets its contract: each need follows from the laws listed.
 use borrow.Author.Needs.{needs}
 use Rattle.edits.proofs.Laws.TurnLoops.{Putting, putting-start, putting-more, putting-end}
 use Rattle.edits.proofs.changes.put_new.Statement.{statement}

@@ -1,4 +1,4 @@
--- `edits::changes::put_sure` meets its contract: each need follows from the laws listed. Assumes nothing.
+-- `edits::changes::put_sure` meets its contract: each need follows from the laws listed.
 use borrow.Author.Needs.{needs}
 use borrow.Author.Tests.{not-true, not-false}
 use Rattle.edits.proofs.Laws.Sightings.{told-held, told-free}

@@ -1,4 +1,4 @@
--- `levels::edit::put_in` meets its contract: each need follows from the laws listed. Assumes nothing.
+-- `levels::edit::put_in` meets its contract: each need follows from the laws listed.
 use borrow.Author.Needs.{needs}
 use mathlib.Core.Path.{refl}
 use native.Mathlib.Omega.{arith}

@@ -1,4 +1,4 @@
--- `levels::edit::write_node` meets its contract: each need follows from the laws listed. Assumes nothing.
+-- `levels::edit::write_node` meets its contract: each need follows from the laws listed.
 use borrow.Author.Needs.{needs}
 use Rattle.levels.proofs.Laws.CarryFronts.{node-first, node-other}
 use Rattle.levels.proofs.edit.write_node.Statement.{statement}

@@ -1,4 +1,4 @@
--- `levels::growth::grown` meets its contract: each need follows from the laws listed. Assumes nothing.
+-- `levels::growth::grown` meets its contract: each need follows from the laws listed.
 use borrow.Author.Needs.{needs}
 use Rattle.levels.proofs.Laws.Growing.{same-less, grown-same, under-less, grown-under}
 use Rattle.levels.proofs.growth.grown.Statement.{statement}

@@ -1,4 +1,4 @@
--- `levels::growth::growth` meets its contract: each need follows from the laws listed. Assumes nothing.
+-- `levels::growth::growth` meets its contract: each need follows from the laws listed.
 use borrow.Author.Needs.{needs}
 use Rattle.levels.proofs.Laws.Growing.{Growing, growing-start, growing-more, growing-end}
 use Rattle.levels.proofs.growth.growth.Statement.{statement}

@@ -1,4 +1,4 @@
--- `levels::growth::lead` meets its contract: each need follows from the laws listed. Assumes nothing.
+-- `levels::growth::lead` meets its contract: each need follows from the laws listed.
 use borrow.Author.Needs.{needs}
 use Rattle.levels.proofs.Laws.Growing.{Lowering, lowering-start, lowering-more, lowering-end}
 use Rattle.levels.proofs.growth.lead.Statement.{statement}

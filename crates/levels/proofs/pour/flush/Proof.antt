@@ -1,4 +1,4 @@
--- `levels::pour::flush` meets its contract: each need follows from the laws listed. Assumes nothing.
+-- `levels::pour::flush` meets its contract: each need follows from the laws listed.
 use borrow.Author.Needs.{needs}
 use mathlib.Core.Path.{refl}
 use mathlib.Core.Logic.{inr}

@@ -1,4 +1,4 @@
--- `levels::pour::read` meets its contract: each need follows from the laws listed. Assumes nothing.
+-- `levels::pour::read` meets its contract: each need follows from the laws listed.
 use borrow.Author.Needs.{needs}
 use mathlib.Core.Path.{refl}
 use native.Mathlib.Omega.{arith}

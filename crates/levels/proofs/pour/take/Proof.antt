@@ -1,4 +1,4 @@
--- `levels::pour::take` meets its contract: each need follows from the laws listed. Assumes nothing.
+-- `levels::pour::take` meets its contract: each need follows from the laws listed.
 use borrow.Author.Needs.{needs}
 use Rattle.placement.proofs.Laws.Loops.{shaped-same}
 use Rattle.levels.proofs.Laws.Takes.{take-made}

@@ -1,4 +1,4 @@
--- `levels::pour::write_some` meets its contract: each need follows from the laws listed. Assumes nothing.
+-- `levels::pour::write_some` meets its contract: each need follows from the laws listed.
 use borrow.Author.Needs.{needs}
 use native.Mathlib.Omega.{arith}
 use Rattle.placement.proofs.Laws.Loops.{shaped-same}

@@ -1,4 +1,4 @@
--- `levels::shift::shift` meets its contract: each need follows from the laws listed. Assumes nothing.
+-- `levels::shift::shift` meets its contract: each need follows from the laws listed.
 use borrow.Author.Needs.{needs}
 use Prim.Native.Nat.{_+_, _-_}
 use native.Mathlib.Omega.{arith}

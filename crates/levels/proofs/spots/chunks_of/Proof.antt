@@ -1,4 +1,4 @@
--- `levels::spots::chunks_of` meets its contract: each need follows from the laws listed. Assumes nothing.
+-- `levels::spots::chunks_of` meets its contract: each need follows from the laws listed.
 use borrow.Author.Needs.{needs}
 use Prim.Native.Nat.{_-_}
 use native.Mathlib.Nat.{div-le-self}

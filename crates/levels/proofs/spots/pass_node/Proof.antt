@@ -1,4 +1,4 @@
--- `levels::spots::pass_node` meets its contract: each need follows from the laws listed. Assumes nothing.
+-- `levels::spots::pass_node` meets its contract: each need follows from the laws listed.
 use borrow.Author.Needs.{needs}
 use Rattle.levels.proofs.Laws.Scanning.{passed-low, passed-high}
 use Rattle.levels.proofs.spots.pass_node.Statement.{statement}

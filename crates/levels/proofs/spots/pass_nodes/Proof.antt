@@ -1,4 +1,4 @@
--- `levels::spots::pass_nodes` meets its contract: each need follows from the laws listed. Assumes nothing.
+-- `levels::spots::pass_nodes` meets its contract: each need follows from the laws listed.
 use borrow.Author.Needs.{needs}
 use Prim.Native.Nat.{_-_}
 use Rattle.levels.proofs.Laws.Scanning.{Passing, passing-start, passing-more, passing-end}

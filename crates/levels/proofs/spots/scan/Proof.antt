@@ -1,4 +1,4 @@
--- `levels::spots::scan` meets its contract: `spot_in` looked at the whole partition. Assumes nothing.
+-- `levels::spots::scan` meets its contract: `spot_in` looked at the whole partition.
 use mathlib.Core.Path.{refl}
 use borrow.Author.Needs.{needs}
 use Rattle.levels.proofs.spots.scan.Statement.{statement}

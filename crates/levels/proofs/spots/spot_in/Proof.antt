@@ -1,4 +1,4 @@
--- `levels::spots::spot_in` meets its contract: each need follows from the laws listed. Assumes nothing.
+-- `levels::spots::spot_in` meets its contract: each need follows from the laws listed.
 use borrow.Author.Needs.{needs}
 use borrow.Author.Tests.{not-true}
 use Prim.Native.Nat.{_-_}

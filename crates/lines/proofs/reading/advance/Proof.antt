@@ -1,4 +1,4 @@
--- `lines::reading::advance` meets its contract: each need follows from the laws listed. Assumes nothing.
+-- `lines::reading::advance` meets its contract: each need follows from the laws listed.
 use borrow.Author.Needs.{needs}
 use Prim.Native.Nat.{_-_}
 use lib.ListN.{length}

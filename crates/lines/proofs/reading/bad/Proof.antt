@@ -1,4 +1,4 @@
--- `lines::reading::bad` meets its contract: each need follows from the laws listed. Assumes nothing.
+-- `lines::reading::bad` meets its contract: each need follows from the laws listed.
 use mathlib.Core.Path.{refl}
 use Rattle.lines.specs.Machine.{spoilt}
 use Rattle.lines.proofs.reading.bad.Statement.{statement}

@@ -1,4 +1,4 @@
--- `lines::reading::call_of` meets its contract: each need follows from the laws listed. Assumes nothing.
+-- `lines::reading::call_of` meets its contract: each need follows from the laws listed.
 use borrow.Author.Needs.{needs}
 use Rattle.lines.proofs.Laws.Steps.{call-1, call-2, call-3, call-4, call-5, call-6, call-7, call-8}
 use Rattle.lines.proofs.reading.call_of.Statement.{statement}

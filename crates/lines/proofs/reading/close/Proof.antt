@@ -1,4 +1,4 @@
--- `lines::reading::close` meets its contract: each need follows from the laws listed. Assumes nothing.
+-- `lines::reading::close` meets its contract: each need follows from the laws listed.
 use borrow.Author.Needs.{needs}
 use Rattle.lines.proofs.Laws.Steps.{closes}
 use Rattle.lines.proofs.reading.close.Statement.{statement}

@@ -1,4 +1,4 @@
--- `lines::reading::cut` meets its contract: each need follows from the laws listed. Assumes nothing.
+-- `lines::reading::cut` meets its contract: each need follows from the laws listed.
 use borrow.Author.Needs.{needs}
 use borrow.Author.Tests.{not-true, not-false}
 use Rattle.lines.proofs.Laws.Steps.{cut-empty, cut-late, cut-kept}

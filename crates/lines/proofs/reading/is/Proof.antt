@@ -1,4 +1,4 @@
--- `lines::reading::is` meets its contract: each need follows from the laws listed. Assumes nothing.
+-- `lines::reading::is` meets its contract: each need follows from the laws listed.
 use borrow.Author.Needs.{needs}
 use Rattle.lines.proofs.Laws.Steps.{is-other, is-same}
 use Rattle.lines.proofs.reading.is.Statement.{statement}

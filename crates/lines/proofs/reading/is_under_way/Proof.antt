@@ -1,4 +1,4 @@
--- `lines::reading::is_under_way` meets its contract: each need follows from the laws listed. Assumes nothing.
+-- `lines::reading::is_under_way` meets its contract: each need follows from the laws listed.
 use borrow.Author.Needs.{needs}
 use borrow.Author.Tests.{not-true, not-false}
 use Rattle.lines.proofs.Laws.Steps.{way-bad, way-some, way-count}

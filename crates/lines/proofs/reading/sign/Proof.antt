@@ -1,4 +1,4 @@
--- `lines::reading::sign` meets its contract: each need follows from the laws listed. Assumes nothing.
+-- `lines::reading::sign` meets its contract: each need follows from the laws listed.
 use borrow.Author.Needs.{needs}
 use native.Mathlib.Omega.{arith}
 use Rattle.lines.proofs.Laws.Steps.{product-fits, sum-fits, sign-low, sign-high, sign-over, sign-kept}

@@ -1,4 +1,4 @@
--- `lines::reading::start` meets its contract: each need follows from the laws listed. Assumes nothing.
+-- `lines::reading::start` meets its contract: each need follows from the laws listed.
 use mathlib.Core.Path.{refl}
 use Rattle.lines.specs.Machine.{beginning, fresh}
 use Rattle.lines.proofs.reading.start.Statement.{statement}

@@ -1,4 +1,4 @@
--- `lines::writing::put_number` meets its contract: each need follows from the laws listed. The number itself falls. Assumes nothing.
+-- `lines::writing::put_number` meets its contract: each need follows from the laws listed. The number itself falls.
 use borrow.Author.Needs.{needs}
 use native.Mathlib.Omega.{arith}
 use Prim.Native.Nat.{ℕ, _<_}

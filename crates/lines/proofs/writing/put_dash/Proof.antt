@@ -1,4 +1,4 @@
--- `lines::writing::put_dash` meets its contract: each need follows from the laws listed. Assumes nothing.
+-- `lines::writing::put_dash` meets its contract: each need follows from the laws listed.
 use borrow.Author.Needs.{needs}
 use Rattle.lines.proofs.Laws.Writing.{dash-number, dash-byte, dash-mark, dash-end, dash-long}
 use Rattle.lines.proofs.writing.put_dash.Statement.{statement}

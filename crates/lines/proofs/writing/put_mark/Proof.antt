@@ -1,4 +1,4 @@
--- `lines::writing::put_mark` meets its contract: each need follows from the laws listed. Assumes nothing.
+-- `lines::writing::put_mark` meets its contract: each need follows from the laws listed.
 use borrow.Author.Needs.{needs}
 use Rattle.lines.proofs.Laws.Writing.{mark-room, mark-end, put-longs}
 use Rattle.lines.proofs.writing.put_mark.Statement.{statement}

@@ -1,4 +1,4 @@
--- `lines::writing::put_parted` meets its contract: each need follows from the laws listed. Assumes nothing.
+-- `lines::writing::put_parted` meets its contract: each need follows from the laws listed.
 use borrow.Author.Needs.{needs}
 use Prim.Native.Nat.{_-_}
 use lib.ListN.{length}

@@ -1,4 +1,4 @@
--- `lines::writing::put_row` meets its contract: each need follows from the laws listed. Assumes nothing.
+-- `lines::writing::put_row` meets its contract: each need follows from the laws listed.
 use borrow.Author.Needs.{needs}
 use Rattle.lines.proofs.Laws.Writing.{row-room, row-others, row-byte, row-end, row-long}
 use Rattle.lines.proofs.writing.put_row.Statement.{statement}

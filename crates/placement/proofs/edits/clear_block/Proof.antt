@@ -1,4 +1,4 @@
--- `placement::edits::clear_block` meets its contract: each need follows from the laws listed. Assumes nothing.
+-- `placement::edits::clear_block` meets its contract: each need follows from the laws listed.
 use borrow.Author.Needs.{needs}
 use Rattle.sizes.proofs.Laws.Parts.{clear-made}
 use Rattle.placement.proofs.edits.clear_block.Statement.{statement}

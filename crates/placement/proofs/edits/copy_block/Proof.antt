@@ -1,4 +1,4 @@
--- `placement::edits::copy_block` meets its contract: each need follows from the laws listed. Assumes nothing.
+-- `placement::edits::copy_block` meets its contract: each need follows from the laws listed.
 use borrow.Author.Needs.{needs}
 use Rattle.sizes.proofs.Laws.Parts.{forward-at, copy-made}
 use Rattle.placement.proofs.edits.copy_block.Statement.{statement}

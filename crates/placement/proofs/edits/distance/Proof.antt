@@ -1,4 +1,4 @@
--- `placement::distance` meets its contract: each need follows from the laws listed. Assumes nothing.
+-- `placement::distance` meets its contract: each need follows from the laws listed.
 use borrow.Author.Needs.{needs}
 use Rattle.placement.proofs.Laws.Loops.{distance-made, mod-below}
 use Rattle.placement.proofs.edits.distance.Statement.{statement}

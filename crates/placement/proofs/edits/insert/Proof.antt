@@ -1,4 +1,4 @@
--- `placement::insert` meets its contract: each need follows from the laws listed. Assumes nothing.
+-- `placement::insert` meets its contract: each need follows from the laws listed.
 use borrow.Author.Needs.{needs}
 use native.Mathlib.Omega.{arith}
 use Rattle.placement.proofs.Laws.Loops.{free-at, inserted-none, inserted-found, inserted-made, inserted-same}

@@ -1,4 +1,4 @@
--- `placement::pull_one` meets its contract: each need follows from the laws listed. Assumes nothing.
+-- `placement::pull_one` meets its contract: each need follows from the laws listed.
 use borrow.Author.Needs.{needs}
 use Rattle.placement.proofs.Laws.Loops.{pulled-stay, pulled-move}
 use Rattle.placement.proofs.edits.pull_one.Statement.{statement}

@@ -1,4 +1,4 @@
--- `placement::remove` meets its contract: each need follows from the laws listed. Assumes nothing.
+-- `placement::remove` meets its contract: each need follows from the laws listed.
 use borrow.Author.Needs.{needs}
 use Rattle.placement.proofs.Laws.Loops.{search-below, out-none, out-at, found-none, found-some}
 use Rattle.placement.proofs.edits.remove.Statement.{statement}

@@ -1,4 +1,4 @@
--- `placement::settle_in` meets its contract: each need follows from the laws listed. Assumes nothing.
+-- `placement::settle_in` meets its contract: each need follows from the laws listed.
 use borrow.Author.Needs.{needs}
 use Prim.Native.Nat.{_-_}
 use native.Mathlib.Nat.{mod-lt}

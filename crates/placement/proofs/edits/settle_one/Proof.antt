@@ -1,4 +1,4 @@
--- `placement::settle_one` meets its contract: each need follows from the laws listed. Assumes nothing.
+-- `placement::settle_one` meets its contract: each need follows from the laws listed.
 use borrow.Author.Needs.{needs}
 use Rattle.placement.proofs.Laws.Loops.{before-differs, picks-first, picks-second}
 use Rattle.placement.proofs.edits.settle_one.Statement.{statement}

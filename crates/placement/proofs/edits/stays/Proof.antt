@@ -1,4 +1,4 @@
--- `placement::stays` meets its contract: each need follows from the laws listed. Assumes nothing.
+-- `placement::stays` meets its contract: each need follows from the laws listed.
 use borrow.Author.Needs.{needs}
 use Rattle.placement.proofs.Laws.Loops.{stays-none, stays-some}
 use Rattle.placement.proofs.edits.stays.Statement.{statement}

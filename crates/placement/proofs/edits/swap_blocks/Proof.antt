@@ -1,4 +1,4 @@
--- `placement::edits::swap_blocks` meets its contract: each need follows from the laws listed. Assumes nothing.
+-- `placement::edits::swap_blocks` meets its contract: each need follows from the laws listed.
 use borrow.Author.Needs.{needs}
 use Rattle.sizes.proofs.Laws.Parts.{apart-at, swap-made}
 use Rattle.placement.proofs.edits.swap_blocks.Statement.{statement}

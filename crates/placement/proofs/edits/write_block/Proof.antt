@@ -1,4 +1,4 @@
--- `placement::edits::write_block` meets its contract: each need follows from the laws listed. Assumes nothing.
+-- `placement::edits::write_block` meets its contract: each need follows from the laws listed.
 use borrow.Author.Needs.{needs}
 use Rattle.sizes.proofs.Laws.Parts.{length-part}
 use Rattle.placement.proofs.Laws.Loops.{block-made}

@@ -1,4 +1,4 @@
--- `placement::write_head` meets its contract: each need follows from the laws listed. Assumes nothing.
+-- `placement::write_head` meets its contract: each need follows from the laws listed.
 use borrow.Author.Needs.{needs}
 use Rattle.placement.proofs.Laws.Loops.{head-made}
 use Rattle.placement.proofs.edits.write_head.Statement.{statement}

@@ -1,4 +1,4 @@
--- `placement::before` meets its contract: each need follows from the laws listed. Assumes nothing.
+-- `placement::before` meets its contract: each need follows from the laws listed.
 use borrow.Author.Needs.{needs}
 use Rattle.placement.proofs.Laws.Order.{before-level, before-first, before-number}
 use Rattle.placement.proofs.labels.before.Statement.{statement}

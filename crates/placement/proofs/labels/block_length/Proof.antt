@@ -1,4 +1,4 @@
--- `placement::labels::block_length` meets its contract. Assumes nothing.
+-- `placement::labels::block_length` meets its contract.
 use borrow.Author.Needs.{needs}
 use Rattle.sizes.specs.Header.{block-long}
 use Rattle.placement.proofs.labels.block_length.Statement.{statement}

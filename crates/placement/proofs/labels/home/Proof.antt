@@ -1,4 +1,4 @@
--- `placement::labels::home` meets its contract: each need follows from the laws listed. Assumes nothing.
+-- `placement::labels::home` meets its contract: each need follows from the laws listed.
 use borrow.Author.Needs.{needs}
 use native.Mathlib.Nat.{mod-lt}
 use Rattle.placement.proofs.Laws.Loops.{home-made, mod-fits}

@@ -1,4 +1,4 @@
--- `placement::labels::home_over` meets its contract: each need follows from the laws listed. Assumes nothing.
+-- `placement::labels::home_over` meets its contract: each need follows from the laws listed.
 use borrow.Author.Needs.{needs}
 use Rattle.placement.proofs.Laws.Loops.{home-below, home-past}
 use Rattle.placement.proofs.labels.home_over.Statement.{statement}

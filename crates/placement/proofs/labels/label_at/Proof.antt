@@ -1,4 +1,4 @@
--- `placement::labels::label_at` meets its contract: each need follows from the laws listed. Assumes nothing.
+-- `placement::labels::label_at` meets its contract: each need follows from the laws listed.
 use borrow.Author.Needs.{needs}
 use Rattle.placement.proofs.Laws.Loops.{label-made}
 use Rattle.placement.proofs.labels.label_at.Statement.{statement}

@@ -1,4 +1,4 @@
--- `placement::labels::offset` meets its contract: each need follows from the laws listed. Assumes nothing.
+-- `placement::labels::offset` meets its contract: each need follows from the laws listed.
 use borrow.Author.Needs.{needs}
 use Rattle.sizes.proofs.Laws.Bytes.{offset-fits, offset-sum, offset-is, offset-end}
 use Rattle.placement.proofs.labels.offset.Statement.{statement}

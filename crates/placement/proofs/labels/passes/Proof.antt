@@ -1,4 +1,4 @@
--- `placement::passes` meets its contract: each need follows from the laws listed. Assumes nothing.
+-- `placement::passes` meets its contract: each need follows from the laws listed.
 use borrow.Author.Needs.{needs}
 use Rattle.placement.proofs.Laws.Loops.{passes-empty, passes-held}
 use Rattle.placement.proofs.labels.passes.Statement.{statement}

@@ -1,4 +1,4 @@
--- `placement::labels::passes_at` meets its contract: each need follows from the laws listed. Assumes nothing.
+-- `placement::labels::passes_at` meets its contract: each need follows from the laws listed.
 use borrow.Author.Needs.{needs}
 use Rattle.placement.proofs.Laws.Loops.{passes-none, passes-level, passes-there}
 use Rattle.placement.proofs.labels.passes_at.Statement.{statement}

@@ -1,4 +1,4 @@
--- `placement::search::around` meets its contract: each need follows from the laws listed. Assumes nothing.
+-- `placement::search::around` meets its contract: each need follows from the laws listed.
 use borrow.Author.Needs.{needs}
 use Rattle.placement.proofs.Laws.Loops.{around-inside, around-first}
 use Rattle.placement.proofs.search.around.Statement.{statement}

@@ -1,4 +1,4 @@
--- `placement::count_at` meets its contract: each need follows from the laws listed. Assumes nothing.
+-- `placement::count_at` meets its contract: each need follows from the laws listed.
 use borrow.Author.Needs.{needs}
 use Rattle.placement.proofs.Laws.Loops.{byte-at}
 use Rattle.placement.proofs.search.count_at.Statement.{statement}

@@ -1,4 +1,4 @@
--- `placement::search::ends_at_once` meets its contract: each need follows from the laws listed. Assumes nothing.
+-- `placement::search::ends_at_once` meets its contract: each need follows from the laws listed.
 use borrow.Author.Needs.{needs}
 use Rattle.sizes.proofs.Laws.Hashes.{hash-below}
 use Rattle.placement.proofs.Laws.Loops.{empty-says}

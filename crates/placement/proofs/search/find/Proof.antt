@@ -1,4 +1,4 @@
--- `placement::search::find` meets its contract: each need follows from the laws listed. Assumes nothing.
+-- `placement::search::find` meets its contract: each need follows from the laws listed.
 use borrow.Author.Needs.{needs}
 use Rattle.placement.proofs.Laws.Loops.{home-search}
 use Rattle.placement.proofs.search.find.Statement.{statement}

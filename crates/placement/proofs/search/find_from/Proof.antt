@@ -1,4 +1,4 @@
--- `placement::search::find_from` meets its contract: each need follows from the laws listed. Assumes nothing.
+-- `placement::search::find_from` meets its contract: each need follows from the laws listed.
 use borrow.Author.Needs.{needs}
 use Rattle.placement.specs.Place.{label-in}
 use Rattle.placement.proofs.Laws.Loops.{Probing, probing-start, probing-end, probing-more, probing-same, probing-other}

@@ -1,4 +1,4 @@
--- `placement::free` meets its contract: each need follows from the laws listed. Assumes nothing.
+-- `placement::free` meets its contract: each need follows from the laws listed.
 use borrow.Author.Needs.{needs}
 use Prim.Native.Nat.{_-_}
 use Rattle.placement.specs.Place.{label-in}

@@ -1,4 +1,4 @@
--- `placement::search::past_lower` meets its contract: each need follows from the laws listed. Assumes nothing.
+-- `placement::search::past_lower` meets its contract: each need follows from the laws listed.
 use borrow.Author.Needs.{needs}
 use Prim.Native.Nat.{_-_}
 use Rattle.sizes.specs.Header.{block-long}

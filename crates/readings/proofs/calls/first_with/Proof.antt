@@ -1,4 +1,4 @@
--- `readings::calls::first_with` meets its contract: each need follows from the laws listed. Assumes nothing.
+-- `readings::calls::first_with` meets its contract: each need follows from the laws listed.
 use borrow.Author.Needs.{needs}
 use Rattle.readings.proofs.Laws.Answers.{sought-none, sought-some}
 use Rattle.readings.proofs.calls.first_with.Statement.{statement}

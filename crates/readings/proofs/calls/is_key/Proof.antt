@@ -1,4 +1,4 @@
--- `readings::calls::is_key` meets its contract: each need follows from the laws listed. Assumes nothing.
+-- `readings::calls::is_key` meets its contract: each need follows from the laws listed.
 use borrow.Author.Needs.{needs}
 use Rattle.readings.proofs.Laws.Answers.{key-zero, key-some}
 use Rattle.readings.proofs.calls.is_key.Statement.{statement}

@@ -1,4 +1,4 @@
--- `readings::calls::lookup` meets its contract: each need follows from the laws listed. Assumes nothing.
+-- `readings::calls::lookup` meets its contract: each need follows from the laws listed.
 use borrow.Author.Needs.{needs}
 use borrow.Author.Tests.{not-true, not-false}
 use mathlib.Core.Path.{refl}

@@ -1,4 +1,4 @@
--- `readings::calls::range` meets its contract: each need follows from the laws listed. Assumes nothing.
+-- `readings::calls::range` meets its contract: each need follows from the laws listed.
 use borrow.Author.Needs.{needs}
 use borrow.Author.Tests.{not-true, not-false}
 use Rattle.readings.proofs.Laws.Replies.{checked-yes, checked-no, range-4, range-low, range-high, range-10, range-good}

@@ -1,4 +1,4 @@
--- `readings::calls::refused` meets its contract: each need follows from the laws listed. Assumes nothing.
+-- `readings::calls::refused` meets its contract: each need follows from the laws listed.
 use borrow.Author.Needs.{needs}
 use Rattle.readings.proofs.Laws.Answers.{refusal-made}
 use Rattle.readings.proofs.calls.refused.Statement.{statement}

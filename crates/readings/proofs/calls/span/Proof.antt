@@ -1,4 +1,4 @@
--- `readings::calls::span` meets its contract: each need follows from the laws listed. Assumes nothing.
+-- `readings::calls::span` meets its contract: each need follows from the laws listed.
 use borrow.Author.Needs.{needs}
 use mathlib.Core.Path.{refl}
 use Rattle.readings.proofs.Laws.Replies.{range-asked, span-turned, span-11, span-written}

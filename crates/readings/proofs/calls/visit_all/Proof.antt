@@ -1,4 +1,4 @@
--- `readings::calls::visit_all` meets its contract: each need follows from the laws listed. Assumes nothing.
+-- `readings::calls::visit_all` meets its contract: each need follows from the laws listed.
 use borrow.Author.Needs.{needs}
 use Rattle.readings.proofs.Laws.Tours.{length-kept}
 use Rattle.readings.proofs.Laws.Answers.{known-at, known-long, known-sizes, visit-whole}

@@ -1,4 +1,4 @@
--- `readings::descent::node_there` meets its contract: each need follows from the laws listed. Assumes nothing.
+-- `readings::descent::node_there` meets its contract: each need follows from the laws listed.
 use borrow.Author.Needs.{needs}
 use Rattle.placement.proofs.Laws.Loops.{search-below}
 use Rattle.readings.proofs.Laws.Descents.{there-none, there-short, there-other, there-found, node-room}

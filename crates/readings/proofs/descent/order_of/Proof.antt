@@ -1,4 +1,4 @@
--- `readings::descent::order_of` meets its contract: each need follows from the laws listed. Assumes nothing.
+-- `readings::descent::order_of` meets its contract: each need follows from the laws listed.
 use borrow.Author.Needs.{needs}
 use Rattle.readings.proofs.Laws.Answers.{known-at, known-long, known-sizes}
 use Rattle.readings.proofs.Laws.Descents.{known-level, known-nodes, order-high, order-low}

@@ -1,5 +1,5 @@
 -- The visit meets its contract: two functions that call each other, the level falling.
--- Each need, in the order of the code, follows from the laws listed, or from one law at the facts named. Assumes nothing.
+-- Each need, in the order of the code, follows from the laws listed, or from one law at the facts named.
 use borrow.Author.Needs.{needs}
 use borrow.Author.Tests.{not-true, not-false}
 use Prim.Native.Nat.{ℕ, _<_, _+_, _*_, _-_}

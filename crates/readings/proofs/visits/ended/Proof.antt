@@ -1,4 +1,4 @@
--- `readings::visits::ended` meets its contract: each need follows from the laws listed. Assumes nothing.
+-- `readings::visits::ended` meets its contract: each need follows from the laws listed.
 use mathlib.Core.Path.{refl}
 use Rattle.readings.specs.Visit.{ended-visit}
 use Rattle.readings.proofs.visits.ended.Statement.{statement}

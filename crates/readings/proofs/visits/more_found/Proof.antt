@@ -1,4 +1,4 @@
--- `readings::visits::more_found` meets its contract: each need follows from the laws listed. Assumes nothing.
+-- `readings::visits::more_found` meets its contract: each need follows from the laws listed.
 use borrow.Author.Needs.{needs}
 use Rattle.readings.proofs.Laws.Visits.{found-made}
 use Rattle.readings.proofs.visits.more_found.Statement.{statement}

@@ -1,4 +1,4 @@
--- `readings::visits::next` meets its contract: each need follows from the laws listed. Assumes nothing.
+-- `readings::visits::next` meets its contract: each need follows from the laws listed.
 use borrow.Author.Needs.{needs}
 use Rattle.readings.proofs.Laws.Visits.{next-more, next-same}
 use Rattle.readings.proofs.visits.next.Statement.{statement}

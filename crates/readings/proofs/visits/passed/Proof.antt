@@ -1,4 +1,4 @@
--- `readings::visits::passed` meets its contract: each need follows from the laws listed. Assumes nothing.
+-- `readings::visits::passed` meets its contract: each need follows from the laws listed.
 use borrow.Author.Needs.{needs}
 use Rattle.readings.proofs.Laws.Visits.{passed-few, passed-next}
 use Rattle.readings.proofs.visits.passed.Statement.{statement}

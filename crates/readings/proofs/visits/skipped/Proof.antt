@@ -1,4 +1,4 @@
--- `readings::visits::skipped` meets its contract: each need follows from the laws listed. Assumes nothing.
+-- `readings::visits::skipped` meets its contract: each need follows from the laws listed.
 use borrow.Author.Needs.{needs}
 use borrow.Author.Tests.{not-true, not-false}
 use Prim.Native.Nat.{_-_}

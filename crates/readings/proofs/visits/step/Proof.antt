@@ -1,4 +1,4 @@
--- `readings::visits::step` meets its contract: each need follows from the laws listed. Assumes nothing.
+-- `readings::visits::step` meets its contract: each need follows from the laws listed.
 use borrow.Author.Needs.{needs}
 use borrow.Author.Tests.{not-true, not-false}
 use Rattle.readings.proofs.Laws.Visits.{step-ended, step-past, step-other, step-writes, step-counts}

@@ -1,4 +1,4 @@
--- `readings::visits::visit_orders` meets its contract: each need follows from the laws listed. Assumes nothing.
+-- `readings::visits::visit_orders` meets its contract: each need follows from the laws listed.
 use borrow.Author.Needs.{needs}
 use Rattle.readings.specs.Visit.{scan}
 use Rattle.readings.proofs.Laws.Wholes.{Coming, coming-start, coming-more, coming-end}

@@ -1,4 +1,4 @@
--- `readings::visits::visit_whole` meets its contract: each need follows from the laws listed. Assumes nothing.
+-- `readings::visits::visit_whole` meets its contract: each need follows from the laws listed.
 use borrow.Author.Needs.{needs}
 use borrow.Author.Tests.{not-true, not-false}
 use native.Mathlib.Omega.{arith}

@@ -1,4 +1,4 @@
--- `readings::visits::wanted` meets its contract: each need follows from the laws listed. Assumes nothing.
+-- `readings::visits::wanted` meets its contract: each need follows from the laws listed.
 use borrow.Author.Needs.{needs}
 use borrow.Author.Tests.{not-true, not-false}
 use Rattle.readings.proofs.Laws.Visits.{wanted-low, wanted-all, wanted-none, wanted-some}

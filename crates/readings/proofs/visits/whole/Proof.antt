@@ -1,4 +1,4 @@
--- `readings::visits::whole` meets its contract: each need follows from the laws listed. Assumes nothing.
+-- `readings::visits::whole` meets its contract: each need follows from the laws listed.
 use borrow.Author.Needs.{needs}
 use borrow.Author.Tests.{not-true, not-false}
 use Rattle.readings.proofs.Laws.Wholes.{not-whole, whole-counted, whole-written}

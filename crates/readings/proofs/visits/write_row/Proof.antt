@@ -1,4 +1,4 @@
--- `readings::visits::write_row` meets its contract: each need follows from the laws listed. Assumes nothing.
+-- `readings::visits::write_row` meets its contract: each need follows from the laws listed.
 use borrow.Author.Needs.{needs}
 use Rattle.readings.proofs.Laws.Visits.{row-none, row-made}
 use Rattle.readings.proofs.visits.write_row.Statement.{statement}

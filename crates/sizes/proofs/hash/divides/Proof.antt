@@ -1,4 +1,4 @@
--- `sizes::hash::divides` meets its contract: each need follows from the laws listed. Assumes nothing.
+-- `sizes::hash::divides` meets its contract: each need follows from the laws listed.
 use borrow.Author.Needs.{needs}
 use borrow.Author.Tests.{not-true, not-false}
 use Prim.Native.Nat.{_-_, _≤_}

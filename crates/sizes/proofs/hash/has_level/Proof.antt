@@ -1,4 +1,4 @@
--- `sizes::hash::has_level` meets its contract: each need follows from the laws listed. Assumes nothing.
+-- `sizes::hash::has_level` meets its contract: each need follows from the laws listed.
 use borrow.Author.Needs.{needs}
 use Rattle.sizes.proofs.Laws.Hashes.{level-top, level-below}
 use Rattle.sizes.proofs.hash.has_level.Statement.{statement}

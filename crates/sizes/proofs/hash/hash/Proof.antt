@@ -1,4 +1,4 @@
--- `sizes::hash::hash` meets its contract: each need follows from the laws listed. Assumes nothing.
+-- `sizes::hash::hash` meets its contract: each need follows from the laws listed.
 use borrow.Author.Needs.{needs}
 use Prim.Native.Nat.{_-_}
 use Rattle.sizes.proofs.Laws.Hashes.{Hashing, hashing-start, hashing-more, hashing-end, seed-below}

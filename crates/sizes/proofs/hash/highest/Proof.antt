@@ -1,4 +1,4 @@
--- `sizes::hash::highest` meets its contract: β is 2 and what `least` gives. Assumes nothing.
+-- `sizes::hash::highest` meets its contract: β is 2 and what `least` gives.
 use borrow.Author.Needs.{needs}
 use Rattle.sizes.specs.Sizes.{beta}
 use Rattle.sizes.proofs.hash.highest.Statement.{statement}

@@ -1,4 +1,4 @@
--- `sizes::hash::horner` meets its contract: each need follows from the laws listed. Assumes nothing.
+-- `sizes::hash::horner` meets its contract: each need follows from the laws listed.
 use borrow.Author.Needs.{needs}
 use Rattle.sizes.proofs.Laws.Hashes.{horner-fits, horner-sum, horner-small}
 use Rattle.sizes.proofs.hash.horner.Statement.{statement}

@@ -1,4 +1,4 @@
--- `sizes::hash::is_lowest` meets its contract: each need follows from the laws listed. Assumes nothing.
+-- `sizes::hash::is_lowest` meets its contract: each need follows from the laws listed.
 use borrow.Author.Needs.{needs}
 use Rattle.sizes.proofs.Laws.Hashes.{lowest-says}
 use Rattle.sizes.proofs.hash.is_lowest.Statement.{statement}

@@ -1,4 +1,4 @@
--- `sizes::hash::least` meets its contract: each need follows from the laws listed. Assumes nothing.
+-- `sizes::hash::least` meets its contract: each need follows from the laws listed.
 use borrow.Author.Needs.{needs}
 use Prim.Native.Nat.{_-_}
 use Rattle.sizes.proofs.Laws.Hashes.{Growing, growing-start, growing-stop, growing-more, growing-end, least-fits}

@@ -1,4 +1,4 @@
--- `sizes::hash::level_of` meets its contract: each need follows from the laws listed. Assumes nothing.
+-- `sizes::hash::level_of` meets its contract: each need follows from the laws listed.
 use borrow.Author.Needs.{needs}
 use Rattle.sizes.proofs.Laws.Hashes.{level-front, level-key, beta-some, level-small}
 use Rattle.sizes.proofs.hash.level_of.Statement.{statement}

@@ -1,4 +1,4 @@
--- `sizes::header::field` meets its contract: each need follows from the laws listed. Assumes nothing.
+-- `sizes::header::field` meets its contract: each need follows from the laws listed.
 use borrow.Author.Needs.{needs}
 use Rattle.sizes.proofs.Laws.HeaderLoops.{field-at}
 use Rattle.sizes.proofs.header.field.Statement.{statement}

@@ -1,4 +1,4 @@
--- `sizes::header::number` meets its contract: each need follows from the laws listed. Assumes nothing.
+-- `sizes::header::number` meets its contract: each need follows from the laws listed.
 use borrow.Author.Needs.{needs}
 use Prim.Native.Nat.{_-_}
 use Rattle.sizes.proofs.Laws.HeaderLoops.{Reading, reading-start, reading-mul, reading-add, reading-more, reading-end}

@@ -1,4 +1,4 @@
--- `sizes::header::place` meets its contract: the constant table is the list of places and widths. Assumes nothing.
+-- `sizes::header::place` meets its contract: the constant table is the list of places and widths.
 use borrow.Author.Needs.{needs}
 use mathlib.Core.Path.{_≡_, sym, _∙_}
 use mathlib.Core.List.{List, [], _∷_}

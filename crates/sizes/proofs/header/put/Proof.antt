@@ -1,4 +1,4 @@
--- `sizes::header::put` meets its contract: each need follows from the laws listed. Assumes nothing.
+-- `sizes::header::put` meets its contract: each need follows from the laws listed.
 use borrow.Author.Needs.{needs}
 use Prim.Native.Nat.{_-_}
 use Rattle.sizes.proofs.Laws.HeaderWrites.{Putting, putting-start, putting-more, putting-end}

@@ -1,4 +1,4 @@
--- `sizes::header::rule_one` meets its contract: each need follows from the laws listed. Assumes nothing.
+-- `sizes::header::rule_one` meets its contract: each need follows from the laws listed.
 use borrow.Author.Needs.{needs}
 use borrow.Author.Tests.{not-true, not-false}
 use Rattle.sizes.proofs.Laws.HeaderLoops.{good-nodes, good-blocks, rule-short, rule-version, rule-sizes, rule-seeds, rule-field, rule-length, rule-last}

@@ -1,4 +1,4 @@
--- `sizes::header::seed_allowed` meets its contract: each need follows from the laws listed. Assumes nothing.
+-- `sizes::header::seed_allowed` meets its contract: each need follows from the laws listed.
 use borrow.Author.Needs.{needs}
 use Prim.Native.Nat.{_-_}
 use Rattle.sizes.proofs.Laws.HeaderLoops.{Seeding, seeding-start, seeding-stop, seeding-more, seeding-end}

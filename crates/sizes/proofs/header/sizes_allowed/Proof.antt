@@ -1,4 +1,4 @@
--- `sizes::header::sizes_allowed` meets its contract: each need follows from the laws listed. Assumes nothing.
+-- `sizes::header::sizes_allowed` meets its contract: each need follows from the laws listed.
 use borrow.Author.Needs.{needs}
 use Rattle.sizes.proofs.Laws.HeaderLoops.{sizes-1, sizes-2, sizes-3, sizes-4, sizes-5, sizes-6, sizes-7, sizes-8}
 use Rattle.sizes.proofs.header.sizes_allowed.Statement.{statement}

@@ -1,4 +1,4 @@
--- `sizes::header::table_length` meets its contract: each need follows from the laws listed. Assumes nothing.
+-- `sizes::header::table_length` meets its contract: each need follows from the laws listed.
 use borrow.Author.Needs.{needs}
 use Rattle.sizes.proofs.Laws.HeaderLoops.{long-fits, long-sum, long-is}
 use Rattle.sizes.proofs.header.table_length.Statement.{statement}

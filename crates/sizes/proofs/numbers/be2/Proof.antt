@@ -1,4 +1,4 @@
--- `sizes::be2` meets its contract: each need follows from the laws listed. Assumes nothing.
+-- `sizes::be2` meets its contract: each need follows from the laws listed.
 use borrow.Author.Needs.{needs}
 use Rattle.sizes.proofs.Laws.Bytes.{two-bytes}
 use Rattle.sizes.proofs.numbers.be2.Statement.{statement}

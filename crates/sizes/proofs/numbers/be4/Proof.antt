@@ -1,4 +1,4 @@
--- `sizes::be4` meets its contract: each need follows from the laws listed. Assumes nothing.
+-- `sizes::be4` meets its contract: each need follows from the laws listed.
 use borrow.Author.Needs.{needs}
 use Rattle.sizes.proofs.Laws.Bytes.{four-bytes}
 use Rattle.sizes.proofs.numbers.be4.Statement.{statement}

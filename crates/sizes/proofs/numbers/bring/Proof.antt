@@ -1,4 +1,4 @@
--- `sizes::bring` meets its contract: each need follows from the laws listed. Assumes nothing.
+-- `sizes::bring` meets its contract: each need follows from the laws listed.
 use borrow.Author.Needs.{needs}
 use Prim.Native.Nat.{_-_}
 use lib.ListN.{take, drop}

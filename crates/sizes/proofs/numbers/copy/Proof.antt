@@ -1,4 +1,4 @@
--- `sizes::copy` meets its contract: each need follows from the laws listed. Assumes nothing.
+-- `sizes::copy` meets its contract: each need follows from the laws listed.
 use borrow.Author.Needs.{needs}
 use Prim.Native.Nat.{_-_}
 use Rattle.sizes.proofs.Laws.Parts.{Written, written-start, copied, written-end, length-part}

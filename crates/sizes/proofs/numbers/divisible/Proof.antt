@@ -1,4 +1,4 @@
--- `sizes::numbers::divisible` meets its contract: where d divides x the quotient is exact. Assumes nothing.
+-- `sizes::numbers::divisible` meets its contract: where d divides x the quotient is exact.
 use borrow.Author.Needs.{needs}
 use native.Mathlib.Omega.{arith}
 use Rattle.sizes.proofs.Laws.Over.{times-fits, divides-says}

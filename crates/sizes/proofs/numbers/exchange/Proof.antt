@@ -1,4 +1,4 @@
--- `sizes::exchange` meets its contract: each need follows from the laws listed. Assumes nothing.
+-- `sizes::exchange` meets its contract: each need follows from the laws listed.
 use borrow.Author.Needs.{needs}
 use Prim.Native.Nat.{_-_}
 use native.Mathlib.Omega.{arith}

@@ -1,4 +1,4 @@
--- `sizes::fill` meets its contract: each need follows from the laws listed. Assumes nothing.
+-- `sizes::fill` meets its contract: each need follows from the laws listed.
 use borrow.Author.Needs.{needs}
 use Prim.Native.Nat.{_-_}
 use Rattle.sizes.proofs.Laws.Parts.{Written, written-start, filled, written-end}

@@ -1,4 +1,4 @@
--- `sizes::numbers::over` meets its contract: it computes what the definition says. Assumes nothing.
+-- `sizes::numbers::over` meets its contract: it computes what the definition says.
 use borrow.Author.Needs.{needs}
 use mathlib.Core.Path.{refl}
 use Rattle.sizes.specs.Numbers.{over}

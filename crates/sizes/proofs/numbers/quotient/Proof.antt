@@ -1,4 +1,4 @@
--- `sizes::numbers::quotient` meets its contract: the product fits in 64 bits. Assumes nothing.
+-- `sizes::numbers::quotient` meets its contract: the product fits in 64 bits.
 use borrow.Author.Needs.{needs}
 use mathlib.Core.Path.{refl}
 use native.Mathlib.Omega.{arith}

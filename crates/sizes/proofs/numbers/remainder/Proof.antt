@@ -1,4 +1,4 @@
--- `sizes::numbers::remainder` meets its contract: the quotient is right, or one too large. Assumes nothing.
+-- `sizes::numbers::remainder` meets its contract: the quotient is right, or one too large.
 use borrow.Author.Needs.{needs}
 use native.Mathlib.Omega.{arith}
 use native.Mathlib.Nat.{mod-lt}

@@ -1,4 +1,4 @@
--- `table::checking::examine` meets its contract: bytes that pass are an image. Assumes nothing.
+-- `table::checking::examine` meets its contract: bytes that pass are an image.
 use borrow.Author.Needs.{needs}
 use native.Mathlib.Omega.{arith}
 use Rattle.table.proofs.Laws.Decided.{examined}

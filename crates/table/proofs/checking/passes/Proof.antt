@@ -1,4 +1,4 @@
--- `table::checking::passes` meets its contract: each need follows from the laws listed. Assumes nothing.
+-- `table::checking::passes` meets its contract: each need follows from the laws listed.
 use borrow.Author.Needs.{needs}
 use borrow.Author.Tests.{not-true, not-false}
 use Rattle.table.proofs.Laws.Checking.{passes-unruled, ruled-long, ruled-walkable, ruled-shaped, ruled-seeds, ruled-gamma, ruled-blocks, ruled-base-most, ruled-orders, ruled-held, passes-unclean, passes-walked}

@@ -1,4 +1,4 @@
--- `table::making::fronts` meets its contract: each need follows from the laws listed. Assumes nothing.
+-- `table::making::fronts` meets its contract: each need follows from the laws listed.
 use borrow.Author.Needs.{needs}
 use Prim.Native.Nat.{_-_, _+_}
 use Rattle.table.proofs.Laws.Fronts.{Fronting, fronting-start, fronting-more, fronting-end}

@@ -1,4 +1,4 @@
--- `table::making::make` meets its contract: each need follows from the laws listed. Assumes nothing.
+-- `table::making::make` meets its contract: each need follows from the laws listed.
 use borrow.Author.Needs.{needs}
 use borrow.Author.Tests.{not-true, not-false}
 use mathlib.Core.Path.{_∙_}

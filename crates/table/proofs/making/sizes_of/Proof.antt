@@ -1,4 +1,4 @@
--- `table::making::sizes_of` meets its contract: each need follows from the laws listed. Assumes nothing.
+-- `table::making::sizes_of` meets its contract: each need follows from the laws listed.
 use borrow.Author.Needs.{needs}
 use Prim.Native.Nat.{_-_}
 use Rattle.sizes.proofs.Laws.HeaderLoops.{Seeded}

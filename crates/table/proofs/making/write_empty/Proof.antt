@@ -1,4 +1,4 @@
--- `table::making::write_empty` meets its contract: each need follows from the laws listed. Assumes nothing.
+-- `table::making::write_empty` meets its contract: each need follows from the laws listed.
 use borrow.Author.Needs.{needs}
 use Rattle.table.proofs.Laws.Making.{made-base-most, made-orders-most, made-nodes-some, filled-long, empty-shaped, fronts-image}
 use Rattle.table.proofs.making.write_empty.Statement.{statement}

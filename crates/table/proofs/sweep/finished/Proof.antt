@@ -1,4 +1,4 @@
--- `table::sweep::finished` meets its contract: each need follows from the laws listed. Assumes nothing.
+-- `table::sweep::finished` meets its contract: each need follows from the laws listed.
 use borrow.Author.Needs.{needs}
 use borrow.Author.Tests.{not-true, not-false}
 use Rattle.table.proofs.Laws.Passes.{finished-bad, finished-orders, finished-last}

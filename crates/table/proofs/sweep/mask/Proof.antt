@@ -1,4 +1,4 @@
--- `table::sweep::mask` meets its contract: each need follows from the laws listed. Assumes nothing.
+-- `table::sweep::mask` meets its contract: each need follows from the laws listed.
 use borrow.Author.Needs.{needs}
 use Prim.Native.Nat.{_-_}
 use Rattle.table.proofs.Laws.Passes.{Marking, marking-start, marking-more, marking-end}

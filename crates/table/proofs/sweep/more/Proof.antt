@@ -1,4 +1,4 @@
--- `table::sweep::more` meets its contract: each need follows from the laws listed. Assumes nothing.
+-- `table::sweep::more` meets its contract: each need follows from the laws listed.
 use borrow.Author.Needs.{needs}
 use Rattle.table.proofs.Laws.Passes.{more-none, more-some}
 use Rattle.table.proofs.sweep.more.Statement.{statement}

@@ -1,4 +1,4 @@
--- `table::sweep::sweep` meets its contract: one loop over the blocks. Assumes nothing.
+-- `table::sweep::sweep` meets its contract: one loop over the blocks.
 use borrow.Author.Needs.{needs}
 use borrow.Author.Tests.{not-true, not-false}
 use Prim.Native.Nat.{_-_}

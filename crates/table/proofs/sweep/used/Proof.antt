@@ -1,4 +1,4 @@
--- `table::sweep::used` meets its contract: each need follows from the laws listed. Assumes nothing.
+-- `table::sweep::used` meets its contract: each need follows from the laws listed.
 use borrow.Author.Needs.{needs}
 use Rattle.table.proofs.Laws.Passes.{used-none, used-some}
 use Rattle.table.proofs.sweep.used.Statement.{statement}

@@ -1,4 +1,4 @@
--- `table::sweep::zeros` meets its contract: each need follows from the laws listed. Assumes nothing.
+-- `table::sweep::zeros` meets its contract: each need follows from the laws listed.
 use borrow.Author.Needs.{needs}
 use Prim.Native.Nat.{_+_, _-_}
 use native.Mathlib.Omega.{arith}

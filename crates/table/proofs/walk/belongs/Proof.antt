@@ -1,4 +1,4 @@
--- `table::walk::belongs` meets its contract: each need follows from the laws listed. Assumes nothing.
+-- `table::walk::belongs` meets its contract: each need follows from the laws listed.
 use borrow.Author.Needs.{needs}
 use borrow.Author.Tests.{not-true, not-false}
 use Rattle.table.proofs.Laws.Steps.{belongs-first, belongs-front, belongs-level}

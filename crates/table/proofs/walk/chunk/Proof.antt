@@ -1,4 +1,4 @@
--- `table::walk::chunk` meets its contract: each need follows from the laws listed. Assumes nothing.
+-- `table::walk::chunk` meets its contract: each need follows from the laws listed.
 use borrow.Author.Needs.{needs}
 use Rattle.table.proofs.Laws.Turns.{chunk-found}
 use Rattle.table.proofs.walk.chunk.Statement.{statement}

@@ -1,4 +1,4 @@
--- `table::walk::ended` meets its contract: each need follows from the laws listed. Assumes nothing.
+-- `table::walk::ended` meets its contract: each need follows from the laws listed.
 use borrow.Author.Needs.{needs}
 use Rattle.table.proofs.Laws.Steps.{ended-first, ended-later}
 use Rattle.table.proofs.walk.ended.Statement.{statement}

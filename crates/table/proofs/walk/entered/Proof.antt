@@ -1,4 +1,4 @@
--- `table::walk::entered` meets its contract: each need follows from the laws listed. Assumes nothing.
+-- `table::walk::entered` meets its contract: each need follows from the laws listed.
 use borrow.Author.Needs.{needs}
 use Rattle.table.proofs.Laws.Steps.{entered-made}
 use Rattle.table.proofs.walk.entered.Statement.{statement}

@@ -1,4 +1,4 @@
--- `table::walk::enters` meets its contract: each need follows from the laws listed. Assumes nothing.
+-- `table::walk::enters` meets its contract: each need follows from the laws listed.
 use borrow.Author.Needs.{needs}
 use borrow.Author.Tests.{not-true, not-false}
 use Rattle.table.proofs.Laws.Steps.{enters-last, enters-many, enters-none, enters-bad}

@@ -1,4 +1,4 @@
--- `table::walk::follows` meets its contract: each need follows from the laws listed. Assumes nothing.
+-- `table::walk::follows` meets its contract: each need follows from the laws listed.
 use borrow.Author.Needs.{needs}
 use borrow.Author.Tests.{not-true, not-false}
 use Rattle.table.proofs.Laws.Lowest.{follows-low, follows-high, follows-other, follows-none, follows-last}

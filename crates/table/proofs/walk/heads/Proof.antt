@@ -1,4 +1,4 @@
--- `table::walk::heads` meets its contract: each need follows from the laws listed. Assumes nothing.
+-- `table::walk::heads` meets its contract: each need follows from the laws listed.
 use borrow.Author.Needs.{needs}
 use Rattle.table.proofs.Laws.Lowest.{heads-other, heads-low, heads-high, heads-last}
 use Rattle.table.proofs.walk.heads.Statement.{statement}

@@ -1,4 +1,4 @@
--- `table::walk::node_of` meets its contract: each need follows from the laws listed. Assumes nothing.
+-- `table::walk::node_of` meets its contract: each need follows from the laws listed.
 use borrow.Author.Needs.{needs}
 use Rattle.table.proofs.Laws.Steps.{node-made}
 use Rattle.table.proofs.walk.node_of.Statement.{statement}

@@ -1,4 +1,4 @@
--- `table::walk::nothing` meets its contract: each need follows from the laws listed. Assumes nothing.
+-- `table::walk::nothing` meets its contract: each need follows from the laws listed.
 use borrow.Author.Needs.{needs}
 use Rattle.table.proofs.Laws.Steps.{nothing-last, nothing-some}
 use Rattle.table.proofs.walk.nothing.Statement.{statement}

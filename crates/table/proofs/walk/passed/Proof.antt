@@ -1,4 +1,4 @@
--- `table::walk::passed` meets its contract: each need follows from the laws listed. Assumes nothing.
+-- `table::walk::passed` meets its contract: each need follows from the laws listed.
 use borrow.Author.Needs.{needs}
 use Rattle.table.proofs.Laws.Lowest.{passed-made}
 use Rattle.table.proofs.walk.passed.Statement.{statement}

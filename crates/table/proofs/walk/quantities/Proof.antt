@@ -1,4 +1,4 @@
--- `table::walk::quantities` meets its contract: each need follows from the laws listed. Assumes nothing.
+-- `table::walk::quantities` meets its contract: each need follows from the laws listed.
 use borrow.Author.Needs.{needs}
 use Rattle.table.proofs.Laws.Steps.{order-last, order-none, quantities-front, quantities-above}
 use Rattle.table.proofs.walk.quantities.Statement.{statement}

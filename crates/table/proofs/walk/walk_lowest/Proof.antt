@@ -1,4 +1,4 @@
--- `table::walk::walk_lowest` meets its contract: each need follows from the laws listed, or from one law at the facts named. Assumes nothing.
+-- `table::walk::walk_lowest` meets its contract: each need follows from the laws listed, or from one law at the facts named.
 use borrow.Author.Needs.{needs}
 use borrow.Author.Tests.{not-true, not-false}
 use mathlib.Core.Path.{_≡_}

@@ -1,4 +1,4 @@
--- `table::walk::walk_orders` meets its contract: each need follows from the laws listed. Assumes nothing.
+-- `table::walk::walk_orders` meets its contract: each need follows from the laws listed.
 use borrow.Author.Needs.{needs}
 use borrow.Author.Tests.{not-true, not-false}
 use Rattle.table.proofs.Laws.Lowest.{follows-fits, Ordering, ordering-start, ordering-room, ordering-end, ordering-wrong, ordering-more}

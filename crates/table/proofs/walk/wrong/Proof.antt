@@ -1,4 +1,4 @@
--- `table::walk::wrong` meets its contract: each need follows from the laws listed. Assumes nothing.
+-- `table::walk::wrong` meets its contract: each need follows from the laws listed.
 use borrow.Author.Needs.{needs}
 use Rattle.table.proofs.Laws.Steps.{wrong-made}
 use Rattle.table.proofs.walk.wrong.Statement.{statement}

@@ -1,4 +1,4 @@
--- `sizes::header::Header::read` meets its contract: each need follows from the laws listed. Assumes nothing.
+-- `sizes::header::Header::read` meets its contract: each need follows from the laws listed.
 use borrow.Author.Needs.{needs}
 use Prim.Native.Nat.{_-_}
 use Rattle.sizes.proofs.Laws.HeaderLoops.{Seeded, seeded-start, seeded-more, seeded-end, sizes-read, held-read}

@@ -1,4 +1,4 @@
--- `sizes::header::Header::value` meets its contract: each need follows from the laws listed. Assumes nothing.
+-- `sizes::header::Header::value` meets its contract: each need follows from the laws listed.
 use borrow.Author.Needs.{needs}
 use Rattle.sizes.proofs.Laws.HeaderWrites.{value-0, value-1, value-2, value-3, value-4, value-5, value-6, value-last, seed-index, seed-fits, value-seed}
 use Rattle.sizes.proofs.header.Header.value.Statement.{statement}

@@ -1,4 +1,4 @@
--- `sizes::header::Header::write` meets its contract: each need follows from the laws listed. Assumes nothing.
+-- `sizes::header::Header::write` meets its contract: each need follows from the laws listed.
 use borrow.Author.Needs.{needs}
 use Prim.Native.Nat.{_-_}
 use Rattle.sizes.proofs.Laws.HeaderWrites.{Heading, heading-start, heading-more, heading-end, made-nodes, made-blocks}

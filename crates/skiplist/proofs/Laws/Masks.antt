@@ -7,8 +7,8 @@ use lib.Dec.{ltb}
 use lib.ListN.{take, drop}
 use Rattle.placement.specs.declared.Order.{Order}
 use Rattle.skiplist.specs.Lists.{masked}
-use Rattle.skiplist.proofs.Parts.{Up, below, and-left, and-right}
-use Rattle.skiplist.proofs.Descent.{last-from}
+use Rattle.skiplist.proofs.Laws.Parts.{Up, below, and-left, and-right}
+use Rattle.skiplist.proofs.Laws.Descent.{last-from}
 
 module _ {A B : Type 0} (f : A → B) where
   pub map-take : (n : ℕ) (xs : List A) → map f (take n xs) ≡ take n (map f xs)

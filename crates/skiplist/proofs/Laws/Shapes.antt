@@ -12,8 +12,8 @@ use Rattle.placement.specs.declared.Order.{Order}
 use Rattle.skiplist.specs.Lists.{front, at-least, list-at, starts-one, run, rest, first-key}
 use Rattle.skiplist.specs.Image.{into}
 use Rattle.skiplist.specs.Questions.{held, without, with-order}
-use Rattle.skiplist.proofs.Runs.{partitions-front}
-use Rattle.skiplist.proofs.Parts.{Up, up-from, and-left, and-right, or-left, or-right, at-least-up, rest-heads, pick, part, pick-past, without-here, below, below-here}
+use Rattle.skiplist.proofs.Laws.Runs.{partitions-front}
+use Rattle.skiplist.proofs.Laws.Parts.{Up, up-from, and-left, and-right, or-left, or-right, at-least-up, rest-heads, pick, part, pick-past, without-here, below, below-here}
 
 -- where a key comes among rising orders
 pub data Place (k : ℕ) (os : List Order) : Type 0 where

@@ -15,9 +15,9 @@ use Rattle.sizes.proofs.Laws.Headers.{header-long, header-sizes}
 use Rattle.placement.proofs.Laws.Tables.{same-bytes}
 use Rattle.skiplist.specs.Lists.{chunks, blocks}
 use Rattle.skiplist.specs.Image.{image, orders-good, fits}
-use Rattle.skiplist.proofs.Kept.{fits-parts}
-use Rattle.skiplist.proofs.Rising.{chunks-rising}
-use Rattle.skiplist.proofs.Sound.{chunks-full, chunks-sound}
+use Rattle.skiplist.proofs.Laws.Kept.{fits-parts}
+use Rattle.skiplist.proofs.Laws.Rising.{chunks-rising}
+use Rattle.skiplist.proofs.Laws.Sound.{chunks-full, chunks-sound}
 
 module _ (s : Sizes) (os : List Order) where
   pub blocks-keep : made s ≡ true → orders-good 1 os ≡ true → fits s os ≡ true → Keeps s (blocks s os) (map-of (chunks s os)) (length (chunks s os))

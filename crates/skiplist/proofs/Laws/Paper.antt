@@ -9,9 +9,9 @@ use lib.Dec.{ltb, leb}
 use Rattle.placement.specs.declared.Order.{Order}
 use Rattle.skiplist.specs.Lists.{front, at-least, list-at, starts-one, run, rest}
 use Rattle.skiplist.specs.Rules.{from-to, from-on, paper-sets, Paper-partitions, Paper-top}
-use Rattle.skiplist.proofs.Runs.{partitions-front}
-use Rattle.skiplist.proofs.Parts.{Up, good-up, at-least-up}
-use Rattle.skiplist.proofs.Walk.{starting, starting-above, parts-top}
+use Rattle.skiplist.proofs.Laws.Runs.{partitions-front}
+use Rattle.skiplist.proofs.Laws.Parts.{Up, good-up, at-least-up}
+use Rattle.skiplist.proofs.Laws.Walk.{starting, starting-above, parts-top}
 
 -- all keys lie from lo up to below hi
 abbrev pub Within : (lo hi : ℕ) → List Order → Type 0

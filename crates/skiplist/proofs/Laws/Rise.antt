@@ -13,8 +13,8 @@ use Rattle.sizes.specs.declared.Sizes.{Sizes}
 use Rattle.placement.specs.declared.Order.{Order}
 use Rattle.skiplist.specs.Lists.{list-at, partitions, first-key, masked, chunks-of, all-chunks, chunks-from, chunks}
 use Rattle.skiplist.specs.Promise.{labels-rise, Labels-rise}
-use Rattle.skiplist.proofs.Parts.{Up, Heads, good-up}
-use Rattle.skiplist.proofs.Edits.{parts-heads}
+use Rattle.skiplist.proofs.Laws.Parts.{Up, Heads, good-up}
+use Rattle.skiplist.proofs.Laws.Edits.{parts-heads}
 
 -- (l, f, i) is at most (l′, f′, i′)
 unfoldable pub reaches : (l f i l′ f′ i′ : ℕ) → Bool

@@ -12,10 +12,10 @@ use Rattle.sizes.specs.declared.Sizes.{Sizes}
 use Rattle.placement.specs.declared.Order.{Order}
 use Rattle.skiplist.specs.Lists.{front, at-least, list-at, starts-one, run, rest, partitions, first-key}
 unfoldable pub use Rattle.skiplist.specs.Parts.{each, spread}
-use Rattle.skiplist.proofs.Runs.{partitions-front}
-use Rattle.skiplist.proofs.Parts.{Up, Heads, up-from, pick, part, pick-at}
-use Rattle.skiplist.proofs.Edits.{beta-least, starts, stays, parts-heads}
-use Rattle.skiplist.proofs.Descent.{none-above, all-there}
+use Rattle.skiplist.proofs.Laws.Runs.{partitions-front}
+use Rattle.skiplist.proofs.Laws.Parts.{Up, Heads, up-from, pick, part, pick-at}
+use Rattle.skiplist.proofs.Laws.Edits.{beta-least, starts, stays, parts-heads}
+use Rattle.skiplist.proofs.Laws.Descent.{none-above, all-there}
 
 pub each-append : (f : Order → List Order) (xs zs : List Order) → each f (xs ++ zs) ≡ each f xs ++ each f zs
 unfolding each

@@ -13,12 +13,12 @@ use Rattle.sizes.specs.declared.Sizes.{Sizes}
 use Rattle.placement.specs.declared.Order.{Order}
 use Rattle.skiplist.specs.Lists.{front, at-least, list-at, starts-one, partitions, first-key, masked, chunks-of, all-chunks, chunks-from, chunks}
 use Rattle.skiplist.specs.Image.{into, all-into}
-use Rattle.skiplist.proofs.Runs.{partitions-front}
-use Rattle.skiplist.proofs.Parts.{Up, and-left, and-right, up-past, below, below-here}
-use Rattle.skiplist.proofs.Shapes.{into-between}
-use Rattle.skiplist.proofs.Descent.{all-there}
-use Rattle.skiplist.proofs.Walk.{flat, run-flat}
-use Rattle.skiplist.proofs.Masks.{masked-one}
+use Rattle.skiplist.proofs.Laws.Runs.{partitions-front}
+use Rattle.skiplist.proofs.Laws.Parts.{Up, and-left, and-right, up-past, below, below-here}
+use Rattle.skiplist.proofs.Laws.Shapes.{into-between}
+use Rattle.skiplist.proofs.Laws.Descent.{all-there}
+use Rattle.skiplist.proofs.Laws.Walk.{flat, run-flat}
+use Rattle.skiplist.proofs.Laws.Masks.{masked-one}
 
 unfoldable pub all-nodes : (l : ℕ) → List Chunk → List Order
 all-nodes l [] = []

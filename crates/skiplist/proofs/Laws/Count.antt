@@ -14,7 +14,7 @@ use Rattle.sizes.specs.declared.Sizes.{Sizes}
 use Rattle.placement.specs.declared.Order.{Order}
 use Rattle.skiplist.specs.Lists.{front, at-least, list-at, starts-one, run, rest, partitions, first-key, masked, chunks-of, all-chunks, chunks-from, chunks}
 unfoldable pub use Rattle.skiplist.specs.Parts.{pieces, pieces-all, count, counts}
-use Rattle.skiplist.proofs.Edits.{head-part, tail-part, parts-before, parts-after, parts-split, head-part-long, tail-low, tail-same, after-not, tail-high, after-high}
+use Rattle.skiplist.proofs.Laws.Edits.{head-part, tail-part, parts-before, parts-after, parts-split, head-part-long, tail-low, tail-same, after-not, tail-high, after-high}
 
 pub pieces-less : (b n : ℕ) → 0 < b → pieces b (suc n) ≡ suc (pieces b (suc n - b))
 unfolding pieces

@@ -11,8 +11,8 @@ use Rattle.placement.proofs.Laws.Placed.{Rising}
 use Rattle.placement.proofs.Laws.Labels.{labels-chain}
 use Rattle.skiplist.specs.Lists.{chunks}
 use Rattle.skiplist.specs.Image.{orders-good}
-use Rattle.skiplist.proofs.Parts.{good-up}
-use Rattle.skiplist.proofs.Rise.{reaches, Rises, chunks-rise}
+use Rattle.skiplist.proofs.Laws.Parts.{good-up}
+use Rattle.skiplist.proofs.Laws.Rise.{reaches, Rises, chunks-rise}
 use Rattle.placement.specs.Blocks.{Among}
 
 before-all : (c : Chunk) (cs : List Chunk) → Rises (c .level) (c .first) (suc (c .number)) cs → (d : Chunk) → Among d cs → label-before c d ≡ true

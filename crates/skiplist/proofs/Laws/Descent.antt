@@ -13,9 +13,9 @@ use Rattle.sizes.specs.declared.Sizes.{Sizes}
 use Rattle.placement.specs.declared.Order.{Order}
 use Rattle.skiplist.specs.Lists.{front, at-least, starts-one, run, first-key}
 unfoldable pub use Rattle.skiplist.specs.Parts.{last-from}
-use Rattle.skiplist.proofs.Runs.{opened}
-use Rattle.skiplist.proofs.Parts.{Up, up-from, and-left, and-right, first-more, at-least-up, below}
-use Rattle.skiplist.proofs.Edits.{level-most, level-least, starts, stays, head-part, tail-part}
+use Rattle.skiplist.proofs.Laws.Runs.{opened}
+use Rattle.skiplist.proofs.Laws.Parts.{Up, up-from, and-left, and-right, first-more, at-least-up, below}
+use Rattle.skiplist.proofs.Laws.Edits.{level-most, level-least, starts, stays, head-part, tail-part}
 
 pub last-more : (k : ℕ) (p : List Order) (x : Order) → last-from k (p ++ x ∷ []) ≡ x .key
 unfolding last-from

@@ -20,14 +20,14 @@ use Rattle.sizes.proofs.Laws.Headers.{header-long}
 use Rattle.placement.proofs.Laws.Tables.{sound-blocks, sizes-read, shaped}
 use Rattle.skiplist.specs.Lists.{chunks, blocks}
 use Rattle.skiplist.specs.Image.{image, gathered, orders-in, orders-good, fits, same, is-image}
-use Rattle.skiplist.specs.Promise.{Reads-back, Lists-image, Equal-exactly, Checks-exactly}
-use Rattle.skiplist.proofs.Parts.{good-up}
-use Rattle.skiplist.proofs.Kept.{fits-parts}
-use Rattle.skiplist.proofs.Sound.{chunks-sound}
-use Rattle.skiplist.proofs.Image.{blocks-keep, image-keeps}
-use Rattle.skiplist.proofs.Decode.{blocks-back}
-use Rattle.skiplist.proofs.Gather.{blocks-gather}
-use Rattle.skiplist.proofs.Third.{lists-image, equal-exactly, checks-exactly}
+use Rattle.skiplist.specs.Promise.{Image-reads-back, Lists-image, Equal-exactly, Checks-exactly}
+use Rattle.skiplist.proofs.Laws.Parts.{good-up}
+use Rattle.skiplist.proofs.Laws.Kept.{fits-parts}
+use Rattle.skiplist.proofs.Laws.Sound.{chunks-sound}
+use Rattle.skiplist.proofs.Laws.Image.{blocks-keep, image-keeps}
+use Rattle.skiplist.proofs.Laws.Decode.{blocks-back}
+use Rattle.skiplist.proofs.Laws.Gather.{blocks-gather}
+use Rattle.skiplist.proofs.Laws.Third.{lists-image, equal-exactly, checks-exactly}
 
 -- the numbers of the header
 long-small : (s : Sizes) → Limits s → table-long s < 4294967296
@@ -92,8 +92,8 @@ module _ (s : Sizes) (os : List Order) (m : made s ≡ true) (g : orders-good 1 
         le-leb (length os) (s .orders) k,
       )
 
-pub reads-back : Reads-back
-unfolding Reads-back is-image
+pub reads-back : Image-reads-back
+unfolding Image-reads-back is-image
 reads-back s os m g f = (rw (image-rule-1 s os m g f, sizes-back s os m g f, orders-back s os m g f, g, f, same-self (image s os)), orders-back s os m g f, sizes-back s os m g f)
 
 -- LISTS OF CALLS

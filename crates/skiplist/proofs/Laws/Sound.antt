@@ -20,11 +20,11 @@ use Rattle.placement.proofs.Laws.Keeps.{map-only}
 use Rattle.skiplist.specs.Lists.{front, at-least, list-at, partitions, first-key, masked, chunks}
 use Rattle.skiplist.specs.Image.{quantities-good, orders-good, fits}
 use Rattle.skiplist.specs.Rules.{Piece, Chunks-are}
-use Rattle.skiplist.proofs.Parts.{and-left, and-right, Good, good-parts}
-use Rattle.skiplist.proofs.Walk.{flat}
-use Rattle.skiplist.proofs.Nodes.{nodes-list}
-use Rattle.skiplist.proofs.Kept.{fits-parts}
-use Rattle.skiplist.proofs.Pieces.{chunks-are}
+use Rattle.skiplist.proofs.Laws.Parts.{and-left, and-right, Good, good-parts}
+use Rattle.skiplist.proofs.Laws.Walk.{flat}
+use Rattle.skiplist.proofs.Laws.Nodes.{nodes-list}
+use Rattle.skiplist.proofs.Laws.Kept.{fits-parts}
+use Rattle.skiplist.proofs.Laws.Pieces.{chunks-are}
 use Rattle.placement.specs.Blocks.{Among}
 use Rattle.sizes.proofs.Laws.Sizes.{limits}
 

@@ -15,10 +15,10 @@ use Rattle.placement.specs.declared.Order.{Order}
 use Rattle.skiplist.specs.Image.{image, orders-in, orders-good, fits, same, is-image}
 use Rattle.skiplist.specs.Questions.{first-no, is-key, held, without, with-order, order, asks-put}
 use Rattle.skiplist.specs.Book.{put-refusal, key-refusal, Call, put, cancel, reading, booked, book, refusal, done, after}
-use Rattle.skiplist.specs.Promise.{Reads-back, Lists-image, Equal-exactly, Checks-exactly}
-use Rattle.skiplist.proofs.Parts.{and-left, and-right, up-past, Good, good-parts, good-up, below-here}
-use Rattle.skiplist.proofs.Shapes.{put-new}
-use Rattle.skiplist.proofs.Kept.{fits-parts, fits-prefix, Kept, kept-none, kept-booked, kept-book}
+use Rattle.skiplist.specs.Promise.{Image-reads-back, Lists-image, Equal-exactly, Checks-exactly}
+use Rattle.skiplist.proofs.Laws.Parts.{and-left, and-right, up-past, Good, good-parts, good-up, below-here}
+use Rattle.skiplist.proofs.Laws.Shapes.{put-new}
+use Rattle.skiplist.proofs.Laws.Kept.{fits-parts, fits-prefix, Kept, kept-none, kept-booked, kept-book}
 use Rattle.sizes.proofs.Laws.Sizes.{Limits, limits}
 
 -- a list of puts that gives some orders
@@ -88,9 +88,9 @@ image-parts bs e =
     record { sizes-made = rw (w .0, w .1) (ten bs); orders-kept = record { good = w .2; fit = w .3 }; bytes = same-is (image s os) bs (w .4) }
 
 -- A CALL ON AN IMAGE, where images read back
-module _ (reads : Reads-back) where
+module _ (reads : Image-reads-back) where
   pub done-image : (s : Sizes) (c : Call) (os : List Order) → made s ≡ true → Kept s os → done c (image s os) ≡ image s (booked s c os)
-  unfolding Reads-back done refusal booked
+  unfolding Image-reads-back done refusal booked
   done-image s (put k t d) os m w =
       let r = reads s os m (w .good) (w .fit) in
       rw (r .0, r .1, r .2) (go (eqb (put-refusal s k t d os) 0))
@@ -119,7 +119,7 @@ module _ (reads : Reads-back) where
   lists-image s cs m = after-image s cs [] m (kept-none s (limits s m))
 
   pub equal-exactly : Equal-exactly
-  unfolding Equal-exactly Lists-image Reads-back
+  unfolding Equal-exactly Lists-image Image-reads-back
   equal-exactly s cs ds m =
       let k : (es : List Call) → Kept s (book s es []) = λ es. kept-book s (limits s m) es [] (kept-none s (limits s m)) in
       let r : (es : List Call) → orders-in (image s (book s es [])) ≡ book s es [] = λ es. reads s (book s es []) m (k es .good) (k es .fit) .1 in (
@@ -128,7 +128,7 @@ module _ (reads : Reads-back) where
       )
 
   pub checks-exactly : Checks-exactly
-  unfolding Checks-exactly Lists-image Reads-back
+  unfolding Checks-exactly Lists-image Image-reads-back
   checks-exactly bs b = (
     λ e.
         let w = image-parts bs e in

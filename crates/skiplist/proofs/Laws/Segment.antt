@@ -11,8 +11,8 @@ use Rattle.sizes.specs.declared.Sizes.{Sizes}
 use Rattle.placement.specs.declared.Order.{Order}
 use Rattle.skiplist.specs.Lists.{at-least, starts-one, run}
 use Rattle.skiplist.specs.Questions.{between}
-use Rattle.skiplist.proofs.Parts.{Up, up-from, part}
-use Rattle.skiplist.proofs.Edits.{stays, tail-part, tail-high, part-right}
+use Rattle.skiplist.proofs.Laws.Parts.{Up, up-from, part}
+use Rattle.skiplist.proofs.Laws.Edits.{stays, tail-part, tail-high, part-right}
 
 -- every level in a list is at most l
 abbrev pub Low : Sizes → (l : ℕ) → List Order → Type 0

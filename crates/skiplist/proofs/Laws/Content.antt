@@ -15,9 +15,9 @@ use Rattle.placement.specs.Maps.{is-label}
 use Rattle.sizes.specs.declared.Sizes.{Sizes}
 use Rattle.placement.specs.declared.Order.{Order}
 use Rattle.skiplist.specs.Lists.{list-at, partitions, first-key, masked, chunks-of, all-chunks, chunks-from, chunks}
-use Rattle.skiplist.proofs.Parts.{Up, Heads, pick, part, pick-past}
-use Rattle.skiplist.proofs.Edits.{parts-heads}
-use Rattle.skiplist.proofs.Masks.{map-take, map-drop}
+use Rattle.skiplist.proofs.Laws.Parts.{Up, Heads, pick, part, pick-past}
+use Rattle.skiplist.proofs.Laws.Edits.{parts-heads}
+use Rattle.skiplist.proofs.Laws.Masks.{map-take, map-drop}
 
 -- the nodes of every chunk with a label
 unfoldable pub content : (l f i : ℕ) → List Chunk → List Order

@@ -13,9 +13,9 @@ use Rattle.placement.specs.Maps.{is-label, map-of}
 use Rattle.sizes.specs.declared.Sizes.{Sizes}
 use Rattle.placement.specs.declared.Order.{Order}
 use Rattle.skiplist.specs.Lists.{list-at, partitions, first-key, masked, chunks-of, all-chunks, chunks-from, chunks}
-use Rattle.skiplist.proofs.Parts.{Up, and-left, and-right, part}
-use Rattle.skiplist.proofs.Content.{content, content-is}
-use Rattle.skiplist.proofs.Rise.{reaches, Rises, chunks-rise}
+use Rattle.skiplist.proofs.Laws.Parts.{Up, and-left, and-right, part}
+use Rattle.skiplist.proofs.Laws.Content.{content, content-is}
+use Rattle.skiplist.proofs.Laws.Rise.{reaches, Rises, chunks-rise}
 
 -- one label is at most another
 pub data Upto (l f i l′ f′ i′ : ℕ) : Type 0 where

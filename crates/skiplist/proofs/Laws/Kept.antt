@@ -14,9 +14,9 @@ use Rattle.skiplist.specs.Lists.{chunks}
 use Rattle.skiplist.specs.Image.{into, quantities-good, orders-good, fits}
 use Rattle.skiplist.specs.Questions.{first-no, is-key, held, without, with-order, order, asks-put, asks-key}
 use Rattle.skiplist.specs.Book.{put-refusal, key-refusal, Call, put, cancel, reading, booked, book}
-use Rattle.skiplist.proofs.Parts.{Up, up-from, and-left, and-right, or-left, or-right, up-past, Good, good-parts, good-up, without-here, up-out, below}
-use Rattle.skiplist.proofs.Shapes.{Place, there, absent, place, held-absent}
-use Rattle.skiplist.proofs.Count.{length-chunks, chunks-more, counts-none}
+use Rattle.skiplist.proofs.Laws.Parts.{Up, up-from, and-left, and-right, or-left, or-right, up-past, Good, good-parts, good-up, without-here, up-out, below}
+use Rattle.skiplist.proofs.Laws.Shapes.{Place, there, absent, place, held-absent}
+use Rattle.skiplist.proofs.Laws.Count.{length-chunks, chunks-more, counts-none}
 use Rattle.sizes.proofs.Laws.Sizes.{Limits}
 
 pub good-make : (a : ℕ) (o : Order) (os : List Order) → a ≤ o .key → ltb (o .key) prime ≡ true → quantities-good (o .total) (o .displayed) ≡ true → orders-good (suc (o .key)) os ≡ true → orders-good a (o ∷ os) ≡ true

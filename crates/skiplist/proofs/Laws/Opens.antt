@@ -13,12 +13,12 @@ use Rattle.sizes.specs.Hash.{level}
 use Rattle.sizes.specs.declared.Sizes.{Sizes}
 use Rattle.placement.specs.declared.Order.{Order}
 use Rattle.skiplist.specs.Lists.{front, at-least, starts-one, run, first-key}
-use Rattle.skiplist.proofs.Runs.{opened}
-use Rattle.skiplist.proofs.Parts.{Up, up-from, at-least-append, part, up-front}
-use Rattle.skiplist.proofs.Edits.{level-most, starts, head-part, tail-part, part-at, part-right}
-use Rattle.skiplist.proofs.Shapes.{up-behind}
-use Rattle.skiplist.proofs.Walk.{each, spread, walk-all}
-use Rattle.skiplist.proofs.Segment.{Low, High, tail-segment, part-segment}
+use Rattle.skiplist.proofs.Laws.Runs.{opened}
+use Rattle.skiplist.proofs.Laws.Parts.{Up, up-from, at-least-append, part, up-front}
+use Rattle.skiplist.proofs.Laws.Edits.{level-most, starts, head-part, tail-part, part-at, part-right}
+use Rattle.skiplist.proofs.Laws.Shapes.{up-behind}
+use Rattle.skiplist.proofs.Laws.Walk.{each, spread, walk-all}
+use Rattle.skiplist.proofs.Laws.Segment.{Low, High, tail-segment, part-segment}
 
 unfoldable pub keys : List Order → List ℕ
 keys [] = []

@@ -13,8 +13,8 @@ use Rattle.sizes.specs.declared.Sizes.{Sizes}
 use Rattle.placement.specs.declared.Order.{Order}
 use Rattle.skiplist.specs.Lists.{front, at-least, list-at, starts-one, run, rest, partitions, first-key}
 unfoldable pub use Rattle.skiplist.specs.Parts.{head-part}
-use Rattle.skiplist.proofs.Runs.{closed, opened, runs-split, partitions-front}
-use Rattle.skiplist.proofs.Parts.{Up, Heads, up-past, first-more, at-least-append, at-least-up, rest-heads, pick, part, pick-at, pick-other}
+use Rattle.skiplist.proofs.Laws.Runs.{closed, opened, runs-split, partitions-front}
+use Rattle.skiplist.proofs.Laws.Parts.{Up, Heads, up-past, first-more, at-least-append, at-least-up, rest-heads, pick, part, pick-at, pick-other}
 
 pub divides-most : (left j c v : ℕ) → divides-from left j c v ≤ j + left
 unfolding divides-from

@@ -24,12 +24,12 @@ use Rattle.sizes.proofs.Laws.Sizes.{some-blocks}
 use Rattle.skiplist.specs.Lists.{chunks, blocks}
 use Rattle.skiplist.specs.Image.{image, orders-in, orders-good, fits, is-image}
 use Rattle.skiplist.specs.Rules.{Rules, Image-exactly}
-use Rattle.skiplist.specs.Promise.{Reads-back}
-use Rattle.skiplist.proofs.Kept.{fits-parts, fits-make}
-use Rattle.skiplist.proofs.Rising.{chunks-rising}
-use Rattle.skiplist.proofs.Third.{image-parts}
-use Rattle.skiplist.proofs.Readback.{reads-back}
-use Rattle.skiplist.proofs.Arranged.{blocks-placing}
+use Rattle.skiplist.specs.Promise.{Image-reads-back}
+use Rattle.skiplist.proofs.Laws.Kept.{fits-parts, fits-make}
+use Rattle.skiplist.proofs.Laws.Rising.{chunks-rising}
+use Rattle.skiplist.proofs.Laws.Third.{image-parts}
+use Rattle.skiplist.proofs.Laws.Readback.{reads-back}
+use Rattle.skiplist.proofs.Laws.Arranged.{blocks-placing}
 
 inside : (bs : List (Block Chunk)) (j : ℕ) (c : Chunk) → getD bs j empty ≡ holds c → j < length bs
 inside [] j c e = absurd (true≢false cc)
@@ -127,7 +127,7 @@ module _ (s : Sizes) (os : List Order) (m : made s ≡ true) (g : orders-good 1 
   }
 
 pub image-exactly : Image-exactly
-unfolding Image-exactly Reads-back
+unfolding Image-exactly Image-reads-back
 image-exactly = (
   λ x e. let w = image-parts x e in subst (Rules (sizes-in x) (orders-in x)) (w .bytes) (image-rules (sizes-in x) (orders-in x) (w .sizes-made) (w .orders-kept .good) (w .orders-kept .fit)),
   λ s os x w.

@@ -16,7 +16,7 @@ use Rattle.sizes.specs.declared.Sizes.{Sizes}
 use Rattle.placement.specs.declared.Order.{Order}
 use Rattle.skiplist.specs.Lists.{list-at, partitions, first-key, masked, chunks-of, all-chunks, chunks-from, chunks}
 use Rattle.skiplist.specs.Rules.{Chunks-are}
-use Rattle.skiplist.proofs.Masks.{map-take, map-drop}
+use Rattle.skiplist.proofs.Laws.Masks.{map-take, map-drop}
 use Rattle.placement.specs.Blocks.{Among}
 use Rattle.sizes.proofs.Laws.Sizes.{limits}
 

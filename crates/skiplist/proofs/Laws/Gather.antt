@@ -20,9 +20,9 @@ use Rattle.placement.proofs.Laws.Placed.{how-many-empty, gap, store-count, Firs
 use Rattle.placement.proofs.Laws.Labels.{home-inside}
 use Rattle.skiplist.specs.Lists.{front, chunks, blocks}
 use Rattle.skiplist.specs.Image.{all-into, gathered}
-use Rattle.skiplist.proofs.Parts.{Up, up-front, below}
-use Rattle.skiplist.proofs.Edits.{beta-least}
-use Rattle.skiplist.proofs.Nodes.{all-nodes, nodes-one, all-into-append, below-more, all-comm, all-rising}
+use Rattle.skiplist.proofs.Laws.Parts.{Up, up-front, below}
+use Rattle.skiplist.proofs.Laws.Edits.{beta-least}
+use Rattle.skiplist.proofs.Laws.Nodes.{all-nodes, nodes-one, all-into-append, below-more, all-comm, all-rising}
 
 -- a chunk's nodes, if it is of level 1
 unfoldable ones : Chunk → List Order

@@ -14,8 +14,8 @@ use Rattle.sizes.proofs.Laws.Sizes.{some-blocks}
 use Rattle.skiplist.specs.Lists.{chunks, blocks}
 use Rattle.skiplist.specs.Image.{orders-good, fits}
 use Rattle.skiplist.specs.Promise.{Rule-three, One-arrangement}
-use Rattle.skiplist.proofs.Kept.{fits-parts}
-use Rattle.skiplist.proofs.Rising.{chunks-rising}
+use Rattle.skiplist.proofs.Laws.Kept.{fits-parts}
+use Rattle.skiplist.proofs.Laws.Rising.{chunks-rising}
 
 pub blocks-placing : (s : Sizes) (os : List Order) → made s ≡ true → orders-good 1 os ≡ true → fits s os ≡ true →
     Placing (home s) label-before (s .blocks) (chunks s os) (replicate (s .blocks) empty) (blocks s os)
