@@ -205,7 +205,14 @@ fn answer_seek(out: &mut [u8], table: &[u8], d: Lengths, lo: u32, hi: u32, reser
     say(out, d.used, 0, &order)
 }
 
-fn answer_span(out: &mut [u8], table: &[u8], found: &mut [u8], d: Lengths, lo: u32, hi: u32) -> usize
+fn answer_span(
+    out: &mut [u8],
+    table: &[u8],
+    found: &mut [u8],
+    d: Lengths,
+    lo: u32,
+    hi: u32,
+) -> usize
     requires { ⌜ Lent (now out) (d .used) × Lent (now table) (d .long) ⌝ }
     ensures { λ r. ⌜ Said (now (out .entry)) (d .used) (span-lines (take (d .long) (now (table .entry))) lo hi (length (now (found .entry)))) (now (out .exit)) r ⌝ }
 {
