@@ -2,4 +2,5 @@ pub mod Numbers
 pub mod Sizes
 pub mod Hash
 pub mod Header
+pub mod Geometry
 pub mod Parts

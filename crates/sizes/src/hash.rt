@@ -6,6 +6,8 @@ ghost use lib.Dec.{eqb};
 ghost use Rattle.sizes.specs.Numbers.{over};
 ghost use Rattle.sizes.specs.Sizes.{least-power, beta, made, seed-good};
 ghost use Rattle.sizes.specs.Hash.{hash-from, divides-from, level};
+ghost use Rattle.sizes.specs.Geometry.{Reckoned};
+use crate::Geometry;
 use crate::Sizes;
 use crate::numbers::divisible;
 use crate::numbers::over;
@@ -95,6 +97,19 @@ pub fn highest(s: Sizes) -> u32
     ensures { λ r. ⌜ (r ≡ beta s) × (2 ≤ r) × (r ≤ 19) ⌝ }
 {
     2 + least(s.gamma, s.orders)
+}
+
+// What follows from the sizes.
+pub fn reckon(s: Sizes) -> Geometry
+    requires { ⌜ (0 < s .gamma) × (s .gamma ≤ 64) × (s .orders ≤ 65535) × (0 < s .blocks) ⌝ }
+    ensures { λ r. ⌜ (r .sizes ≡ s) × Reckoned r ⌝ }
+{
+    Geometry {
+        sizes: s,
+        ratio: over(s.gamma),
+        round: over(s.blocks),
+        top: highest(s),
+    }
 }
 
 // The level of a key, β being given; the front, of key 0, has β.

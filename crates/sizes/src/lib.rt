@@ -12,6 +12,15 @@ pub struct Sizes {
     pub seed: [u32; 10],
 }
 
+// Sizes with what follows from them, reckoned once for a call: 2^32 over gamma and over the number of blocks, each rounded up (`numbers::over`), and β,
+// the highest level.
+pub struct Geometry {
+    pub sizes: Sizes,
+    pub ratio: u64,
+    pub round: u64,
+    pub top: u32,
+}
+
 // Where a field of the header stands, and how wide it is.
 pub struct Field {
     pub at: usize,
