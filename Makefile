@@ -41,14 +41,17 @@ run: program
 	@$(PROGRAM) < examples/full-run.txt | tee build/full-run.out
 	@diff examples/full-run.out build/full-run.out && echo "as document 01 has it"
 
-# All tests, and last the proofs: the last line is rt ci's own.
-test: tests
+# The proofs from nothing and every wrong program first, then every test, on what was proved. The last line is rt ci's own, and comes only if all passed.
+test: bench-need
 	rt fmt --check
-	rt ci
+	@mkdir -p build
+	@bash -o pipefail -c 'rt ci 2>&1 | tee build/ci.log'
+	@$(MAKE) --no-print-directory tests
+	@tail -n 1 build/ci.log
 
 # Every test but the proofs, two at a time. Each says in a line what it did.
 tests: bench-need reference archive program
-	@$(MAKE) --no-print-directory --jobs=2 --output-sync=target test-differential fuzz test-reference test-program test-vectors test-kit lesson bench-smoke
+	@$(MAKE) --no-print-directory --jobs=2 --output-sync=target test-differential fuzz test-reference test-program test-vectors test-kit auditor lesson bench-smoke
 
 # The reference's own tests, and document 01's full run on its program.
 test-reference: reference
@@ -166,7 +169,12 @@ clean:
 	rm -rf build target
 
 # ---- documents --------------------------------------------------------------
-.PHONY: pictures lesson
+.PHONY: pictures lesson auditor
+
+# Has docs/AUDIT.md all files that the promises rest on, and no other?
+auditor:
+	@scripts/need python3:python3
+	@scripts/auditor
 
 # All pictures again, each from a run through the program.
 pictures: reference

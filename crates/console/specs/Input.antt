@@ -7,8 +7,8 @@ use Prim.Native.Nat.{ℕ, _+_, _≤_, _<_}
 use lib.ListN.{length}
 use Rattle.lines.specs.declared.Reader.{Reader}
 use Rattle.lines.specs.Machine.{Advanced, beginning, close-of, under-way}
-use Rattle.console.specs.Answers.{Step}
-use Rattle.console.specs.declared.Lengths.{Lengths}
+use Rattle.answers.specs.Answers.{Step}
+use Rattle.answers.specs.declared.Lengths.{Lengths}
 use Rattle.console.specs.declared.Run.{Run}
 
 -- a run with its buffers

@@ -1,5 +1,1 @@
-pub mod Answers
-pub mod Asked
 pub mod Input
-pub mod Lent
-pub mod Output

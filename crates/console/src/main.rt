@@ -1,13 +1,11 @@
 // The text program: lines of calls from standard input, their answers to standard output, on one table of at most 65,536 bytes.
-mod answers;
-mod calls;
-
 ghost use mathlib.Core.Path.{_≡_};
 ghost use Prim.Native.Nat.{_<_};
 ghost use lib.ListN.{length};
 ghost use Rattle.console.specs.Input.{state, Turned, Taken, emptied, Taken-whole, Finished};
-ghost use Rattle.console.specs.Lent.{Lent};
-use answers::answer;
+ghost use Rattle.answers.specs.Lent.{Lent};
+use answers::Lengths;
+use answers::printing::answer;
 use libc::STDIN_FILENO;
 use libc::STDOUT_FILENO;
 use lines::Reader;
@@ -16,13 +14,7 @@ use lines::reading::close;
 use lines::reading::is_under_way;
 use lines::reading::start;
 
-// The bytes of the table, 0 before a make succeeds, and the bytes of the output that wait to be written.
-pub struct Lengths {
-    pub long: usize,
-    pub used: usize,
-}
-
-// A line that may go on in the next bytes that come, and the lengths.
+// A line that may go on in the next bytes that come, and how far the buffers are in use.
 pub struct Run {
     pub reader: Reader,
     pub lengths: Lengths,

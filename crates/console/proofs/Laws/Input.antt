@@ -7,9 +7,9 @@ use lib.ListN.{length}
 use Rattle.lines.specs.declared.Line.{Line}
 use Rattle.lines.specs.declared.Reader.{Reader}
 use Rattle.lines.specs.Machine.{Advanced, beginning, close-of, under-way}
-use Rattle.console.specs.Answers.{Step}
+use Rattle.answers.specs.Answers.{Step}
 use Rattle.console.specs.Input.{State, Turned, ends, Taken, none, one, Finished, last}
-use Rattle.console.specs.declared.Lengths.{Lengths}
+use Rattle.answers.specs.declared.Lengths.{Lengths}
 
 module _ (room : ℕ) (s : List ℕ) (at : ℕ) (a : State) (to : ℕ) (b : State) where
   pub line-ends : (q : Reader) (end : ℕ) (l : Line) → Advanced s at (a .run .reader) q end → end < length s → to ≡ end + 1 → b .run .reader ≡ beginning → l ≡ close-of q

@@ -4,7 +4,7 @@ use mathlib.Core.Path.{_≡_}
 use Prim.Native.Nat.{_-_}
 use lib.ListN.{length}
 use Rattle.console.specs.Input.{state}
-use Rattle.console.specs.Lent.{Lent}
+use Rattle.answers.specs.Lent.{Lent}
 use Rattle.console.proofs.Laws.Input.{So-far, so-far-none, so-far-more, so-far-all}
 use Rattle.console.proofs.answer_all.Statement.{statement}
 use Rattle.console.proofs.answer_all.Tie as tie

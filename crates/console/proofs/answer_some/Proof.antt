@@ -1,6 +1,6 @@
 -- `console::answer_some` meets its contract.
 use borrow.Author.Needs.{needs}
-use Rattle.console.proofs.Laws.Buffers.{lent-moved}
+use Rattle.answers.proofs.Laws.Buffers.{lent-moved}
 use Rattle.console.proofs.answer_some.Statement.{statement}
 use Rattle.console.proofs.answer_some.Tie as tie
 

@@ -2,8 +2,8 @@
 use borrow.Author.Needs.{needs}
 use mathlib.Core.Path.{_≡_}
 use lib.ListN.{length}
-use Rattle.console.specs.Lent.{Lent}
-use Rattle.console.proofs.Laws.Buffers.{lent-none}
+use Rattle.answers.specs.Lent.{Lent}
+use Rattle.answers.proofs.Laws.Buffers.{lent-none}
 use Rattle.console.proofs.main.Statement.{statement}
 use Rattle.console.proofs.main.Tie as tie
 

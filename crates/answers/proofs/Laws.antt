@@ -1,0 +1,9 @@
+-- Laws by subject.
+pub mod Answers
+pub mod Asked
+pub mod Blocks
+pub mod Buffers
+pub mod Found
+pub mod Orders
+pub mod Output
+pub mod Steps

@@ -1,0 +1,82 @@
+-- What is printed for a reply is what its line has to print.
+use mathlib.Core.Path.{_≡_, refl, sym, _∙_, subst}
+use mathlib.Core.Logic.{_≢_}
+use mathlib.Core.Bool.{Bool, true, false, cond}
+use mathlib.Core.List.{List, [], _∷_, _++_, map}
+use Prim.Native.Nat.{ℕ, zero, suc}
+use native.Mathlib.Omega.{arith}
+use lib.ListN.{length}
+use Rattle.lines.specs.Text.{row}
+use Rattle.placement.specs.Decode.{nodes-from}
+use Rattle.skiplist.specs.Image.{is-image, orders-in}
+use Rattle.skiplist.specs.Questions.{Question, first-no, between, asks-image, asks-key, asks-span}
+use Rattle.table.specs.declared.Reply.{Reply}
+use Rattle.table.specs.Calls.{says, total-of, displayed-of, Look-as, Look-says, Span-as, Span-says, Seek-says}
+use Rattle.answers.specs.Answers.{answer-lines, show-lines, order-line, span-lines, Seek-lines}
+use Rattle.answers.specs.Output.{Said, Prints}
+use Rattle.answers.proofs.Laws.Orders.{span-back}
+use Rattle.answers.proofs.Laws.Output.{said-on}
+
+-- A REFUSAL prints its number, a success what is added
+pub no-lines : (n : ℕ) (ns : List ℕ) (ls : List (List ℕ)) → n ≢ 0 → answer-lines n ns ls ≡ row n [] ∷ []
+unfolding answer-lines
+no-lines zero ns ls h = absurd (h refl)
+no-lines (suc n) ns ls h = refl
+
+pub yes-lines : (n : ℕ) (ns : List ℕ) (ls : List (List ℕ)) → n ≡ 0 → answer-lines n ns ls ≡ row 0 ns ∷ ls
+unfolding answer-lines
+yes-lines n ns ls h = rw h
+
+module _ (old : List ℕ) (used : ℕ) (new : List ℕ) (p : ℕ) where
+  -- SHOW
+  module _ (x : List ℕ) (k : ℕ) (r : Reply) (h : Look-says x k r) where
+    show-is : show-lines x k ≡ answer-lines (r .number) (r .total ∷ r .displayed ∷ []) []
+    unfolding show-lines Look-says Look-as says answer-lines
+    show-is = go (first-no (asks-image x ++ asks-key k (orders-in x))) h
+      where
+        go : (n : ℕ) → Look-as n k (orders-in x) r
+            → answer-lines n (total-of k (orders-in x) ∷ displayed-of k (orders-in x) ∷ []) [] ≡ answer-lines (r .number) (r .total ∷ r .displayed ∷ []) []
+        go zero s = rw (s .0, s .2, s .3)
+        go (suc n) s = rw (s .0)
+
+    pub show-no : r .number ≢ 0 → Said old used (row (r .number) [] ∷ []) new p → Said old used (show-lines x k) new p
+    show-no e s = subst (λ (ls : List (List ℕ)). Said old used ls new p) (sym (show-is ∙ no-lines (r .number) _ [] e)) s
+
+    pub show-yes : r .number ≡ 0 → Said old used (row 0 (r .total ∷ r .displayed ∷ []) ∷ []) new p → Said old used (show-lines x k) new p
+    show-yes e s = subst (λ (ls : List (List ℕ)). Said old used ls new p) (sym (show-is ∙ yes-lines (r .number) _ [] e)) s
+
+  -- SEEK
+  module _ (x : List ℕ) (lo hi l : ℕ) (r : Reply) (h : Seek-says x lo hi l r) where
+    pub seek-no : r .number ≢ 0 → Said old used (row (r .number) [] ∷ []) new p → Prints (Seek-lines x lo hi l) old used new p
+    seek-no e s = record { lines = row (r .number) [] ∷ []; are = record { reply = r; says = h; is = sym (no-lines (r .number) _ [] e) }; said = s }
+
+    pub seek-yes : r .number ≡ 0 → Said old used (row 0 (r .key ∷ r .total ∷ r .displayed ∷ []) ∷ []) new p → Prints (Seek-lines x lo hi l) old used new p
+    seek-yes e s = record { lines = row 0 (r .key ∷ r .total ∷ r .displayed ∷ []) ∷ []; are = record { reply = r; says = h; is = sym (yes-lines (r .number) _ [] e) }; said = s }
+
+-- SPAN
+asked-image : (x : List ℕ) (qs : List Question) → first-no (asks-image x ++ qs) ≡ 0 → is-image x ≡ true
+unfolding first-no asks-image
+asked-image x qs e = go (is-image x) e
+  where
+    go : (t : Bool) → cond t (first-no qs) 4 ≡ 0 → t ≡ true
+    go true e = refl
+    go false e = absurd (omega arith)
+
+module _ (x : List ℕ) (lo hi : ℕ) (r : Reply) (o z : List ℕ) (h : Span-says x lo hi r o z) where
+  span-is : span-lines x lo hi (length o) ≡ answer-lines (r .number) (r .total ∷ []) (map order-line (nodes-from (r .total) z))
+  unfolding span-lines Span-says Span-as says answer-lines
+  span-is = go (first-no (asks-image x ++ asks-span lo hi (length o) (orders-in x))) refl h
+    where
+      go : (n : ℕ) → first-no (asks-image x ++ asks-span lo hi (length o) (orders-in x)) ≡ n → Span-as n (between lo hi (orders-in x)) r o z
+          → answer-lines n (length (between lo hi (orders-in x)) ∷ []) (map order-line (between lo hi (orders-in x)))
+          ≡ answer-lines (r .number) (r .total ∷ []) (map order-line (nodes-from (r .total) z))
+      go zero e s = rw (s .0 .0, s .0 .2, s .1, span-back x lo hi _ (asked-image x _ e))
+      go (suc n) e s = rw (s .0 .0)
+
+  module _ (old : List ℕ) (used : ℕ) (new : List ℕ) (p : ℕ) where
+    pub span-no : r .number ≢ 0 → Said old used (row (r .number) [] ∷ []) new p → Said old used (span-lines x lo hi (length o)) new p
+    span-no e s = subst (λ (ls : List (List ℕ)). Said old used ls new p) (sym (span-is ∙ no-lines (r .number) _ _ e)) s
+
+    pub span-yes : r .number ≡ 0 → (mid : List ℕ) (q : ℕ) → Said old used (row 0 (r .total ∷ []) ∷ []) mid q
+        → Said mid q (map order-line (nodes-from (r .total) z)) new p → Said old used (span-lines x lo hi (length o)) new p
+    span-yes e mid q a b = subst (λ (ls : List (List ℕ)). Said old used ls new p) (sym (span-is ∙ yes-lines (r .number) _ _ e)) (said-on old mid new used q p _ _ a b)

@@ -1,0 +1,154 @@
+-- The step of one line, put together from what its call did and what was printed.
+use mathlib.Core.Path.{_≡_, refl, ap, sym, _∙_, subst}
+use mathlib.Core.Logic.{_≢_, ⊎-elim}
+use denote.Enum.Declared.{tagOf}
+use types.Run.{OneOf}
+use mathlib.Core.Bool.{true, false, cond}
+use mathlib.Core.List.{List, [], _∷_, _++_}
+use Prim.Native.Nat.{ℕ, zero, suc, _≤_, _<_}
+use native.Mathlib.Omega.{arith}
+use lib.Dec.{ltb, eqb}
+use lib.ListN.{length, take, drop, take-append-drop}
+use lib.Seq.{length-take-le}
+use borrow.Author.Tests.{lt-ltb, le-ltb, eq-eqb, ne-eqb}
+use Rattle.lines.specs.Text.{row}
+use Rattle.lines.proofs.Call.{the-type}
+use Rattle.lines.specs.declared.Call.{Call}
+use Rattle.lines.specs.declared.Call.the-variants.{Bad, Make, Put, Cancel, Show, Span, Seek, Blocks}
+use Rattle.skiplist.specs.Image.{image}
+use Rattle.table.specs.Calls.{Make-says, Edit-says, Put-says, Cancel-says}
+use Rattle.answers.specs.Answers.{answer-lines, mark-lines, make-number, make-lines, make-leaves, show-lines, span-lines, Seek-lines, blocks-lines, Answered, Step}
+use Rattle.answers.specs.Asked.{piece, sizes-asked, long-asked, Make-asked}
+use Rattle.answers.specs.Lent.{Lent, Front}
+use Rattle.answers.specs.Output.{Said, Prints}
+use Rattle.answers.specs.declared.Lengths.{Lengths}
+
+abbrev lengths : (long used : ℕ) → Lengths
+lengths l u = record { long = l; used = u }
+
+-- a number alone
+alone : (n : ℕ) → row n [] ∷ [] ≡ answer-lines n [] []
+unfolding answer-lines
+alone zero = refl
+alone (suc n) = refl
+
+-- MAKE
+module _ (p table out out′ : List ℕ) (room : ℕ) (d : Lengths) (u long : ℕ) (l : Lent table (d .long)) (e : long ≡ long-asked p) where
+  pub make-marked : 65536 < long → Said out (d .used) mark-lines out′ u → Step Make p room d table out (lengths (d .long) u) table out′
+  unfolding Answered make-leaves make-lines
+  make-marked h s =
+      let t : ltb 65536 (long-asked p) ≡ true = ap (ltb 65536) (sym e) ∙ lt-ltb 65536 long h in
+      record { lines = mark-lines; answered = (sym (rw t), sym (rw t)); behind = refl; lent = l; said = s }
+
+  module _ (n : ℕ) (new : List ℕ) (h : long ≤ 65536) (f : Front long table new (Make-asked p n)) (s : Said out (d .used) (row n [] ∷ []) out′ u) where
+    asked-long : length (take long table) ≡ long-asked p
+    asked-long = length-take-le long table (omega (arith, l .whole)) ∙ e
+
+    number-is : n ≡ make-number p
+    unfolding make-number Make-says
+    number-is = f .says .0 ∙ rw asked-long
+
+    table-is : take long new ≡ cond (eqb n 0) (image (sizes-asked p) []) (take long table)
+    unfolding Make-says sizes-asked
+    table-is = f .says .1 ∙ ap (λ (k : ℕ). cond (eqb k 0) (image (sizes-asked p) []) (take long table)) (sym (f .says .0))
+
+    lines-are : row n [] ∷ [] ≡ make-lines p
+    unfolding make-lines
+    lines-are =
+        let t : ltb 65536 (long-asked p) ≡ false = ap (ltb 65536) (sym e) ∙ le-ltb 65536 long h in
+        alone n ∙ sym (rw (t, number-is))
+
+    -- what it leaves, where it is refused and where not
+    leaves : (x : List ℕ) → cond (eqb n 0) (image (sizes-asked p) []) x ≡ make-leaves p x
+    unfolding make-leaves
+    leaves x =
+        let t : ltb 65536 (long-asked p) ≡ false = ap (ltb 65536) (sym e) ∙ le-ltb 65536 long h in
+        sym (rw (t, number-is))
+
+    pub make-refused : n ≢ 0 → Step Make p room d table out (lengths (d .long) u) new out′
+    unfolding Answered
+    make-refused z =
+        let b = ne-eqb n 0 z in
+        let front : take long new ≡ take long table = rw b at table-is in
+        let same : new ≡ table = sym (take-append-drop long new) ∙ ap (λ (x : List ℕ). x ++ drop long new) front ∙ ap (λ (x : List ℕ). take long table ++ x) (f .behind) ∙ take-append-drop long table in
+        record {
+          lines = row n [] ∷ [];
+          answered = (ap (take (d .long)) same ∙ (rw b at (leaves (take (d .long) table))), lines-are);
+          behind = ap (drop (d .long)) same;
+          lent = subst (λ (x : List ℕ). Lent x (d .long)) (sym same) l;
+          said = s;
+        }
+
+    pub make-done : n ≡ 0 → Step Make p room d table out (lengths long u) new out′
+    unfolding Answered
+    make-done z =
+        let b = eq-eqb n 0 z in
+        record {
+          lines = row n [] ∷ [];
+          answered = ((rw b at table-is) ∙ (rw b at (leaves (take (d .long) table))), lines-are);
+          behind = f .behind;
+          lent = record { whole = f .whole ∙ l .whole; within = h };
+          said = s;
+        }
+
+-- A LINE OF ANY CALL BUT MAKE
+module _ (c : Call) (p table out out′ : List ℕ) (room : ℕ) (d : Lengths) (u : ℕ) (l : Lent table (d .long)) where
+  step-kept : (lines : List (List ℕ)) → Answered c p room (take (d .long) table) (take (d .long) table) lines → Said out (d .used) lines out′ u
+      → Step c p room d table out (lengths (d .long) u) table out′
+  step-kept lines a s = record { lines = lines; answered = a; behind = refl; lent = l; said = s }
+
+  step-changed : (new : List ℕ) (lines : List (List ℕ)) → length new ≡ length table → drop (d .long) new ≡ drop (d .long) table
+      → Answered c p room (take (d .long) table) (take (d .long) new) lines → Said out (d .used) lines out′ u → Step c p room d table out (lengths (d .long) u) new out′
+  step-changed new lines w b a s = record { lines = lines; answered = a; behind = b; lent = record { whole = w ∙ l .whole; within = l .within }; said = s }
+
+  pub step-put : (new : List ℕ) (n : ℕ) → c ≡ Put → Front (d .long) table new (Put-says (piece p 1) (piece p 2) (piece p 3) n) → Said out (d .used) (row n [] ∷ []) out′ u
+      → Step c p room d table out (lengths (d .long) u) new out′
+  unfolding Answered Put-says Edit-says
+  step-put new n e f s = step-changed new (row n [] ∷ []) (f .whole) (f .behind) (rw e (f .says .1, alone n ∙ rw (f .says .0))) s
+
+  pub step-cancel : (new : List ℕ) (n : ℕ) → c ≡ Cancel → Front (d .long) table new (Cancel-says (piece p 1) n) → Said out (d .used) (row n [] ∷ []) out′ u
+      → Step c p room d table out (lengths (d .long) u) new out′
+  unfolding Answered Cancel-says Edit-says
+  step-cancel new n e f s = step-changed new (row n [] ∷ []) (f .whole) (f .behind) (rw e (f .says .1, alone n ∙ rw (f .says .0))) s
+
+  pub step-show : c ≡ Show → Said out (d .used) (show-lines (take (d .long) table) (piece p 1)) out′ u → Step c p room d table out (lengths (d .long) u) table out′
+  unfolding Answered
+  step-show e s = step-kept _ (rw e (refl, refl)) s
+
+  pub step-span : c ≡ Span → Said out (d .used) (span-lines (take (d .long) table) (piece p 1) (piece p 2) room) out′ u → Step c p room d table out (lengths (d .long) u) table out′
+  unfolding Answered
+  step-span e s = step-kept _ (rw e (refl, refl)) s
+
+  pub step-seek : c ≡ Seek → Prints (Seek-lines (take (d .long) table) (piece p 1) (piece p 2) (piece p 3)) out (d .used) out′ u
+      → Step c p room d table out (lengths (d .long) u) table out′
+  unfolding Answered
+  step-seek e s = step-kept (s .lines) (rw e (refl, s .are)) (s .said)
+
+  pub step-blocks : c ≡ Blocks → Said out (d .used) (blocks-lines (take (d .long) table)) out′ u → Step c p room d table out (lengths (d .long) u) table out′
+  unfolding Answered
+  step-blocks e s = step-kept _ (rw e (refl, refl)) s
+
+  pub step-bad : c ≡ Bad → Said out (d .used) mark-lines out′ u → Step c p room d table out (lengths (d .long) u) table out′
+  unfolding Answered
+  step-bad e s = step-kept mark-lines (rw e (refl, refl)) s
+
+-- WHAT A MAKE LEAVES does not depend on the room for a span
+pub step-make : (c : Call) (p table out new out′ : List ℕ) (room : ℕ) (d e : Lengths) → c ≡ Make → Step Make p 0 d table out e new out′ → Step c p room d table out e new out′
+unfolding Answered
+step-make c p table out new out′ room d e h s = record { lines = s .lines; answered = rw h (s .answered); behind = s .behind; lent = s .lent; said = s .said }
+
+-- WHICH CALLS ARE LEFT: variants are told apart by their numbers
+pub bad-left : (c : Call) → OneOf (0 ∷ 1 ∷ []) (tagOf the-type c) → (c ≡ Make → ⊥) → c ≡ Bad
+bad-left Bad k h = refl
+bad-left Make k h = absurd (h refl)
+bad-left Put k h = absurd (⊎-elim (λ e. omega (arith, e)) (λ e. omega (arith, e)) k)
+bad-left Cancel k h = absurd (⊎-elim (λ e. omega (arith, e)) (λ e. omega (arith, e)) k)
+bad-left Show k h = absurd (⊎-elim (λ e. omega (arith, e)) (λ e. omega (arith, e)) k)
+bad-left Span k h = absurd (⊎-elim (λ e. omega (arith, e)) (λ e. omega (arith, e)) k)
+bad-left Seek k h = absurd (⊎-elim (λ e. omega (arith, e)) (λ e. omega (arith, e)) k)
+bad-left Blocks k h = absurd (⊎-elim (λ e. omega (arith, e)) (λ e. omega (arith, e)) k)
+
+pub not-make : (c : Call) → OneOf (0 ∷ 2 ∷ 3 ∷ 4 ∷ 5 ∷ 6 ∷ 7 ∷ []) (tagOf the-type c) → c ≡ Make → ⊥
+not-make c k e =
+    ⊎-elim (λ x. omega (arith, x)) (⊎-elim (λ x. omega (arith, x)) (⊎-elim (λ x. omega (arith, x)) (⊎-elim (λ x. omega (arith, x)) (⊎-elim (λ x. omega (arith, x)) (⊎-elim (λ x. omega (arith, x)) (λ x. omega (arith, x)))))))
+    (subst (λ (z : Call). OneOf (0 ∷ 2 ∷ 3 ∷ 4 ∷ 5 ∷ 6 ∷ 7 ∷ []) (tagOf the-type z)) e k)

@@ -1,0 +1,105 @@
+-- What each line prints. Document 01, "The program and one full run".
+use mathlib.Core.Path.{_≡_}
+use mathlib.Core.Bool.{cond}
+use mathlib.Core.List.{List, [], _∷_, _++_, map}
+use Prim.Native.Nat.{ℕ, zero, suc}
+use lib.Dec.{ltb, eqb}
+use lib.ListN.{length, take, drop}
+use Rattle.lines.specs.declared.Call.{Call}
+use Rattle.lines.specs.declared.Call.the-variants.{Bad, Make, Put, Cancel, Show, Span, Seek, Blocks}
+use Rattle.lines.specs.Text.{row, dash}
+use Rattle.sizes.specs.Header.{sizes-in}
+use Rattle.placement.specs.Blocks.{Block, empty, holds}
+use Rattle.placement.specs.Chunks.{Chunk}
+use Rattle.placement.specs.Decode.{blocks-in}
+use Rattle.placement.specs.declared.Order.{Order}
+use Rattle.skiplist.specs.Image.{image, orders-in}
+use Rattle.skiplist.specs.Questions.{first-no, between, asks-image, asks-key, asks-span}
+use Rattle.skiplist.specs.Book.{put, cancel, make-refusal, refusal, done}
+use Rattle.table.specs.declared.Reply.{Reply}
+use Rattle.table.specs.Calls.{check-number, total-of, displayed-of, Seek-says}
+use Rattle.answers.specs.Asked.{piece, seed-asked, sizes-asked, long-asked}
+use Rattle.answers.specs.Lent.{Lent}
+use Rattle.answers.specs.Output.{Said}
+use Rattle.answers.specs.declared.Lengths.{Lengths}
+
+-- "Each prints its number first, and on a refusal nothing more": what a call adds in that same line, and its further lines
+unfoldable pub answer-lines : (number : ℕ) → (adds : List ℕ) → (more : List (List ℕ)) → List (List ℕ)
+answer-lines zero ns ls = row 0 ns ∷ ls
+answer-lines (suc n) ns ls = row (suc n) [] ∷ []
+
+-- "A line of another form .. prints `?` and makes no call"
+abbrev pub mark-lines : List (List ℕ)
+mark-lines = (63 ∷ 10 ∷ []) ∷ []
+
+-- "a table over 65,536 bytes whose sizes are allowed prints `?`"; "a failed make keeps the older table"
+unfoldable pub make-number : (pieces : List ℕ) → ℕ
+make-number p = make-refusal (piece p 1) (piece p 2) (piece p 3) (piece p 4) (seed-asked p) (long-asked p)
+
+unfoldable pub make-lines : (pieces : List ℕ) → List (List ℕ)
+make-lines p = cond (ltb 65536 (long-asked p)) mark-lines (answer-lines (make-number p) [] [])
+
+unfoldable pub make-leaves : (pieces table : List ℕ) → List ℕ
+make-leaves p x = cond (ltb 65536 (long-asked p)) x (cond (eqb (make-number p) 0) (image (sizes-asked p) []) x)
+
+-- "`show` adds total and displayed"
+unfoldable pub show-lines : (table : List ℕ) → (key : ℕ) → List (List ℕ)
+show-lines x k =
+    answer-lines (first-no (asks-image x ++ asks-key k (orders-in x))) (total-of k (orders-in x) ∷ displayed-of k (orders-in x) ∷ []) []
+
+-- "`span` the number found; then `span` prints its orders, one line each": key, total, displayed
+unfoldable pub order-line : Order → List ℕ
+order-line o = row (o .key) (o .total ∷ o .displayed ∷ [])
+
+unfoldable pub span-lines : (table : List ℕ) → (lo hi room : ℕ) → List (List ℕ)
+span-lines x lo hi room =
+    answer-lines
+    (first-no (asks-image x ++ asks-span lo hi room (orders-in x)))
+    (length (between lo hi (orders-in x)) ∷ [])
+    (map order-line (between lo hi (orders-in x)))
+
+-- "`seek` the order (key, total, displayed)": some reply that a seek may give
+pub record Seek-lines (table : List ℕ) (lo hi least : ℕ) (lines : List (List ℕ)) : Type 0 where
+  pub reply : Reply
+  pub says : Seek-says table lo hi least reply
+  pub is : lines ≡ answer-lines (reply .number) (reply .key ∷ reply .total ∷ reply .displayed ∷ []) []
+
+-- "for each block its number and either `-` or level, chunk number, first key, count, and the keys"
+abbrev pub keys-of : List Order → List ℕ
+keys-of ns = map (λ (o : Order). o .key) ns
+
+unfoldable pub block-line : (number : ℕ) → Block Chunk → List ℕ
+block-line i empty = dash i
+block-line i (holds c) = row i (c .level ∷ c .number ∷ c .first ∷ length (c .nodes) ∷ keys-of (c .nodes))
+
+unfoldable pub block-lines : (number : ℕ) → List (Block Chunk) → List (List ℕ)
+block-lines i [] = []
+block-lines i (b ∷ bs) = block-line i b ∷ block-lines (suc i) bs
+
+-- the blocks of an image
+abbrev pub image-lines : (table : List ℕ) → List (List ℕ)
+image-lines x = block-lines 0 (blocks-in (sizes-in x) x)
+
+-- "`blocks` prints 0, then for each block ..", and 4 where there is no table
+unfoldable pub blocks-lines : (table : List ℕ) → List (List ℕ)
+blocks-lines x = answer-lines (check-number x) [] (image-lines x)
+
+-- ONE LINE, with the numbers of its pieces: what it leaves of the table, and what it prints
+unfoldable pub Answered : Call → (pieces : List ℕ) → (room : ℕ) → (table table-now : List ℕ) → (lines : List (List ℕ)) → Type 0
+Answered Make p room x z ls = (z ≡ make-leaves p x) × (ls ≡ make-lines p)
+Answered Put p room x z ls =
+    (z ≡ done (put (piece p 1) (piece p 2) (piece p 3)) x) × (ls ≡ answer-lines (refusal (put (piece p 1) (piece p 2) (piece p 3)) x) [] [])
+Answered Cancel p room x z ls = (z ≡ done (cancel (piece p 1)) x) × (ls ≡ answer-lines (refusal (cancel (piece p 1)) x) [] [])
+Answered Show p room x z ls = (z ≡ x) × (ls ≡ show-lines x (piece p 1))
+Answered Span p room x z ls = (z ≡ x) × (ls ≡ span-lines x (piece p 1) (piece p 2) room)
+Answered Seek p room x z ls = (z ≡ x) × Seek-lines x (piece p 1) (piece p 2) (piece p 3) ls
+Answered Blocks p room x z ls = (z ≡ x) × (ls ≡ blocks-lines x)
+Answered Bad p room x z ls = (z ≡ x) × (ls ≡ mark-lines)
+
+-- the same of the program's buffers, whose first bytes are the table and the output that waits; `room` is the length of the output that a span is lent
+pub record Step (c : Call) (p : List ℕ) (room : ℕ) (d : Lengths) (table out : List ℕ) (e : Lengths) (table-now out-now : List ℕ) : Type 0 where
+  pub lines : List (List ℕ)
+  pub answered : Answered c p room (take (d .long) table) (take (e .long) table-now) lines
+  pub behind : drop (e .long) table-now ≡ drop (e .long) table
+  pub lent : Lent table-now (e .long)
+  pub said : Said out (d .used) lines out-now (e .used)
