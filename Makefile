@@ -181,10 +181,10 @@ pictures: reference
 	@scripts/need python3:python3
 	scripts/pictures pictures
 
-# What docs/class.md and docs/format.md show, the reader, and the stored pictures, against what the programs give now.
+# docs/class.md and docs/format.md, each followed in a fresh folder as a reader does; then examples/reader.py and the stored pictures.
 lesson: reference program
 	@scripts/need python3:python3
-	@PROGRAM=$(PROGRAM) scripts/lesson
+	@scripts/lesson
 	@scripts/try-reader
 	@rm -rf build/pictures
 	@PROGRAM=$(PROGRAM) scripts/pictures build/pictures

@@ -7,6 +7,7 @@
 
 #include <stdio.h>
 #include <stdlib.h>
+#include <sys/random.h>
 
 /* The most chunks that 100 orders can make with these sizes are 310. With so many blocks a put is never turned down by question 8. */
 enum { GAMMA = 16, NODES = 16, ORDERS = 100, BLOCKS = 310 };
@@ -41,17 +42,17 @@ static void must(int right, const char *what) {
     exit(1);
 }
 
-/* Ten random numbers below 2^31 - 1. Whoever knows the seed can choose order numbers that crowd the table, so it is made afresh. */
-static void choose_seed(uint8_t seed[40]) {
-    FILE *source = fopen("/dev/urandom", "rb");
-    must(source != NULL, "no random numbers");
-    for (int i = 0; i < 40; i += 4) {
-        do {
-            must(fread(seed + i, 1, 4, source) == 4, "no random numbers");
-            seed[i] &= 0x7f;
-        } while (seed[i] == 0x7f && seed[i + 1] == 0xff && seed[i + 2] == 0xff && seed[i + 3] == 0xff);
-    }
-    fclose(source);
+/* Whoever knows the seed can choose order numbers that crowd the table, so it is random: ten numbers below 2^31, again while one of them is 2^31 - 1.
+ * No answer of this day depends on it. */
+static void make_table(void) {
+    uint8_t seed[40];
+    uint32_t number;
+    do {
+        must(getrandom(seed, sizeof seed, 0) == 40, "no random numbers");
+        for (int i = 0; i < 40; i += 4) seed[i] &= 0x7f;
+        number = balluchaw_make(table, sizeof table, GAMMA, NODES, ORDERS, BLOCKS, seed, sizeof seed);
+    } while (number == 1);
+    must(number == 0, answers[number]);
 }
 
 static void run_day(void) {
@@ -93,10 +94,7 @@ static void print_span(uint32_t lo, uint32_t hi) {
 
 int main(int count, char **words) {
     const char *name = count > 1 ? words[1] : "orders.table";
-    uint8_t seed[40];
-    choose_seed(seed);
-    uint32_t number = balluchaw_make(table, sizeof table, GAMMA, NODES, ORDERS, BLOCKS, seed, sizeof seed);
-    must(number == 0, answers[number]);
+    make_table();
     run_day();
     save(name);
     load(name);

@@ -1,6 +1,6 @@
 #!/usr/bin/env bash
-# Installs into build/prefix, compiles the example and the manual's example by what pkg-config says alone, runs them and the program, and
-# uninstalls: no file may be left, nor any touched that was there before.
+# Installs into build/prefix, compiles the example gateway and the code that the README and the manual show by what pkg-config says alone, runs them and
+# the program, and uninstalls: no file may be left, nor any touched that was there before.
 set -euo pipefail
 cd "$(dirname "$0")/.."
 prefix=$PWD/build/prefix
@@ -16,14 +16,33 @@ strict=(-std=c11 -O2 -Wall -Wextra -Werror)
 export PKG_CONFIG_PATH=$prefix/lib/pkgconfig
 read -ra flags <<<"$(pkg-config --cflags balluchaw)"
 read -ra libraries <<<"$(pkg-config --libs balluchaw)"
-compile() { # compile SOURCE PROGRAM: outside the repository's folders, so that no other header can be met
-    (cd "$prefix" && "$cc" "${strict[@]}" "${flags[@]}" "$1" "${libraries[@]}" -o "$2")
-}
 mkdir -p build/kit
 kit=$PWD/build/kit
+compile() { # compile NAME ..: the program of the first name, from the sources of all; outside the repository's folders, so that no other header is met
+    (cd "$prefix" && "$cc" "${strict[@]}" "${flags[@]}" "${@/%/.c}" "${libraries[@]}" -o "$1")
+}
+
+# What people copy: the example, the README's code and the manual's. First with the machine's random seeds; then with a first one of ten times 2^31 - 1,
+# which make turns down, and another whose numbers are allowed only because each fourth byte is masked.
+cat > "$kit/chance.c" <<'C'
+#include <string.h>
+#include <sys/random.h>
+ssize_t getrandom(void *bytes, size_t length, unsigned flags) {
+    static int calls;
+    (void)flags;
+    memset(bytes, calls++ == 0 ? 0xff : 0xa5, length);
+    return (ssize_t)length;
+}
+C
 cp examples/gateway.c "$kit/"
-compile "$kit/gateway.c" "$kit/gateway"
-"$kit/gateway" "$kit/orders.table" | diff examples/gateway.out -
+sed -n '/^```c$/,/^```$/p' README.md | sed '/^```/d' >"$kit/readme.c"
+sed -n '/^\.EX/,/^\.EE/p' man/balluchaw.3 | sed '/^\.E[XE]/d; s/\\e/\\/g' >"$kit/manual.c"
+for chance in '' "$kit/chance"; do
+    for name in gateway readme manual; do compile "$kit/$name" ${chance:+"$chance"}; done
+    timeout 20 "$kit/gateway" "$kit/orders.table" | diff examples/gateway.out -
+    timeout 20 "$kit/readme" | diff <(echo "4711: 100 of 500 displayed") -
+    timeout 20 "$kit/manual" | diff <(echo "100 of 500 displayed") -
+done
 
 # The header by itself, as older C and as C++.
 for language in "c -std=c99" "c++ -std=c++11"; do
@@ -42,21 +61,16 @@ int main(void) {
     return balluchaw_check(bytes, fread(bytes, 1, sizeof bytes, stdin)) == 0 ? 0 : 4;
 }
 C
-compile "$kit/checks.c" "$kit/checks"
+compile "$kit/checks"
 must_refuse "$kit/checks" <"$kit/orders.table"
 "$kit/gateway" "$kit/orders.table" >/dev/null
 "$kit/checks" <"$kit/orders.table"
 head -c 1000 "$kit/orders.table" >"$kit/short.table"
 must_refuse "$kit/checks" <"$kit/short.table"
 
-# The examples of the manual pages.
-sed -n '/^\.EX/,/^\.EE/p' man/balluchaw.3 | sed '/^\.E[XE]/d; s/\\e/\\/g' >"$kit/manual.c"
-compile "$kit/manual.c" "$kit/manual"
-[ "$("$kit/manual")" = "100 of 500 displayed" ]
-sed -n '/^\.EX/,/^\.EE/p' man/balluchaw.1 | grep -v '^[.$]' >"$kit/session"
-program=$prefix/bin/balluchaw
-[ -x "$program" ] || program=build/reference/release/console
-grep '^[a-z]' "$kit/session" | "$program" | diff <(grep '^[0-9]' "$kit/session") -
+# The program's manual: its commands, with the lines that it shows as typed.
+sed -n '/^\.EX/,/^\.EE/p' man/balluchaw.1 | sed '/^\.E[XE]/d; s/\\-/-/g' >"$kit/session"
+grep '^[a-z]' "$kit/session" | PATH=$prefix/bin:$PATH bash -euc "$(sed -n 's/^\$ //p' "$kit/session")" | diff <(grep '^[0-9]' "$kit/session") -
 
 MAKEFLAGS= make --no-print-directory --silent uninstall PREFIX="$prefix"
 left=$(find "$prefix" ! -type d ! -name 'other.*')
