@@ -12,9 +12,11 @@ PROGRAM = target/bin/console
 
 all: archive program
 
+NEED = cargo:cargo cc:gcc valgrind:valgrind pkg-config:pkg-config clang:clang \
+	'/usr/lib/llvm-*/lib/clang/*/lib/linux/libclang_rt.fuzzer-x86_64.a:libclang-rt-dev'
+
 need:
-	@scripts/need cargo:cargo cc:gcc valgrind:valgrind pkg-config:pkg-config clang:clang \
-		'/usr/lib/llvm-*/lib/clang/*/lib/linux/libclang_rt.fuzzer-x86_64.a:libclang-rt-dev'
+	@scripts/need $(NEED)
 
 reference: need
 	@mkdir -p build
@@ -103,8 +105,9 @@ BENCH_C = $(addprefix bench/,bench.c timing.c scene.c report.c archive.c plain.c
 BENCH_H = $(wildcard bench/*.h bench/peers/*.h bench/rust/*.h) include/balluchaw.h
 .PHONY: bench-need bench-build bench-smoke bench-count
 
-bench-need: need
-	@scripts/need sqlite3.h:libsqlite3-dev lmdb.h:liblmdb-dev python3:python3 nm:binutils
+# With what the other tests need, so that whatever is missing is said at once.
+bench-need:
+	@scripts/need $(NEED) sqlite3.h:libsqlite3-dev lmdb.h:liblmdb-dev python3:python3 nm:binutils
 
 bench-build: bench-need archive
 	@mkdir -p build bench/results

@@ -62,8 +62,9 @@ pub fn make(
         orders,
         blocks,
     };
-    let Some(seed) = Seed::from_bytes(seed) else {
-        return Reply::refused(1);
+    let seed = match Seed::from_bytes(seed) {
+        Some(seed) => seed,
+        None => return Reply::refused(1),
     };
     if !sizes.allowed() {
         return Reply::refused(2);
@@ -86,8 +87,9 @@ pub fn check(table: &[u8]) -> Reply {
 
 /// Put: 4, 5, 6, 7, 8. "A put on a held key replaces both quantities."
 pub fn put(table: &mut [u8], key: u32, total: u32, displayed: u32) -> Reply {
-    let Some((made, mut orders)) = held(table) else {
-        return Reply::refused(4);
+    let (made, mut orders) = match held(table) {
+        Some(held) => held,
+        None => return Reply::refused(4),
     };
     if !is_key(key) {
         return Reply::refused(5);
@@ -99,17 +101,20 @@ pub fn put(table: &mut [u8], key: u32, total: u32, displayed: u32) -> Reply {
         return Reply::refused(7);
     }
     orders.insert(key, Quantities { total, displayed });
-    let Some(after) = image(&made, &orders) else {
-        return Reply::refused(8);
-    };
-    table.copy_from_slice(&after);
-    Reply::done()
+    match image(&made, &orders) {
+        Some(after) => {
+            table.copy_from_slice(&after);
+            Reply::done()
+        }
+        None => Reply::refused(8),
+    }
 }
 
 /// Cancel: 4, 5, 9.
 pub fn cancel(table: &mut [u8], key: u32) -> Reply {
-    let Some((made, mut orders)) = held(table) else {
-        return Reply::refused(4);
+    let (made, mut orders) = match held(table) {
+        Some(held) => held,
+        None => return Reply::refused(4),
     };
     if !is_key(key) {
         return Reply::refused(5);
@@ -124,23 +129,25 @@ pub fn cancel(table: &mut [u8], key: u32) -> Reply {
 
 /// Lookup: 4, 5, 9. "Lookup gives total and displayed."
 pub fn lookup(table: &[u8], key: u32) -> Reply {
-    let Some((_, orders)) = held(table) else {
-        return Reply::refused(4);
+    let orders = match held(table) {
+        Some((_, orders)) => orders,
+        None => return Reply::refused(4),
     };
     if !is_key(key) {
         return Reply::refused(5);
     }
-    let Some(quantities) = orders.get(&key) else {
-        return Reply::refused(9);
-    };
-    Reply::order(key, quantities)
+    match orders.get(&key) {
+        Some(quantities) => Reply::order(key, quantities),
+        None => Reply::refused(9),
+    }
 }
 
 /// Span: 4, 5, 10, 11. "It writes key, total, displayed of each, rising, and
 /// gives their number; output bytes beyond them keep their values."
 pub fn span(table: &[u8], lo: u32, hi: u32, output: &mut [u8]) -> Reply {
-    let Some((_, orders)) = held(table) else {
-        return Reply::refused(4);
+    let orders = match held(table) {
+        Some((_, orders)) => orders,
+        None => return Reply::refused(4),
     };
     if !is_key(lo) || !is_key(hi) {
         return Reply::refused(5);
@@ -163,8 +170,9 @@ pub fn span(table: &[u8], lo: u32, hi: u32, output: &mut [u8]) -> Reply {
 /// Seek: 4, 5, 10, 12. "It gives some such order": here the one with the lowest
 /// key.
 pub fn seek(table: &[u8], lo: u32, hi: u32, r: u32) -> Reply {
-    let Some((_, orders)) = held(table) else {
-        return Reply::refused(4);
+    let orders = match held(table) {
+        Some((_, orders)) => orders,
+        None => return Reply::refused(4),
     };
     if !is_key(lo) || !is_key(hi) {
         return Reply::refused(5);
@@ -173,8 +181,8 @@ pub fn seek(table: &[u8], lo: u32, hi: u32, r: u32) -> Reply {
         return Reply::refused(10);
     }
     let fits = |order: &Quantities| order.total - order.displayed >= r;
-    let Some((&key, order)) = orders.range(lo..=hi).find(|(_, order)| fits(order)) else {
-        return Reply::refused(12);
-    };
-    Reply::order(key, order)
+    match orders.range(lo..=hi).find(|(_, order)| fits(order)) {
+        Some((&key, order)) => Reply::order(key, order),
+        None => Reply::refused(12),
+    }
 }

@@ -305,8 +305,9 @@ fn going_round<T>(blocks: &[T], start: usize, end: usize) -> (&[T], &[T]) {
 /// Whether the bytes are the image of the orders that can be read from them. It
 /// says the same as `is_image`, since one arrangement alone obeys rule 3.
 pub fn is_image_by_rebuilding(table: &[u8]) -> bool {
-    let Some(made) = read_made(table) else {
-        return false;
+    let made = match read_made(table) {
+        Some(made) => made,
+        None => return false,
     };
     if !made.sizes.allowed() || made.sizes.length() != table.len() {
         return false;

@@ -87,7 +87,14 @@ fn list(all: &[Element], k: u32) -> List {
 /// L_(k+1) and runs to just before the next such element. L_β is one partition."
 /// No level is above β, so the one rule serves both.
 pub fn partitions(list: &List, k: u32) -> impl Iterator<Item = &[Element]> {
-    list.chunk_by(move |_, next| next.level <= k)
+    let mut rest = list.as_slice();
+    std::iter::from_fn(move || {
+        let (_, others) = rest.split_first()?;
+        let m = 1 + others.iter().take_while(|other| other.level <= k).count();
+        let (partition, after) = rest.split_at(m);
+        rest = after;
+        Some(partition)
+    })
 }
 
 /// "A partition of m nodes is cut into chunks 0, 1, ..: all of B nodes but the

@@ -224,8 +224,9 @@ impl Console {
 /// "`blocks` prints 0, then for each block its number and either `-` or level,
 /// chunk number, first key, count, and the keys."
 pub fn show_blocks(table: &[u8], output: &mut impl Write) -> io::Result<()> {
-    let Some(blocks) = image::blocks(table) else {
-        return writeln!(output, "4");
+    let blocks = match image::blocks(table) {
+        Some(blocks) => blocks,
+        None => return writeln!(output, "4"),
     };
     writeln!(output, "0")?;
     for (number, block) in blocks.iter().enumerate() {

@@ -166,7 +166,7 @@ pub fn sample(
     };
     let mut made = Made { sizes, seed };
     let count = chunks(&made, &lists(&made, &book)).len() as u32;
-    made.sizes.blocks = (count * 100).div_ceil(percent).max(made.sizes.beta());
+    made.sizes.blocks = ((count * 100 + percent - 1) / percent).max(made.sizes.beta());
     assert!(made.sizes.allowed(), "{} chunks, {sizes:?}", count);
     image(&made, &book).expect("as many blocks as chunks at least")
 }

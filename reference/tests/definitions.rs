@@ -68,11 +68,10 @@ fn slow_chunks(made: &Made, orders: &Orders) -> Vec<((u32, u32, u32), Vec<u32>)>
                 .filter(|&key| first <= key && key < next)
                 .collect();
             let m = partition.len() as u32;
-            for chunk in 0..m.div_ceil(made.sizes.nodes) {
-                let from = chunk * made.sizes.nodes;
+            for from in (0..m).step_by(made.sizes.nodes as usize) {
                 let to = m.min(from + made.sizes.nodes);
                 found.push((
-                    (k, first, chunk),
+                    (k, first, from / made.sizes.nodes),
                     partition[from as usize..to as usize].to_vec(),
                 ));
             }
@@ -128,8 +127,9 @@ fn slow_bytes(made: &Made, orders: &Orders, placed: &[Placed]) -> Vec<u8> {
         write(33 + 4 * i, 4, made.seed.b[i]);
     }
     for (number, block) in placed.iter().enumerate() {
-        let Some(((level, first_key, chunk_number), keys)) = block else {
-            continue;
+        let ((level, first_key, chunk_number), keys) = match block {
+            Some(chunk) => chunk,
+            None => continue,
         };
         let place = 53 + number * block_length;
         write(place, 1, *level);

@@ -263,7 +263,7 @@ fn a_split_partition_counts_again() {
     let mut orders: Orders = [1, 3, 5, 9, 11].map(|key| (key, order(1, 0))).into();
     let labels = |orders: &Orders| {
         let mut found: Vec<Shown> = shown(&image(&made, orders).unwrap());
-        found.retain(|block| block.as_ref().is_some_and(|block| block.0 == 1));
+        found.retain(|block| matches!(block, Some((1, ..))));
         found.sort();
         found.into_iter().flatten().collect::<Vec<_>>()
     };

@@ -11,8 +11,9 @@ use reference::sizes::{Made, Seed};
 
 /// All ways to put the chunks into blocks, each in one.
 fn all_arrangements<'a>(chunks: &[Chunk<'a>], blocks: usize) -> Vec<Arrangement<'a>> {
-    let Some((last, others)) = chunks.split_last() else {
-        return vec![vec![None; blocks]];
+    let (last, others) = match chunks.split_last() {
+        Some(parts) => parts,
+        None => return vec![vec![None; blocks]],
     };
     let mut found = Vec::new();
     for arrangement in all_arrangements(others, blocks) {
@@ -36,8 +37,9 @@ fn labels(arrangement: &Arrangement) -> Vec<Option<Label>> {
 fn slow_rule_3(made: &Made, arrangement: &Arrangement) -> bool {
     let blocks = arrangement.len();
     for block in 0..blocks {
-        let Some(chunk) = arrangement[block] else {
-            continue;
+        let chunk = match arrangement[block] {
+            Some(chunk) => chunk,
+            None => continue,
         };
         let home = home(made, &chunk.label);
         let distance = (block + blocks - home) % blocks;
@@ -106,7 +108,7 @@ fn search(made: &Made, labels: &[Option<Label>], wanted: &Label) -> Option<usize
     let home = home(made, wanted);
     let blocks = labels.len();
     let mut round = (0..blocks).map(|step| (home + step) % blocks);
-    let end = round.find(|&block| labels[block].is_none_or(|label| label >= *wanted))?;
+    let end = round.find(|&block| labels[block].map_or(true, |label| label >= *wanted))?;
     (labels[end] == Some(*wanted)).then_some(end)
 }
 
@@ -121,9 +123,10 @@ fn searches_end_at_the_label() {
         let chunks = chunks(&made, &lists);
         let labels = labels(&place(&made, &chunks));
         for (block, label) in labels.iter().enumerate() {
-            let Some(label) = label else { continue };
-            assert_eq!(search(&made, &labels, label), Some(block));
-            found += 1;
+            if let Some(label) = label {
+                assert_eq!(search(&made, &labels, label), Some(block));
+                found += 1;
+            }
         }
         for _ in 0..20 {
             let label = Label {

@@ -49,8 +49,9 @@ fn block_length(table: &[u8]) -> usize {
 }
 
 fn show_orders(table: &[u8], output: &mut impl Write) -> io::Result<()> {
-    let Some((_, orders)) = held(table) else {
-        return writeln!(output, "4");
+    let orders = match held(table) {
+        Some((_, orders)) => orders,
+        None => return writeln!(output, "4"),
     };
     let mut text = String::from("0\n");
     for (key, order) in &orders {

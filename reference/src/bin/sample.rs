@@ -23,8 +23,9 @@ fn main() -> io::Result<()> {
     let numbers: Vec<u32> = numbers
         .map(|text| text.parse().expect("a number"))
         .collect();
-    let [gamma, nodes, orders, held, percent] = numbers[..] else {
-        panic!("sample γ B N ORDERS PERCENT [flat|tall|home]");
+    let table = match numbers[..] {
+        [gamma, nodes, orders, held, percent] => sample(gamma, nodes, orders, held, percent, shape),
+        _ => panic!("sample γ B N ORDERS PERCENT [flat|tall|home]"),
     };
-    io::stdout().write_all(&sample(gamma, nodes, orders, held, percent, shape))
+    io::stdout().write_all(&table)
 }

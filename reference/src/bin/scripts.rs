@@ -11,8 +11,9 @@ use std::io::{self, BufWriter, Write};
 
 fn main() -> io::Result<()> {
     let mut words = std::env::args().skip(1).map(|text| text.parse::<u64>());
-    let (Some(Ok(lines)), Some(Ok(seed)), None) = (words.next(), words.next(), words.next()) else {
-        panic!("usage: scripts LINES SEED");
+    let (lines, seed) = match (words.next(), words.next(), words.next()) {
+        (Some(Ok(lines)), Some(Ok(seed)), None) => (lines, seed),
+        _ => panic!("usage: scripts LINES SEED"),
     };
     let mut writer = Writer {
         chance: Xorshift::new(seed + 1),

@@ -332,8 +332,9 @@ fn arrange(table: &mut [u8]) {
 
 /// Places the blocks anew by rising label, from these homes.
 fn arrange_by(table: &mut [u8], home: impl Fn(&Made, &Label) -> usize) {
-    let Some(made) = made_of(table) else {
-        return;
+    let made = match made_of(table) {
+        Some(made) => made,
+        None => return,
     };
     let width = made.sizes.block_length();
     let label = |block: &Vec<u8>| Label {

@@ -22,7 +22,7 @@ fn main() {
         Ok(text) => text.parse().expect("SEED is a number"),
         Err(_) => 1,
     };
-    let long = std::env::var("TESTS").is_ok_and(|tests| tests == "long");
+    let long = std::env::var("TESTS").as_deref() == Ok("long");
     match std::env::args().nth(1).as_deref() {
         None => compare(seed, Amount(if long { 15_000 } else { 150 })),
         Some("faults") => plant(seed),
@@ -107,9 +107,12 @@ fn plant(seed: u64) {
     for (name, fault) in FAULTS {
         let mut faulty = Faulty::new(fault);
         let (met, outcome) = run(&mut faulty, seed, Amount(4));
-        let Err(mismatch) = outcome else {
-            eprintln!("differential: not found: {name}");
-            exit(1);
+        let mismatch = match outcome {
+            Err(mismatch) => mismatch,
+            Ok(()) => {
+                eprintln!("differential: not found: {name}");
+                exit(1);
+            }
         };
         let calls = met.tally.calls() + 1;
         let steps = shorten(&mut faulty, mismatch.steps, Duration::from_millis(100));

@@ -427,8 +427,9 @@ impl Rounds<'_, '_> {
     /// The held orders put into a new table in another order, with others among them that are cancelled again: the bytes must be equal.
     fn another_way(&mut self, made: &Made, size: usize) -> Outcome {
         let length = made.sizes.length();
-        let Some((_, orders)) = held(&self.pair.bytes()[..length]) else {
-            return Err(self.pair.mismatch("a history ended without a table".into()));
+        let orders = match held(&self.pair.bytes()[..length]) {
+            Some((_, orders)) => orders,
+            None => return Err(self.pair.mismatch("a history ended without a table".into())),
         };
         let left = self.pair.tested_bytes()[..length].to_vec();
         self.pair.room(size, self.generator.draw() as u8);
@@ -501,9 +502,12 @@ impl Rounds<'_, '_> {
                     orders.insert(key, Quantities { total, displayed });
                 }
             }
-            let Some(bytes) = image(&made, &orders).filter(|_| orders.len() <= most as usize)
-            else {
+            if orders.len() > most as usize {
                 continue;
+            }
+            let bytes = match image(&made, &orders) {
+                Some(bytes) => bytes,
+                None => continue,
             };
             self.pair.set(0, &bytes);
             self.pair.take(Step::Span {
@@ -738,6 +742,7 @@ impl Rounds<'_, '_> {
                 self.ask(length, &keys)?;
             }
         }
+        let plus = |size: u32, change: i32| size.wrapping_add(change as u32);
         for (blocks, gamma, most) in [
             (1, 0, 0),
             (-1, 0, 0),
@@ -749,9 +754,9 @@ impl Rounds<'_, '_> {
             (1, 1, 1),
         ] {
             let changed = Sizes {
-                gamma: made.sizes.gamma.wrapping_add_signed(gamma),
-                blocks: made.sizes.blocks.wrapping_add_signed(blocks),
-                orders: made.sizes.orders.wrapping_add_signed(most),
+                gamma: plus(made.sizes.gamma, gamma),
+                blocks: plus(made.sizes.blocks, blocks),
+                orders: plus(made.sizes.orders, most),
                 ..made.sizes
             };
             let length = changed.length();

@@ -308,18 +308,22 @@ fn before(room: usize) -> Vec<u8> {
 
 /// Whether a seek's answer is one that document 01 allows: "some such order", with its own quantities.
 fn fits(store: &[u8], step: &Step, found: &Reply) -> bool {
-    let Step::Seek { length, lo, hi, r } = *step else {
-        return false;
+    let (length, lo, hi, r) = match *step {
+        Step::Seek { length, lo, hi, r } => (length, lo, hi, r),
+        _ => return false,
     };
-    let Some((_, orders)) = held(&store[..length]) else {
-        return false;
+    let orders = match held(&store[..length]) {
+        Some((_, orders)) => orders,
+        None => return false,
     };
-    let order = orders.get(&found.key);
-    order.is_some_and(|order| {
-        *found == Reply::order(found.key, order)
-            && (lo..=hi).contains(&found.key)
-            && order.total - order.displayed >= r
-    })
+    match orders.get(&found.key) {
+        Some(order) => {
+            *found == Reply::order(found.key, order)
+                && (lo..=hi).contains(&found.key)
+                && order.total - order.displayed >= r
+        }
+        None => false,
+    }
 }
 
 /// The reference's answer, and the whole output of a span.
