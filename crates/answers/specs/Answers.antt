@@ -14,11 +14,11 @@ use Rattle.placement.specs.Chunks.{Chunk}
 use Rattle.placement.specs.Decode.{blocks-in}
 use Rattle.placement.specs.declared.Order.{Order}
 use Rattle.skiplist.specs.Image.{image, orders-in}
-use Rattle.skiplist.specs.Questions.{first-no, between, asks-image, asks-key, asks-span}
-use Rattle.skiplist.specs.Book.{put, cancel, make-refusal, refusal, done}
+use Rattle.skiplist.specs.Questions.{first-no, between, asks-image, asks-span}
+use Rattle.skiplist.specs.Book.{put, cancel, lookup, make-refusal, refusal, done}
 use Rattle.table.specs.declared.Reply.{Reply}
 use Rattle.table.specs.Calls.{check-number, total-of, displayed-of, Seek-says}
-use Rattle.answers.specs.Asked.{piece, seed-asked, sizes-asked, long-asked}
+use Rattle.answers.specs.Asked.{piece, asked, sizes-asked, long-asked}
 use Rattle.answers.specs.Lent.{Lent}
 use Rattle.answers.specs.Output.{Said}
 use Rattle.answers.specs.declared.Lengths.{Lengths}
@@ -34,7 +34,7 @@ mark-lines = (63 ∷ 10 ∷ []) ∷ []
 
 -- "a table over 65,536 bytes whose sizes are allowed prints `?`"; "a failed make keeps the older table"
 unfoldable pub make-number : (pieces : List ℕ) → ℕ
-make-number p = make-refusal (piece p 1) (piece p 2) (piece p 3) (piece p 4) (seed-asked p) (long-asked p)
+make-number p = make-refusal (asked p) (long-asked p)
 
 unfoldable pub make-lines : (pieces : List ℕ) → List (List ℕ)
 make-lines p = cond (ltb 65536 (long-asked p)) mark-lines (answer-lines (make-number p) [] [])
@@ -44,8 +44,7 @@ make-leaves p x = cond (ltb 65536 (long-asked p)) x (cond (eqb (make-number p) 0
 
 -- "`show` adds total and displayed"
 unfoldable pub show-lines : (table : List ℕ) → (key : ℕ) → List (List ℕ)
-show-lines x k =
-    answer-lines (first-no (asks-image x ++ asks-key k (orders-in x))) (total-of k (orders-in x) ∷ displayed-of k (orders-in x) ∷ []) []
+show-lines x k = answer-lines (refusal (lookup k) x) (total-of k (orders-in x) ∷ displayed-of k (orders-in x) ∷ []) []
 
 -- "`span` the number found; then `span` prints its orders, one line each": key, total, displayed
 unfoldable pub order-line : Order → List ℕ

@@ -7,7 +7,7 @@ use lib.ListN.{getD, take, drop}
 use Rattle.sizes.specs.Sizes.{sizes-good}
 use Rattle.sizes.specs.Header.{seed-bytes, table-long}
 use Rattle.sizes.specs.declared.Sizes.{Sizes}
-use Rattle.skiplist.specs.Questions.{sizes}
+use Rattle.skiplist.specs.Questions.{Parameters, parameters, sizes}
 use Rattle.table.specs.Calls.{Make-says}
 
 -- a line's pieces are its word and, from 1 on, its numbers
@@ -18,8 +18,11 @@ piece p i = getD p i 0
 unfoldable pub seed-asked : (pieces : List ℕ) → List ℕ
 seed-asked p = seed-bytes (take 10 (drop 5 p))
 
+abbrev pub asked : (pieces : List ℕ) → Parameters
+asked p = parameters (piece p 1) (piece p 2) (piece p 3) (piece p 4) (seed-asked p)
+
 unfoldable pub sizes-asked : (pieces : List ℕ) → Sizes
-sizes-asked p = sizes (piece p 1) (piece p 2) (piece p 3) (piece p 4) (seed-asked p)
+sizes-asked p = sizes (asked p)
 
 -- the bytes of a table of these sizes; 0 where they are not allowed, and the call is made all the same
 unfoldable pub long-asked : (pieces : List ℕ) → ℕ
@@ -27,4 +30,4 @@ long-asked p = cond (sizes-good (sizes-asked p)) (table-long (sizes-asked p)) 0
 
 -- MAKE with the numbers of a line
 abbrev pub Make-asked : (pieces : List ℕ) → (r : ℕ) → (table table-now : List ℕ) → Type 0
-Make-asked p r x z = Make-says (piece p 1) (piece p 2) (piece p 3) (piece p 4) (seed-asked p) r x z
+Make-asked p r x z = Make-says (asked p) r x z

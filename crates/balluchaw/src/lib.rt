@@ -1,6 +1,6 @@
 // The C interface: each call as document 01 has it, on numbers and byte slices. include/balluchaw.h says the same in C.
 ghost use mathlib.Core.Path.{_≡_};
-ghost use Rattle.table.specs.Calls.{Make-says, check-number, Put-says, Cancel-says, Look-says, Span-says, Seek-says};
+ghost use Rattle.table.specs.Calls.{parameters, Make-says, check-number, Put-says, Cancel-says, Look-says, Span-says, Seek-says};
 use table::Reply;
 
 #[no_mangle]
@@ -12,7 +12,7 @@ pub extern "C" fn balluchaw_make(
     blocks: u32,
     seed: &[u8],
 ) -> u32
-    ensures { λ r. ⌜ Make-says gamma nodes orders blocks (now (seed .entry)) r (now (table .entry)) (now (table .exit)) × (now (seed .exit) ≡ now (seed .entry)) ⌝ }
+    ensures { λ r. ⌜ Make-says (parameters gamma nodes orders blocks (now (seed .entry))) r (now (table .entry)) (now (table .exit)) × (now (seed .exit) ≡ now (seed .entry)) ⌝ }
 {
     table::making::make(table, gamma, nodes, orders, blocks, seed)
 }

@@ -2,9 +2,9 @@
 use Rattle.skiplist.specs.Questions.{First-no-means}
 use Rattle.skiplist.specs.Rules.{Image-exactly, Paper-partitions, Paper-top, Beta-is, Level-is, Hash-is, Lists-are, Chunks-are}
 use Rattle.skiplist.specs.Promise.{Image-reads-back, Labels-rise, Rule-three, One-arrangement, Lists-image, Equal-exactly, Checks-exactly}
-use Rattle.skiplist.specs.Examples.{One-to-nine}
+use Rattle.skiplist.specs.Examples.{One-to-nine, Examples-hold}
 use Rattle.skiplist.proofs.Laws.Questions.{first-no-means}
-use Rattle.skiplist.proofs.Laws.Examples.{one-to-nine-hold}
+use Rattle.skiplist.proofs.Laws.Examples.{examples-hold}
 use Rattle.skiplist.proofs.Laws.Levels.{beta-is, level-is, hash-is}
 use Rattle.skiplist.proofs.Laws.Lists.{lists-are}
 use Rattle.skiplist.proofs.Laws.Paper.{paper-partitions, paper-top}
@@ -35,8 +35,9 @@ pub record Proved : Type 0 where
   pub book : Lists-image
   pub equal : Equal-exactly
   pub checks : Checks-exactly
-  -- P1 to P9
+  -- P1 to P9, and what they leave open
   pub examples : One-to-nine
+  pub others : Examples-hold
 
 pub proved : Proved
 proved = record {
@@ -56,5 +57,6 @@ proved = record {
   book = lists-image-holds;
   equal = equal-exactly-holds;
   checks = checks-exactly-holds;
-  examples = one-to-nine-hold;
+  examples = examples-hold .0;
+  others = examples-hold .1;
 }

@@ -1,49 +1,64 @@
--- The plain book, and what puts and cancels do to a table. Document 01, "The plain book".
+-- Calls, the plain book, and what a call does to a table. Document 01, "Calls and their questions" and "The plain book".
 use mathlib.Core.Bool.{cond}
-use mathlib.Core.List.{List, [], _∷_}
+use mathlib.Core.List.{List, [], _∷_, _++_}
 use Prim.Native.Nat.{ℕ}
 use lib.Dec.{eqb}
+use lib.ListN.{length}
 use Rattle.sizes.specs.Header.{sizes-in}
 use Rattle.sizes.specs.declared.Sizes.{Sizes}
 use Rattle.placement.specs.declared.Order.{Order}
-use Rattle.skiplist.specs.Image.{image, is-image, orders-in}
-use Rattle.skiplist.specs.Questions.{first-no, asks-make, asks-put, asks-key, order, with-order, without}
+use Rattle.skiplist.specs.Image.{image, orders-in}
+use Rattle.skiplist.specs.Questions.{Question, first-no, Parameters, asks-make, asks-image, asks-put, asks-key, asks-span, asks-seek, order, with-order, without}
 
--- the number of a make, and of a put and a cancel asked of a set of orders
-unfoldable pub make-refusal : (gamma nodes orders blocks : ℕ) → (seed : List ℕ) → (long : ℕ) → ℕ
-make-refusal c b n m ss l = first-no (asks-make c b n m ss l)
+-- the number of a make
+unfoldable pub make-refusal : Parameters → (long : ℕ) → ℕ
+make-refusal q l = first-no (asks-make q l)
 
-unfoldable pub put-refusal : Sizes → (key total displayed : ℕ) → List Order → ℕ
-put-refusal s k t d os = first-no (asks-put s k t d os)
-
-unfoldable pub key-refusal : (key : ℕ) → List Order → ℕ
-key-refusal k os = first-no (asks-key k os)
-
--- a call as far as the book is concerned: lookup, span, seek and check are readings
+-- EVERY OTHER CALL, with all its arguments; an output is lent with a span
 pub data Call : Type 0 where
   put : (key total displayed : ℕ) → Call
   cancel : (key : ℕ) → Call
-  reading : Call
+  lookup : (key : ℕ) → Call
+  span : (lo hi : ℕ) → (output : List ℕ) → Call
+  seek : (lo hi reserve : ℕ) → Call
+  check : Call
 
--- THE PLAIN BOOK: it gets the sizes, the seed and the call, no reply and no byte of the table
+-- its questions after 4, asked of a set of orders
+unfoldable pub asks : Sizes → Call → List Order → List Question
+asks s (put k t d) os = asks-put s k t d os
+asks s (cancel k) os = asks-key k os
+asks s (lookup k) os = asks-key k os
+asks s (span lo hi o) os = asks-span lo hi (length o) os
+asks s (seek lo hi r) os = asks-seek lo hi r os
+asks s check os = []
+
+-- the set where none turns it down: a put adds the order or replaces the one with its key, by a cancel that order goes, a reading changes nothing
+unfoldable pub changed : Call → List Order → List Order
+changed (put k t d) os = with-order (order k t d) os
+changed (cancel k) os = without k os
+changed (lookup k) os = os
+changed (span lo hi o) os = os
+changed (seek lo hi r) os = os
+changed check os = os
+
+-- THE PLAIN BOOK: it gets the sizes, the seed and the call, no reply and no byte of the table. Its number for a call, and its set afterwards
+unfoldable pub book-refusal : Sizes → Call → List Order → ℕ
+book-refusal s c os = first-no (asks s c os)
+
 unfoldable pub booked : Sizes → Call → List Order → List Order
-booked s (put k t d) os = cond (eqb (put-refusal s k t d os) 0) (with-order (order k t d) os) os
-booked s (cancel k) os = cond (eqb (key-refusal k os) 0) (without k os) os
-booked s reading os = os
+booked s c os = cond (eqb (book-refusal s c os) 0) (changed c os) os
 
 unfoldable pub book : Sizes → List Call → List Order → List Order
 book s [] os = os
 book s (c ∷ cs) os = book s cs (booked s c os)
 
--- A CALL ON A TABLE: turned away by 4 where the bytes are no image, and else by the book's questions, asked of the orders there
+-- A CALL ON A TABLE: 4, and then its questions, asked of the orders there
 unfoldable pub refusal : Call → (table : List ℕ) → ℕ
-refusal (put k t d) bs = cond (is-image bs) (put-refusal (sizes-in bs) k t d (orders-in bs)) 4
-refusal (cancel k) bs = cond (is-image bs) (key-refusal k (orders-in bs)) 4
-refusal reading bs = cond (is-image bs) 0 4
+refusal c bs = first-no (asks-image bs ++ asks (sizes-in bs) c (orders-in bs))
 
--- the table afterwards: the image of what the book has then, or the very bytes as before
+-- the table afterwards: the image of the changed orders, or the very bytes as before
 unfoldable pub done : Call → (table : List ℕ) → List ℕ
-done c bs = cond (eqb (refusal c bs) 0) (image (sizes-in bs) (booked (sizes-in bs) c (orders-in bs))) bs
+done c bs = cond (eqb (refusal c bs) 0) (image (sizes-in bs) (changed c (orders-in bs))) bs
 
 unfoldable pub after : List Call → (table : List ℕ) → List ℕ
 after [] bs = bs

@@ -1,18 +1,18 @@
--- P1 to P9 of document 01, "Checked examples", as one list of claims, each with a test that is computed.
+-- P1 to P9 of document 01, "Checked examples", and what they leave open, as two lists of claims, each with a test that is computed.
 use mathlib.Core.Path.{_≡_}
 use mathlib.Core.Bool.{Bool, true, false, _&&_}
 use mathlib.Core.List.{List, [], _∷_, _++_}
-use Prim.Native.Nat.{ℕ, zero, suc, _+_, _*_, _/_, _%_}
+use Prim.Native.Nat.{ℕ, zero, suc, _+_, _*_, _-_, _/_, _%_}
 use lib.Dec.{eqb}
 use lib.ListN.{length, getD, set, take, drop, replicate}
-use Rattle.sizes.specs.Sizes.{beta}
+use Rattle.sizes.specs.Sizes.{prime, beta}
 use Rattle.sizes.specs.Hash.{h, g, level}
-use Rattle.sizes.specs.Header.{seed-bytes, table-long}
+use Rattle.sizes.specs.Header.{seed-bytes, table-long, header}
 use Rattle.placement.specs.Chunks.{home}
 use Rattle.sizes.specs.declared.Sizes.{Sizes}
 use Rattle.skiplist.specs.Image.{image, is-image, same}
-use Rattle.skiplist.specs.Questions.{sizes}
-use Rattle.skiplist.specs.Book.{Call, put, cancel, make-refusal, refusal, after}
+use Rattle.skiplist.specs.Questions.{Parameters, parameters, sizes}
+use Rattle.skiplist.specs.Book.{Call, put, cancel, lookup, span, seek, check, make-refusal, refusal, after}
 
 -- the sizes and seed of document 01's run: γ, B, N, M are 2, 2, 2, 4, and both hashes are the key itself
 unfoldable pub run-seed : List ℕ
@@ -34,7 +34,8 @@ pub data Example : Type 0 where
   has-level : (key is : ℕ) → Example
   hashes : (key is : ℕ) → Example
   has-beta : (gamma orders is : ℕ) → Example
-  makes : (gamma nodes orders blocks : ℕ) → (seed : List ℕ) → (is : ℕ) → Example
+  makes : (asked : Parameters) → (long is : ℕ) → Example
+  has-header : (asked : Parameters) → (held : ℕ) → List ℕ → Example
   leaves : (calls : List Call) → List Shows → Example
   leaves-bytes : (calls : List Call) → (at : ℕ) → List ℕ → Example
   answers : (calls : List Call) → (last : Call) → (is : ℕ) → Example
@@ -60,7 +61,8 @@ unfoldable pub true-of : Example → Bool
 true-of (has-level k l) = eqb (level run-sizes k) l
 true-of (hashes k v) = eqb (h run-sizes k) v && eqb (g run-sizes k) v
 true-of (has-beta c n l) = eqb (beta (record { gamma = c; nodes = 2; orders = n; blocks = 4; seed = run-seed })) l
-true-of (makes c b n m ss l) = eqb (make-refusal c b n m (seed-bytes ss) (table-long (sizes c b n m (seed-bytes ss)))) l
+true-of (makes q l n) = eqb (make-refusal q l) n
+true-of (has-header q n bs) = same (header (sizes q) n) bs
 true-of (leaves cs xs) = is-image (after cs empty-table) && blocks-are (drop 53 (after cs empty-table)) xs
 true-of (leaves-bytes cs i bs) = same (take (length bs) (drop i (after cs empty-table))) bs
 true-of (answers cs c l) = eqb (refusal c (after cs empty-table)) l
@@ -80,8 +82,12 @@ put-3 = put 3 100 20
 unfoldable pub put-6 : Call
 put-6 = put 6 50 50
 
-unfoldable pub with-number : (i v : ℕ) → List ℕ
-with-number i v = set run-seed i v
+-- make with these sizes and the run's seed; and with the run's sizes, and v for seed number i
+unfoldable pub sized : (gamma nodes orders blocks : ℕ) → Parameters
+sized c b n m = parameters c b n m (seed-bytes run-seed)
+
+unfoldable pub with-number : (i v : ℕ) → Parameters
+with-number i v = parameters 2 2 2 4 (seed-bytes (set run-seed i v))
 
 unfoldable pub one-to-nine : List Example
 one-to-nine =
@@ -104,14 +110,63 @@ one-to-nine =
     -- P8
     ∷ answers [] (put 3 100 101) 6 ∷ answers [] (put 3 100 100) 0
     -- P9
-    ∷ makes 2 2 2 4 (with-number 0 2147483647) 1 ∷ makes 2 2 2 4 (with-number 0 2147483646) 0
-    ∷ makes 2 2 2 4 (with-number 9 2147483647) 1 ∷ makes 2 2 2 4 (with-number 9 2147483646) 0
-    ∷ makes 2 2 2 2 run-seed 2 ∷ makes 2 2 2 3 run-seed 0
-    -- beyond P9, since P1 to P9 leave them open: the chunk number counts in a home, and quantities above level 1 are zero
-    ∷ has-home 1 0 1 1 ∷ has-home 2 6 3 1
-    ∷ leaves-bytes (put-3 ∷ put-6 ∷ []) 85 (2 ∷ 2 ∷ replicate 18 0 ++ (0 ∷ 0 ∷ 0 ∷ 6 ∷ replicate 8 0))
+    ∷ makes (with-number 0 prime) 181 1 ∷ makes (with-number 0 (prime - 1)) 181 0
+    ∷ makes (sized 2 2 2 2) 117 2 ∷ makes (sized 2 2 2 3) 149 0
     ∷ []
 
 -- P1 TO P9 hold of the definitions together
 unfoldable pub One-to-nine : Type 0
 One-to-nine = every one-to-nine ≡ true
+
+-- ---- WHAT P1 TO P9 LEAVE OPEN: the header's bytes, the last value that is accepted and the first that is not, the other numbers
+
+-- make with sizes that differ from each other, and ten seed numbers that do
+unfoldable pub all-different : Parameters
+all-different = parameters 3 5 700 1290 (seed-bytes (16909060 ∷ 5 ∷ 6 ∷ 7 ∷ 8 ∷ 9 ∷ 10 ∷ 11 ∷ 12 ∷ 13 ∷ []))
+
+-- sizes, with the length of their table
+unfoldable pub allows : (gamma nodes orders blocks is : ℕ) → Example
+allows c b n m l = makes (sized c b n m) (table-long (sizes (sized c b n m))) l
+
+-- each seed number is 0..p-1
+unfoldable pub seed-limits : (left : ℕ) → List Example
+seed-limits zero = []
+seed-limits (suc i) = makes (with-number i (prime - 1)) 181 0 ∷ makes (with-number i prime) 181 1 ∷ seed-limits i
+
+unfoldable pub left-open : List Example
+left-open =
+    -- all 53 bytes of the header: of the full run's table, and of the other make's, with 600 orders
+    leaves-bytes (put-6 ∷ put-3 ∷ put 4 10 0 ∷ []) 0
+    (1 ∷ 0 ∷ 0 ∷ 0 ∷ 181 ∷ 2 ∷ 2 ∷ 0 ∷ 2 ∷ 0 ∷ 4 ∷ 0 ∷ 2
+    ∷ 0 ∷ 0 ∷ 0 ∷ 0 ∷ 0 ∷ 0 ∷ 0 ∷ 1 ∷ 0 ∷ 0 ∷ 0 ∷ 0 ∷ 0 ∷ 0 ∷ 0 ∷ 0 ∷ 0 ∷ 0 ∷ 0 ∷ 0
+    ∷ 0 ∷ 0 ∷ 0 ∷ 0 ∷ 0 ∷ 0 ∷ 0 ∷ 1 ∷ 0 ∷ 0 ∷ 0 ∷ 0 ∷ 0 ∷ 0 ∷ 0 ∷ 0 ∷ 0 ∷ 0 ∷ 0 ∷ 0 ∷ [])
+    ∷ has-header all-different 600
+    (1 ∷ 0 ∷ 1 ∷ 86 ∷ 221 ∷ 3 ∷ 5 ∷ 2 ∷ 188 ∷ 5 ∷ 10 ∷ 2 ∷ 88
+    ∷ 1 ∷ 2 ∷ 3 ∷ 4 ∷ 0 ∷ 0 ∷ 0 ∷ 5 ∷ 0 ∷ 0 ∷ 0 ∷ 6 ∷ 0 ∷ 0 ∷ 0 ∷ 7 ∷ 0 ∷ 0 ∷ 0 ∷ 8
+    ∷ 0 ∷ 0 ∷ 0 ∷ 9 ∷ 0 ∷ 0 ∷ 0 ∷ 10 ∷ 0 ∷ 0 ∷ 0 ∷ 11 ∷ 0 ∷ 0 ∷ 0 ∷ 12 ∷ 0 ∷ 0 ∷ 0 ∷ 13 ∷ [])
+    -- make's 3: the length is 53 + M·(8 + 12·B)
+    ∷ makes all-different 87772 3 ∷ makes all-different 87773 0 ∷ makes all-different 87774 3
+    -- make's 2: γ 2..64, B 2..32, N 1..65,535, M β..65,535, where β is 18 for γ = 2 and N = 65,535
+    ∷ allows 1 2 1 4 2 ∷ allows 2 2 1 4 0 ∷ allows 64 2 1 4 0 ∷ allows 65 2 1 4 2
+    ∷ allows 2 1 1 4 2 ∷ allows 2 2 1 4 0 ∷ allows 2 32 1 4 0 ∷ allows 2 33 1 4 2
+    ∷ allows 64 2 0 5 2 ∷ allows 64 2 1 5 0 ∷ allows 64 2 65535 5 0 ∷ allows 64 2 65536 5 2
+    ∷ allows 2 2 65535 17 2 ∷ allows 2 2 65535 18 0 ∷ allows 2 2 2 65535 0 ∷ allows 2 2 2 65536 2
+    -- make's 1: 40 bytes
+    ∷ makes (parameters 2 2 2 4 (replicate 39 0)) 181 1 ∷ makes (parameters 2 2 2 4 (replicate 40 0)) 181 0 ∷ makes (parameters 2 2 2 4 (replicate 41 0)) 181 1
+    -- 5 and 6: key 1..p-1, total 1..4,294,967,295, displayed 0..total
+    ∷ answers [] (put 0 1 1) 5 ∷ answers [] (put 1 1 1) 0 ∷ answers [] (put (prime - 1) 1 1) 0 ∷ answers [] (put prime 1 1) 5
+    ∷ answers [] (put 3 0 0) 6 ∷ answers [] (put 3 1 0) 0 ∷ answers [] (put 3 4294967295 0) 0 ∷ answers [] (put 3 4294967296 0) 6
+    ∷ answers [] (put 3 4294967295 4294967295) 0 ∷ answers [] (put 3 7 8) 6
+    -- 7, and that a held key is not turned down by it; 9, 10, 11, 12; no question after 4
+    ∷ answers (put-6 ∷ put-3 ∷ []) (put 4 10 0) 7 ∷ answers (put-6 ∷ put-3 ∷ []) (put 3 10 0) 0
+    ∷ answers (put-3 ∷ []) (cancel 6) 9 ∷ answers (put-3 ∷ []) (lookup 6) 9 ∷ answers (put-3 ∷ []) (lookup 3) 0
+    ∷ answers [] (span 1 9 []) 0 ∷ answers [] (span 2 1 []) 10 ∷ answers [] (span 1 prime []) 5
+    ∷ answers (put-3 ∷ []) (span 1 9 (replicate 11 0)) 11 ∷ answers (put-3 ∷ []) (span 3 3 (replicate 12 0)) 0
+    ∷ answers (put-3 ∷ []) (seek 1 9 80) 0 ∷ answers (put-3 ∷ []) (seek 1 9 81) 12 ∷ answers (put-3 ∷ []) check 0
+    -- the chunk number counts in a home, and quantities above level 1 are zero
+    ∷ has-home 1 0 1 1 ∷ has-home 2 6 3 1
+    ∷ leaves-bytes (put-3 ∷ put-6 ∷ []) 85 (2 ∷ 2 ∷ replicate 18 0 ++ (0 ∷ 0 ∷ 0 ∷ 6 ∷ replicate 8 0))
+    ∷ seed-limits 10
+
+unfoldable pub Examples-hold : Type 0
+Examples-hold = every left-open ≡ true

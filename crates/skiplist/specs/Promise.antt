@@ -1,8 +1,8 @@
--- What is promised of images and of lists of puts, cancels and readings. Each statement is a type; its proof stands in proofs/.
+-- What is promised of images and of lists of calls. Each statement is a type; its proof stands in proofs/.
 use mathlib.Core.Path.{_≡_}
 use mathlib.Core.Bool.{Bool, true, _&&_}
 use mathlib.Core.List.{List, [], _∷_}
-use Prim.Native.Nat.{ℕ, _<_}
+use Prim.Native.Nat.{ℕ}
 use lib.Dec.{ltb}
 use lib.ListN.{length}
 use Rattle.sizes.specs.Sizes.{made}

@@ -7,10 +7,10 @@ use Prim.Native.Nat.{ℕ, _*_, _-_}
 use lib.Dec.{ltb, leb, eqb}
 use lib.ListN.{length}
 use Rattle.sizes.specs.Sizes.{prime, sizes-good, seed-good}
-use Rattle.sizes.specs.Header.{seed-in, sizes-in, table-long}
+use Rattle.sizes.specs.Header.{seed-in, table-long}
 use Rattle.sizes.specs.declared.Sizes.{Sizes}
 use Rattle.placement.specs.declared.Order.{Order}
-use Rattle.skiplist.specs.Image.{is-image, orders-in, into, quantities-good, fits}
+use Rattle.skiplist.specs.Image.{is-image, into, quantities-good, fits}
 
 pub data Question : Type 0 where
   ask : (number : ℕ) → (yes : Bool) → Question
@@ -69,18 +69,26 @@ unfoldable pub any-reserve : (r : ℕ) → List Order → Bool
 any-reserve r [] = false
 any-reserve r (o ∷ os) = leb r (reserve o) || any-reserve r os
 
--- the sizes and seed that make is given
-unfoldable pub sizes : (gamma nodes orders blocks : ℕ) → (seed : List ℕ) → Sizes
-sizes c b n m ss = record { gamma = c; nodes = b; orders = n; blocks = m; seed = seed-in 10 ss }
+-- WHAT MAKE IS ASKED: γ, B, N, M, and the seed's bytes
+pub record Parameters : Type 0 where
+  pub gamma : ℕ
+  pub nodes : ℕ
+  pub orders : ℕ
+  pub blocks : ℕ
+  pub seed : List ℕ
+
+abbrev pub parameters : (gamma nodes orders blocks : ℕ) → (seed : List ℕ) → Parameters
+parameters c b n m ss = record { gamma = c; nodes = b; orders = n; blocks = m; seed = ss }
+
+-- the sizes and the ten seed numbers in it
+unfoldable pub sizes : Parameters → Sizes
+sizes q = record { gamma = q .gamma; nodes = q .nodes; orders = q .orders; blocks = q .blocks; seed = seed-in 10 (q .seed) }
 
 -- ---- THE QUESTIONS OF EACH CALL, in document 01's order
 
-unfoldable pub asks-make : (gamma nodes orders blocks : ℕ) → (seed : List ℕ) → (long : ℕ) → List Question
-asks-make c b n m ss l =
-    ask 1 (eqb (length ss) 40 && seed-good (sizes c b n m ss .seed))
-    ∷ ask 2 (sizes-good (sizes c b n m ss))
-    ∷ ask 3 (eqb l (table-long (sizes c b n m ss)))
-    ∷ []
+unfoldable pub asks-make : Parameters → (long : ℕ) → List Question
+asks-make q l =
+    ask 1 (eqb (length (q .seed)) 40 && seed-good (sizes q .seed)) ∷ ask 2 (sizes-good (sizes q)) ∷ ask 3 (eqb l (table-long (sizes q))) ∷ []
 
 -- every other call first asks whether the bytes are an image
 unfoldable pub asks-image : (table : List ℕ) → List Question

@@ -7,9 +7,11 @@ use lib.Dec.{eqb}
 use lib.ListN.{length, drop}
 use Rattle.placement.specs.Chunks.{nodes-bytes}
 use Rattle.placement.specs.declared.Order.{Order}
-use Rattle.skiplist.specs.Image.{image, is-image, orders-in}
-use Rattle.skiplist.specs.Questions.{first-no, asks-image, asks-key, asks-span, asks-seek, sizes, held, between, reserve, order}
-use Rattle.skiplist.specs.Book.{Call, put, cancel, make-refusal, refusal, done}
+use Rattle.skiplist.specs.Image.{image, orders-in}
+use Rattle.skiplist.specs.Questions.{Parameters, sizes, held, between, reserve, order}
+-- passed on: a contract of make builds what it is asked from its arguments
+pub use Rattle.skiplist.specs.Questions.{parameters}
+use Rattle.skiplist.specs.Book.{Call, put, cancel, lookup, span, seek, check, make-refusal, refusal, done}
 use Rattle.table.specs.declared.Reply.{Reply}
 
 -- every part of an answer; on a refusal all other parts are 0
@@ -17,15 +19,14 @@ unfoldable pub says : (number key total displayed : ℕ) → Reply → Type 0
 says n k t d r = (r .number ≡ n) × (r .key ≡ k) × (r .total ≡ t) × (r .displayed ≡ d)
 
 -- MAKE: 1, 2, 3; then every byte is that of the image of no orders
-unfoldable pub Make-says : (gamma nodes orders blocks : ℕ) → (seed : List ℕ) → (r : ℕ) → (table table-now : List ℕ) → Type 0
-Make-says c b n m ss r x z =
-    (r ≡ make-refusal c b n m ss (length x)) × (z ≡ cond (eqb (make-refusal c b n m ss (length x)) 0) (image (sizes c b n m ss) []) x)
+unfoldable pub Make-says : Parameters → (r : ℕ) → (table table-now : List ℕ) → Type 0
+Make-says q r x z = (r ≡ make-refusal q (length x)) × (z ≡ cond (eqb (make-refusal q (length x)) 0) (image (sizes q) []) x)
 
 -- CHECK: 4
 unfoldable pub check-number : (table : List ℕ) → ℕ
-check-number x = first-no (asks-image x)
+check-number x = refusal check x
 
--- PUT and CANCEL: 4, then 5, 6, 7, 8, or 5, 9; the table is the image of what the book then has
+-- PUT and CANCEL: 4, then 5, 6, 7, 8, or 5, 9; the table is the image of the orders as they change them
 unfoldable pub Edit-says : Call → (r : ℕ) → (table table-now : List ℕ) → Type 0
 Edit-says c r x z = (r ≡ refusal c x) × (z ≡ done c x)
 
@@ -49,7 +50,7 @@ Look-as zero k os r = says 0 k (total-of k os) (displayed-of k os) r
 Look-as (suc n) k os r = says (suc n) 0 0 0 r
 
 unfoldable pub Look-says : (table : List ℕ) → (key : ℕ) → Reply → Type 0
-Look-says x k r = Look-as (first-no (asks-image x ++ asks-key k (orders-in x))) k (orders-in x) r
+Look-says x k r = Look-as (refusal (lookup k) x) k (orders-in x) r
 
 -- SPAN: 4, 5, 10, 11; key, total, displayed of each order in lo..hi, rising, at the front of the output, and their number in `total`
 unfoldable pub Span-as : (number : ℕ) → List Order → Reply → (output output-now : List ℕ) → Type 0
@@ -57,7 +58,7 @@ Span-as zero os r o z = says 0 0 (length os) 0 r × (z ≡ nodes-bytes os ++ dro
 Span-as (suc n) os r o z = says (suc n) 0 0 0 r × (z ≡ o)
 
 unfoldable pub Span-says : (table : List ℕ) → (lo hi : ℕ) → Reply → (output output-now : List ℕ) → Type 0
-Span-says x lo hi r o z = Span-as (first-no (asks-image x ++ asks-span lo hi (length o) (orders-in x))) (between lo hi (orders-in x)) r o z
+Span-says x lo hi r o z = Span-as (refusal (span lo hi o) x) (between lo hi (orders-in x)) r o z
 
 -- SEEK: 4, 5, 10, 12; some order that is held, lies in lo..hi and has the reserve, with its own quantities
 pub record Seek-gives (os : List Order) (lo hi least : ℕ) (r : Reply) : Type 0 where
@@ -72,4 +73,4 @@ Seek-as zero os lo hi l r = Seek-gives os lo hi l r
 Seek-as (suc n) os lo hi l r = says (suc n) 0 0 0 r
 
 unfoldable pub Seek-says : (table : List ℕ) → (lo hi least : ℕ) → Reply → Type 0
-Seek-says x lo hi l r = Seek-as (first-no (asks-image x ++ asks-seek lo hi l (orders-in x))) (orders-in x) lo hi l r
+Seek-says x lo hi l r = Seek-as (refusal (seek lo hi l) x) (orders-in x) lo hi l r

@@ -8,7 +8,7 @@ ghost use Rattle.sizes.specs.Sizes.{made};
 ghost use Rattle.sizes.specs.Header.{table-long};
 ghost use Rattle.placement.specs.Place.{Shaped};
 ghost use Rattle.skiplist.specs.Image.{image};
-ghost use Rattle.skiplist.specs.Questions.{sizes};
+ghost use Rattle.skiplist.specs.Questions.{parameters, sizes};
 ghost use Rattle.table.specs.Make.{Fronts};
 ghost use Rattle.table.specs.Calls.{Make-says};
 use sizes::Sizes;
@@ -21,7 +21,7 @@ use sizes::header::table_length;
 // The numbers of the header's sizes and seed, as make is given them.
 fn sizes_of(gamma: u32, nodes: u32, orders: u32, blocks: u32, seed: &[u8]) -> Sizes
     requires { ⌜ length (now seed) ≡ 40 ⌝ }
-    ensures { λ r. ⌜ r ≡ sizes gamma nodes orders blocks (now (seed .entry)) ⌝ }
+    ensures { λ r. ⌜ r ≡ sizes (parameters gamma nodes orders blocks (now (seed .entry))) ⌝ }
 {
     let mut numbers = [0u32; 10];
     let mut i: usize = 0;
@@ -76,7 +76,7 @@ fn write_empty(table: &mut [u8], s: Sizes)
 
 // Make: questions 1, 2, 3; then the image of no orders.
 pub fn make(table: &mut [u8], gamma: u32, nodes: u32, orders: u32, blocks: u32, seed: &[u8]) -> u32
-    ensures { λ r. ⌜ Make-says gamma nodes orders blocks (now (seed .entry)) r (now (table .entry)) (now (table .exit)) × (now (seed .exit) ≡ now (seed .entry)) ⌝ }
+    ensures { λ r. ⌜ Make-says (parameters gamma nodes orders blocks (now (seed .entry))) r (now (table .entry)) (now (table .exit)) × (now (seed .exit) ≡ now (seed .entry)) ⌝ }
 {
     if seed.len() != 40 {
         return 1;

@@ -1,15 +1,15 @@
 -- What is printed for a reply is what its line has to print.
 use mathlib.Core.Path.{_≡_, refl, sym, _∙_, subst}
 use mathlib.Core.Logic.{_≢_}
-use mathlib.Core.Bool.{Bool, true, false, cond}
-use mathlib.Core.List.{List, [], _∷_, _++_, map}
+use mathlib.Core.List.{List, [], _∷_, map}
 use Prim.Native.Nat.{ℕ, zero, suc}
-use native.Mathlib.Omega.{arith}
 use lib.ListN.{length}
 use Rattle.lines.specs.Text.{row}
 use Rattle.placement.specs.Decode.{nodes-from}
-use Rattle.skiplist.specs.Image.{is-image, orders-in}
-use Rattle.skiplist.specs.Questions.{Question, first-no, between, asks-image, asks-key, asks-span}
+use Rattle.skiplist.specs.Image.{orders-in}
+use Rattle.skiplist.specs.Questions.{between}
+use Rattle.skiplist.specs.Book.{lookup, span, asks, refusal}
+use Rattle.skiplist.proofs.Laws.Third.{taken}
 use Rattle.table.specs.declared.Reply.{Reply}
 use Rattle.table.specs.Calls.{says, total-of, displayed-of, Look-as, Look-says, Span-as, Span-says, Seek-says}
 use Rattle.answers.specs.Answers.{answer-lines, show-lines, order-line, span-lines, Seek-lines}
@@ -32,7 +32,7 @@ module _ (old : List ℕ) (used : ℕ) (new : List ℕ) (p : ℕ) where
   module _ (x : List ℕ) (k : ℕ) (r : Reply) (h : Look-says x k r) where
     show-is : show-lines x k ≡ answer-lines (r .number) (r .total ∷ r .displayed ∷ []) []
     unfolding show-lines Look-says Look-as says answer-lines
-    show-is = go (first-no (asks-image x ++ asks-key k (orders-in x))) h
+    show-is = go (refusal (lookup k) x) h
       where
         go : (n : ℕ) → Look-as n k (orders-in x) r
             → answer-lines n (total-of k (orders-in x) ∷ displayed-of k (orders-in x) ∷ []) [] ≡ answer-lines (r .number) (r .total ∷ r .displayed ∷ []) []
@@ -54,23 +54,15 @@ module _ (old : List ℕ) (used : ℕ) (new : List ℕ) (p : ℕ) where
     seek-yes e s = record { lines = row 0 (r .key ∷ r .total ∷ r .displayed ∷ []) ∷ []; are = record { reply = r; says = h; is = sym (yes-lines (r .number) _ [] e) }; said = s }
 
 -- SPAN
-asked-image : (x : List ℕ) (qs : List Question) → first-no (asks-image x ++ qs) ≡ 0 → is-image x ≡ true
-unfolding first-no asks-image
-asked-image x qs e = go (is-image x) e
-  where
-    go : (t : Bool) → cond t (first-no qs) 4 ≡ 0 → t ≡ true
-    go true e = refl
-    go false e = absurd (omega arith)
-
 module _ (x : List ℕ) (lo hi : ℕ) (r : Reply) (o z : List ℕ) (h : Span-says x lo hi r o z) where
   span-is : span-lines x lo hi (length o) ≡ answer-lines (r .number) (r .total ∷ []) (map order-line (nodes-from (r .total) z))
-  unfolding span-lines Span-says Span-as says answer-lines
-  span-is = go (first-no (asks-image x ++ asks-span lo hi (length o) (orders-in x))) refl h
+  unfolding span-lines Span-says refusal asks Span-as says answer-lines
+  span-is = go (refusal (span lo hi o) x) refl h
     where
-      go : (n : ℕ) → first-no (asks-image x ++ asks-span lo hi (length o) (orders-in x)) ≡ n → Span-as n (between lo hi (orders-in x)) r o z
+      go : (n : ℕ) → refusal (span lo hi o) x ≡ n → Span-as n (between lo hi (orders-in x)) r o z
           → answer-lines n (length (between lo hi (orders-in x)) ∷ []) (map order-line (between lo hi (orders-in x)))
           ≡ answer-lines (r .number) (r .total ∷ []) (map order-line (nodes-from (r .total) z))
-      go zero e s = rw (s .0 .0, s .0 .2, s .1, span-back x lo hi _ (asked-image x _ e))
+      go zero e s = rw (s .0 .0, s .0 .2, s .1, span-back x lo hi _ (taken (span lo hi o) x e .0))
       go (suc n) e s = rw (s .0 .0)
 
   module _ (old : List ℕ) (used : ℕ) (new : List ℕ) (p : ℕ) where

@@ -12,7 +12,7 @@ use Rattle.sizes.specs.Sizes.{beta, sizes-good}
 use Rattle.sizes.specs.Header.{seed-bytes, block-long, table-long}
 use Rattle.sizes.specs.declared.Sizes.{Sizes}
 use Rattle.sizes.proofs.Laws.Numbers.{length-big}
-use Rattle.skiplist.specs.Questions.{sizes}
+use Rattle.skiplist.specs.Questions.{parameters, sizes}
 use Rattle.table.specs.Calls.{Make-says}
 use Rattle.placement.proofs.Laws.Cells.{take-sets-end}
 use Rattle.answers.specs.Asked.{piece, seed-asked, sizes-asked, long-asked, Make-asked}
@@ -56,8 +56,8 @@ module _ (p : List ℕ) where
         sym (take-all 40 seed (omega (arith, s .room))) ∙ subst (λ (k : ℕ). take (4 * k) seed ≡ seed-bytes (take k (drop 5 p))) e (s .is)
 
 -- make is called with those bytes
-pub make-asked : (p seed x z : List ℕ) (r : ℕ) → seed ≡ seed-asked p → Make-says (piece p 1) (piece p 2) (piece p 3) (piece p 4) seed r x z → Make-asked p r x z
-make-asked p seed x z r e h = subst (λ (ss : List ℕ). Make-says (piece p 1) (piece p 2) (piece p 3) (piece p 4) ss r x z) e h
+pub make-asked : (p seed x z : List ℕ) (r : ℕ) → seed ≡ seed-asked p → Make-says (parameters (piece p 1) (piece p 2) (piece p 3) (piece p 4) seed) r x z → Make-asked p r x z
+make-asked p seed x z r e h = subst (λ (ss : List ℕ). Make-says (parameters (piece p 1) (piece p 2) (piece p 3) (piece p 4) ss) r x z) e h
 
 -- THE LENGTH of the table that is asked for
 same-good : (s t : Sizes) → s .gamma ≡ t .gamma → s .nodes ≡ t .nodes → s .orders ≡ t .orders → s .blocks ≡ t .blocks → sizes-good s ≡ sizes-good t

@@ -11,13 +11,14 @@ use lib.Seq.{length-take-le, length-front, take-at, drop-at}
 use borrow.Author.Tests.{leb-true}
 use Rattle.skiplist.specs.Image.{is-image, orders-in}
 use Rattle.skiplist.specs.Questions.{first-no, is-key, between, asks-image, asks-range, asks-span}
+use Rattle.skiplist.specs.Book.{asks, refusal}
 use Rattle.table.specs.declared.Reply.{Reply}
 use Rattle.answers.specs.Lent.{Front}
 use Rattle.table.specs.Calls.{says, check-number, Look-says, Span-as, Span-says, Seek-says}
 
 module _ (x : List ℕ) (lo hi : ℕ) (r : Reply) (o z : List ℕ) where
   pub span-room : Span-says x lo hi r o z → 12 * r .total ≤ length o
-  unfolding Span-says Span-as says asks-image asks-span asks-range first-no
+  unfolding Span-says refusal asks Span-as says asks-image asks-span asks-range first-no
   span-room h = go (is-image x) (is-key lo && is-key hi) (leb lo hi) (leb (12 * length (between lo hi (orders-in x))) (length o)) refl h
     where
       go : (a b c d : Bool) → leb (12 * length (between lo hi (orders-in x))) (length o) ≡ d

@@ -14,8 +14,8 @@ use Rattle.sizes.specs.Header.{sizes-in, held-in}
 use Rattle.sizes.specs.declared.Sizes.{Sizes}
 use Rattle.placement.specs.declared.Order.{Order}
 use Rattle.skiplist.specs.Image.{image, is-image, orders-in}
-use Rattle.skiplist.specs.Questions.{first-no, asks-key, is-key, held, without}
-use Rattle.skiplist.specs.Book.{cancel, booked, key-refusal, refusal}
+use Rattle.skiplist.specs.Questions.{first-no, asks-image, asks-key, is-key, held, without}
+use Rattle.skiplist.specs.Book.{cancel, asks, changed, refusal}
 use Rattle.skiplist.proofs.Laws.Parts.{Up, good-up, without-here}
 use Rattle.skiplist.proofs.Laws.Edits.{level-most}
 use Rattle.skiplist.proofs.Laws.Shapes.{Place, there, absent, place, held-absent}
@@ -52,15 +52,15 @@ module _ (s : Sizes) (k : ℕ) (os : List Order) (m : made s ≡ true) (w : Kept
 
 module _ (bs : List ℕ) (k : ℕ) where
   pub cancel-no-4 : is-image bs ≡ false → Cancel-says k 4 bs bs
-  unfolding Cancel-says refusal
+  unfolding Cancel-says refusal first-no asks-image
   cancel-no-4 e = refused (cancel k) 4 bs (rw e) (λ z. omega arith)
 
   pub cancel-no-5 : is-image bs ≡ true → is-key k ≡ false → Cancel-says k 5 bs bs
-  unfolding Cancel-says refusal key-refusal first-no asks-key
+  unfolding Cancel-says refusal asks first-no asks-image asks-key
   cancel-no-5 e q = refused (cancel k) 5 bs (rw (e, q)) (λ z. omega arith)
 
   pub cancel-no-9 : is-image bs ≡ true → is-key k ≡ true → held k (orders-in bs) ≡ false → Cancel-says k 9 bs bs
-  unfolding Cancel-says refusal key-refusal first-no asks-key
+  unfolding Cancel-says refusal asks first-no asks-image asks-key
   cancel-no-9 e q h = refused (cancel k) 9 bs (rw (e, q, h)) (λ z. omega arith)
 
   module _ (e : is-image bs ≡ true) (h : held k (orders-in bs) ≡ true) where
@@ -71,11 +71,10 @@ module _ (bs : List ℕ) (k : ℕ) where
         omega (arith, q, image-held bs e, out-length (sizes-in bs) k (orders-in bs) (w .sizes-made) (w .kept) h)
 
     pub cancel-done : (s : Sizes) (top l f m : ℕ) (bs₁ bs′ : List ℕ) → is-key k ≡ true → Sized bs s top l k → Leads s bs top l k f → Cancel-held s f l k bs bs₁ → m ≡ held-in bs → bs′ ≡ sets bs₁ 11 (big 2 (m - 1)) → Cancel-says k 0 bs bs′
-    unfolding Cancel-says refusal booked key-refusal first-no asks-key
+    unfolding Cancel-says refusal asks changed first-no asks-image asks-key
     cancel-done s top l f m bs₁ bs′ q z ld c n i =
         let w = on-image bs s e (z .sizes-are) in
         let r : m - 1 ≡ length (without k (orders-in bs)) = omega (arith, n, image-held bs e, out-length s k (orders-in bs) (w .sizes-made) (w .kept) h) in
         accepted (cancel k) bs bs′ (rw (e, q, h))
-        (rw (q, h)
         (subst (λ (x : Sizes). bs′ ≡ image x (without k (orders-in bs))) (z .sizes-are)
-        (i ∙ ap (λ (x : ℕ). sets bs₁ 11 (big 2 x)) r ∙ out-image s k (orders-in bs) (w .sizes-made) (w .kept) h bs bs₁ top l f (w .is) (z .top-is) (z .level-is) ld c)))
+        (i ∙ ap (λ (x : ℕ). sets bs₁ 11 (big 2 x)) r ∙ out-image s k (orders-in bs) (w .sizes-made) (w .kept) h bs bs₁ top l f (w .is) (z .top-is) (z .level-is) ld c))

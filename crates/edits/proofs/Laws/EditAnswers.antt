@@ -22,8 +22,8 @@ use Rattle.sizes.proofs.Laws.Numbers.{field-big}
 use Rattle.placement.proofs.Laws.Tables.{shaped}
 use Rattle.skiplist.specs.Lists.{chunks}
 use Rattle.skiplist.specs.Image.{image, is-image, orders-in, quantities-good}
-use Rattle.skiplist.specs.Questions.{first-no, asks-put, is-key}
-use Rattle.skiplist.specs.Book.{Call, put, booked, put-refusal, refusal, done}
+use Rattle.skiplist.specs.Questions.{first-no, asks-image, asks-put, is-key}
+use Rattle.skiplist.specs.Book.{Call, put, asks, changed, refusal, done}
 use Rattle.skiplist.proofs.Laws.Kept.{fits-parts, Kept}
 use Rattle.skiplist.proofs.Laws.Third.{image-parts}
 use Rattle.skiplist.proofs.Laws.Image.{image-keeps}
@@ -103,7 +103,7 @@ pub refused : (c : Call) (n : ℕ) (bs : List ℕ) → refusal c bs ≡ n → (n
 unfolding Edit-says done
 refused c n bs e h = (sym e, rw (e, ne-eqb n 0 h))
 
-pub accepted : (c : Call) (bs bs′ : List ℕ) → refusal c bs ≡ 0 → bs′ ≡ image (sizes-in bs) (booked (sizes-in bs) c (orders-in bs)) → Edit-says c 0 bs bs′
+pub accepted : (c : Call) (bs bs′ : List ℕ) → refusal c bs ≡ 0 → bs′ ≡ image (sizes-in bs) (changed c (orders-in bs)) → Edit-says c 0 bs bs′
 unfolding Edit-says done
 accepted c bs bs′ e h = (sym e, rw e h)
 
@@ -118,15 +118,15 @@ key-no b k e z = sym e ∙ z
 
 module _ (bs : List ℕ) (k t d : ℕ) where
   pub put-no-4 : is-image bs ≡ false → Put-says k t d 4 bs bs
-  unfolding Put-says refusal
+  unfolding Put-says refusal first-no asks-image
   put-no-4 e = refused (put k t d) 4 bs (rw e) (λ z. omega arith)
 
   pub put-no-5 : is-image bs ≡ true → is-key k ≡ false → Put-says k t d 5 bs bs
-  unfolding Put-says refusal put-refusal first-no asks-put
+  unfolding Put-says refusal asks first-no asks-image asks-put
   put-no-5 e q = refused (put k t d) 5 bs (rw (e, q)) (λ z. omega arith)
 
   no-6 : is-image bs ≡ true → is-key k ≡ true → quantities-good t d ≡ false → Put-says k t d 6 bs bs
-  unfolding Put-says refusal put-refusal first-no asks-put
+  unfolding Put-says refusal asks first-no asks-image asks-put
   no-6 e q r = refused (put k t d) 6 bs (rw (e, q, r)) (λ z. omega arith)
 
   pub put-no-6-none : is-image bs ≡ true → is-key k ≡ true → t ≡ 0 → Put-says k t d 6 bs bs

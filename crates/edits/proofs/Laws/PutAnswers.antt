@@ -20,8 +20,8 @@ use Rattle.placement.specs.declared.Order.{Order}
 use Rattle.sizes.proofs.Laws.Sizes.{some-nodes}
 use Rattle.skiplist.specs.Lists.{first-key, chunks}
 use Rattle.skiplist.specs.Image.{image, is-image, orders-in, quantities-good, fits}
-use Rattle.skiplist.specs.Questions.{first-no, asks-put, is-key, held, order, with-order}
-use Rattle.skiplist.specs.Book.{put, booked, put-refusal, refusal}
+use Rattle.skiplist.specs.Questions.{first-no, asks-image, asks-put, is-key, held, order, with-order}
+use Rattle.skiplist.specs.Book.{put, asks, changed, book-refusal, refusal}
 use Rattle.skiplist.proofs.Laws.Parts.{Up, and-left, up-from, up-past, good-up, below}
 use Rattle.skiplist.proofs.Laws.Edits.{head-part, level-most}
 use Rattle.skiplist.proofs.Laws.Shapes.{Place, there, absent, place, held-there, held-absent, put-new, put-old}
@@ -80,7 +80,7 @@ module _ (s : Sizes) (k t d : ℕ) (os : List Order) (m : made s ≡ true) (w : 
       new-count g h = new-at (λ (z : List Order). g + length (chunks s z) ≡ length (chunks s (with-order (order k t d) z)))
           (λ xs zs q b v. rw (put-new (order k t d) xs zs b v) (h xs (order k t d) zs (new-way xs zs q b v) (new-first xs zs q b v) refl le))
 
-      new-image : (bs′ : List ℕ) → put-refusal s k t d os ≡ 0 → Put-new s f l (order k t d) bs bs′ → sets bs′ 11 (big 2 (suc (length os))) ≡ image s (with-order (order k t d) os)
+      new-image : (bs′ : List ℕ) → book-refusal s (put k t d) os ≡ 0 → Put-new s f l (order k t d) bs bs′ → sets bs′ 11 (big 2 (suc (length os))) ≡ image s (with-order (order k t d) os)
       unfolding Put-new
       new-image bs′ r h =
           ap (λ (n : ℕ). sets bs′ 11 (big 2 n)) (sym new-length)
@@ -91,13 +91,13 @@ module _ (s : Sizes) (k t d : ℕ) (os : List Order) (m : made s ≡ true) (w : 
           rw (put-new (order k t d) xs zs b v)
           (h xs zs (record { sizes = m; good = rw e at (v′ .good); fit = rw e at (v′ .fit) }) (new-first xs zs q b v) le (rw q at i)))
 
-    new-no-7 : s .orders ≤ length os → put-refusal s k t d os ≡ 7
-    unfolding put-refusal first-no asks-put
+    new-no-7 : s .orders ≤ length os → book-refusal s (put k t d) os ≡ 7
+    unfolding book-refusal asks first-no asks-put
     new-no-7 h = rw (key, quant, free, le-ltb (length os) (s .orders) h)
 
     module _ (more : length os < s .orders) where
-      new-no-8 : s .blocks < length (chunks s (with-order (order k t d) os)) → put-refusal s k t d os ≡ 8
-      unfolding put-refusal first-no asks-put fits
+      new-no-8 : s .blocks < length (chunks s (with-order (order k t d) os)) → book-refusal s (put k t d) os ≡ 8
+      unfolding book-refusal asks first-no asks-put fits
       new-no-8 h =
           rw (
             key,
@@ -108,8 +108,8 @@ module _ (s : Sizes) (k t d : ℕ) (os : List Order) (m : made s ≡ true) (w : 
             and-false (leb (length (with-order (order k t d) os)) (s .orders)),
           )
 
-      new-yes : length (chunks s (with-order (order k t d) os)) ≤ s .blocks → put-refusal s k t d os ≡ 0
-      unfolding put-refusal first-no asks-put
+      new-yes : length (chunks s (with-order (order k t d) os)) ≤ s .blocks → book-refusal s (put k t d) os ≡ 0
+      unfolding book-refusal asks first-no asks-put
       new-yes h =
           rw (key, quant, free, lt-ltb (length os) (s .orders) more, fits-make s (with-order (order k t d) os) (rw new-length more) h)
 
@@ -130,8 +130,8 @@ module _ (s : Sizes) (k t d : ℕ) (os : List Order) (m : made s ≡ true) (w : 
     old-count = old-at (λ (z : List Order). length (chunks s (with-order (order k t d) z)) ≡ length (chunks s z))
         (λ xs y zs q e v. rw (put-old (order k t d) y xs zs 1 e v) (sym (chunks-swap s xs y (order k t d) zs e (up-past xs y zs 1 v) (key-some k key) (some-nodes s m))))
 
-    old-yes : put-refusal s k t d os ≡ 0
-    unfolding put-refusal first-no asks-put
+    old-yes : book-refusal s (put k t d) os ≡ 0
+    unfolding book-refusal asks first-no asks-put
     old-yes =
         let f = fits-parts s os (w .fit) in
         rw (key, quant, there-is, fits-make s (with-order (order k t d) os) (rw old-length (f .few)) (rw old-count (f .room)))
@@ -149,15 +149,15 @@ module _ (s : Sizes) (k t d : ℕ) (os : List Order) (m : made s ≡ true) (w : 
 -- ---- the answers
 
 module _ (bs : List ℕ) (s : Sizes) (k t d : ℕ) (p : Put-sure bs k t d) where
-  put-refused : (n : ℕ) → s ≡ sizes-in bs → put-refusal s k t d (orders-in bs) ≡ n → (n ≡ 0 → ⊥) → Put-says k t d n bs bs
-  unfolding Put-says refusal
-  put-refused n q e h = refused (put k t d) n bs (rw (p .image) (subst (λ (z : Sizes). put-refusal z k t d (orders-in bs) ≡ n) q e)) h
+  put-refused : (n : ℕ) → s ≡ sizes-in bs → book-refusal s (put k t d) (orders-in bs) ≡ n → (n ≡ 0 → ⊥) → Put-says k t d n bs bs
+  unfolding Put-says refusal book-refusal first-no asks-image
+  put-refused n q e h = refused (put k t d) n bs (rw (p .image) (subst (λ (z : Sizes). book-refusal z (put k t d) (orders-in bs) ≡ n) q e)) h
 
-  put-accepted : (bs′ : List ℕ) → s ≡ sizes-in bs → put-refusal s k t d (orders-in bs) ≡ 0 → bs′ ≡ image s (with-order (order k t d) (orders-in bs)) → Put-says k t d 0 bs bs′
-  unfolding Put-says refusal booked
+  put-accepted : (bs′ : List ℕ) → s ≡ sizes-in bs → book-refusal s (put k t d) (orders-in bs) ≡ 0 → bs′ ≡ image s (with-order (order k t d) (orders-in bs)) → Put-says k t d 0 bs bs′
+  unfolding Put-says refusal book-refusal changed first-no asks-image
   put-accepted bs′ q e h =
-      let r : put-refusal (sizes-in bs) k t d (orders-in bs) ≡ 0 = subst (λ (z : Sizes). put-refusal z k t d (orders-in bs) ≡ 0) q e in
-      accepted (put k t d) bs bs′ (rw (p .image, r)) (rw r (subst (λ (z : Sizes). bs′ ≡ image z (with-order (order k t d) (orders-in bs))) q h))
+      let r : book-refusal (sizes-in bs) (put k t d) (orders-in bs) ≡ 0 = subst (λ (z : Sizes). book-refusal z (put k t d) (orders-in bs) ≡ 0) q e in
+      accepted (put k t d) bs bs′ (rw (p .image, r)) (subst (λ (z : Sizes). bs′ ≡ image z (with-order (order k t d) (orders-in bs))) q h)
 
   -- question 7
   pub put-no-7 : (m : ℕ) → s ≡ sizes-in bs → held k (orders-in bs) ≡ false → m ≡ held-in bs → s .orders ≤ m → Put-says k t d 7 bs bs

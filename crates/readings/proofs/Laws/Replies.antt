@@ -12,6 +12,7 @@ use Rattle.sizes.specs.Header.{sizes-in}
 use Rattle.placement.specs.declared.Order.{Order}
 use Rattle.skiplist.specs.Image.{is-image, orders-in}
 use Rattle.skiplist.specs.Questions.{Question, ask, first-no, is-key, held, between, reserve, any-reserve, asks-image, asks-key, asks-range, asks-span, asks-seek}
+use Rattle.skiplist.specs.Book.{asks, refusal}
 use Rattle.skiplist.proofs.Laws.Parts.{Up, and-left, up-past}
 use Rattle.skiplist.proofs.Laws.Shapes.{held-there}
 use Rattle.skiplist.proofs.Laws.Opens.{Spot, nothing}
@@ -26,7 +27,7 @@ use Rattle.readings.proofs.Laws.Answers.{known-image, counted-all, writ
 
 -- QUESTION 4
 check-is : (bs : List ℕ) (t : Bool) → is-image bs ≡ t → check-number bs ≡ cond t 0 4
-unfolding check-number first-no asks-image
+unfolding check-number refusal asks first-no asks-image
 check-is bs t e = rw e
 
 pub checked-yes : (bs : List ℕ) (n : ℕ) → n ≡ check-number bs → n ≡ 0 → is-image bs ≡ true
@@ -155,7 +156,7 @@ module _ (bs : List ℕ) (k : ℕ) (r : Reply) where
   look-number a b c ea eb ec = rw (ea, eb, ec)
 
   look-by : (n : ℕ) → first-no (asks-image bs ++ asks-key k (orders-in bs)) ≡ n → Look-as n k (orders-in bs) r → Look-says bs k r
-  unfolding Look-says
+  unfolding Look-says refusal asks
   look-by n e h = subst (λ (i : ℕ). Look-as i k (orders-in bs) r) (sym e) h
 
   pub look-4 : is-image bs ≡ false → says 4 0 0 0 r → Look-says bs k r
@@ -244,7 +245,7 @@ turned-down (ask n t ∷ qs) rs h = go (turned-down qs rs) t h
 -- SEEK
 module _ (bs : List ℕ) (lo hi least : ℕ) (r : Reply) (n : ℕ) (en : n ≡ first-no (asks-image bs ++ asks-range lo hi)) where
   seek-by : (i : ℕ) → first-no (asks-image bs ++ asks-seek lo hi least (orders-in bs)) ≡ i → Seek-as i (orders-in bs) lo hi least r → Seek-says bs lo hi least r
-  unfolding Seek-says
+  unfolding Seek-says refusal asks
   seek-by i e h = subst (λ (j : ℕ). Seek-as j (orders-in bs) lo hi least r) (sym e) h
 
   refused-seek : (i : ℕ) → (i ≡ 0 → ⊥) → says i 0 0 0 r → Seek-as i (orders-in bs) lo hi least r
@@ -283,7 +284,7 @@ module _ (bs : List ℕ) (lo hi least : ℕ) (r : Reply) (n : ℕ) (en : n ≡ f
 -- SPAN
 module _ (bs : List ℕ) (lo hi : ℕ) (r : Reply) (x : List ℕ) (n : ℕ) (en : n ≡ first-no (asks-image bs ++ asks-range lo hi)) where
   span-by : (z : List ℕ) (i : ℕ) → first-no (asks-image bs ++ asks-span lo hi (length x) (orders-in bs)) ≡ i → Span-as i (between lo hi (orders-in bs)) r x z → Span-says bs lo hi r x z
-  unfolding Span-says
+  unfolding Span-says refusal asks
   span-by z i e h = subst (λ (j : ℕ). Span-as j (between lo hi (orders-in bs)) r x z) (sym e) h
 
   refused-span : (i : ℕ) → (i ≡ 0 → ⊥) → says i 0 0 0 r → (z : List ℕ) → z ≡ x → Span-as i (between lo hi (orders-in bs)) r x z

@@ -13,7 +13,8 @@ use Rattle.placement.specs.declared.Order.{Order}
 use Rattle.skiplist.specs.Lists.{chunks}
 use Rattle.skiplist.specs.Image.{into, quantities-good, orders-good, fits}
 use Rattle.skiplist.specs.Questions.{first-no, is-key, held, without, with-order, order, asks-put, asks-key}
-use Rattle.skiplist.specs.Book.{put-refusal, key-refusal, Call, put, cancel, reading, booked, book}
+use Rattle.skiplist.specs.Book.{Call, put, cancel, lookup, span, seek, check, asks, changed, book-refusal, booked, book}
+use Rattle.skiplist.proofs.Laws.Questions.{passes}
 use Rattle.skiplist.proofs.Laws.Parts.{Up, up-from, and-left, and-right, or-left, or-right, up-past, Good, good-parts, good-up, without-here, up-out, below}
 use Rattle.skiplist.proofs.Laws.Shapes.{Place, there, absent, place, held-absent}
 use Rattle.skiplist.proofs.Laws.Count.{length-chunks, chunks-more, counts-none}
@@ -113,50 +114,41 @@ pub kept-none : (s : Sizes) → Limits s → Kept s []
 unfolding orders-good
 kept-none s m = record { good = refl; fit = fits-make s [] (omega arith) (rw (length-chunks s [] (m .nodes-some), counts-none (beta s) 1 s) (m .blocks-least)) }
 
-put-answers : (a q h f : Bool) → _≡_ {A = ℕ} (cond a (cond q (cond h (cond f 0 8) 7) 6) 5) 0 → (a ≡ true) × (q ≡ true) × (f ≡ true)
-put-answers true true true true e = (refl, refl, refl)
-put-answers true true true false e = absurd (omega arith)
-put-answers true true false f e = absurd (omega arith)
-put-answers true false h f e = absurd (omega arith)
-put-answers false q h f e = absurd (omega arith)
-
-key-answers : (a h : Bool) → _≡_ {A = ℕ} (cond a (cond h 0 9) 5) 0 → h ≡ true
-key-answers true true e = refl
-key-answers true false e = absurd (omega arith)
-key-answers false h e = absurd (omega arith)
-
-pub kept-put : (s : Sizes) (k t d : ℕ) (os : List Order) → Kept s os → put-refusal s k t d os ≡ 0 → Kept s (with-order (order k t d) os)
-unfolding put-refusal first-no asks-put with-order is-key
+pub kept-put : (s : Sizes) (k t d : ℕ) (os : List Order) → Kept s os → book-refusal s (put k t d) os ≡ 0 → Kept s (with-order (order k t d) os)
+unfolding book-refusal asks first-no asks-put with-order is-key
 kept-put s k t d os w e =
-    let a = put-answers (is-key k) (quantities-good t d) (held k os || ltb (length os) (s .orders)) (fits s (with-order (order k t d) os)) e in
+    let a = passes 4 (is-key k) _ e in
+    let q = passes 5 (quantities-good t d) _ (a .1) in
+    let f = passes 7 (fits s (with-order (order k t d) os)) 0 (passes 6 (held k os || ltb (length os) (s .orders)) _ (q .1) .1) in
     record {
       good =
-          good-into 1 (order k t d) (without k os) (leb-true 1 k (and-left (leb 1 k) (ltb k prime) (a .0))) (and-right (leb 1 k) (ltb k prime) (a .0)) (a .1)
+          good-into 1 (order k t d) (without k os) (leb-true 1 k (and-left (leb 1 k) (ltb k prime) (a .0))) (and-right (leb 1 k) (ltb k prime) (a .0)) (q .0)
           (held-without k 1 os (good-up 1 os (w .good))) (good-without 1 k os (w .good));
-      fit = a .2;
+      fit = f .0;
     }
 
-pub kept-cancel : (s : Sizes) → Limits s → (k : ℕ) (os : List Order) → Kept s os → key-refusal k os ≡ 0 → Kept s (without k os)
-unfolding key-refusal first-no asks-key
+pub kept-cancel : (s : Sizes) → Limits s → (k : ℕ) (os : List Order) → Kept s os → book-refusal s (cancel k) os ≡ 0 → Kept s (without k os)
+unfolding book-refusal asks first-no asks-key
 kept-cancel s m k os w e =
-    record {
-      good = good-without 1 k os (w .good);
-      fit = fits-without s k os (m .nodes-some) (good-up 1 os (w .good)) (key-answers (is-key k) (held k os) e) (w .fit);
-    }
+    let h = passes 8 (held k os) 0 (passes 4 (is-key k) _ e .1) .0 in
+    record { good = good-without 1 k os (w .good); fit = fits-without s k os (m .nodes-some) (good-up 1 os (w .good)) h (w .fit) }
+
+pub kept-changed : (s : Sizes) → Limits s → (c : Call) (os : List Order) → Kept s os → book-refusal s c os ≡ 0 → Kept s (changed c os)
+unfolding changed
+kept-changed s m (put k t d) os w e = kept-put s k t d os w e
+kept-changed s m (cancel k) os w e = kept-cancel s m k os w e
+kept-changed s m (lookup k) os w e = w
+kept-changed s m (span lo hi o) os w e = w
+kept-changed s m (seek lo hi r) os w e = w
+kept-changed s m check os w e = w
 
 pub kept-booked : (s : Sizes) → Limits s → (c : Call) (os : List Order) → Kept s os → Kept s (booked s c os)
 unfolding booked
-kept-booked s m (put k t d) os w = go (eqb (put-refusal s k t d os) 0) refl
+kept-booked s m c os w = go (eqb (book-refusal s c os) 0) refl
   where
-    go : (r : Bool) → eqb (put-refusal s k t d os) 0 ≡ r → Kept s (cond r (with-order (order k t d) os) os)
-    go true e = kept-put s k t d os w (eqb-true (put-refusal s k t d os) 0 e)
+    go : (t : Bool) → eqb (book-refusal s c os) 0 ≡ t → Kept s (cond t (changed c os) os)
+    go true e = kept-changed s m c os w (eqb-true (book-refusal s c os) 0 e)
     go false e = w
-kept-booked s m (cancel k) os w = go (eqb (key-refusal k os) 0) refl
-  where
-    go : (r : Bool) → eqb (key-refusal k os) 0 ≡ r → Kept s (cond r (without k os) os)
-    go true e = kept-cancel s m k os w (eqb-true (key-refusal k os) 0 e)
-    go false e = w
-kept-booked s m reading os w = w
 
 pub kept-book : (s : Sizes) → Limits s → (cs : List Call) (os : List Order) → Kept s os → Kept s (book s cs os)
 unfolding book

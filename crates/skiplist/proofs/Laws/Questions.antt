@@ -1,9 +1,16 @@
 -- A list of questions gives 0 where each has a yes, and else the number of the first that has a no.
 use mathlib.Core.Path.{_≡_, refl, ap}
-use mathlib.Core.Bool.{true, false}
+use mathlib.Core.Bool.{Bool, true, false, cond}
 use mathlib.Core.List.{List, [], _∷_}
 use mathlib.Core.Logic.{_⊎_, inl, inr}
+use Prim.Native.Nat.{ℕ, suc}
+use native.Mathlib.Omega.{arith}
 use Rattle.skiplist.specs.Questions.{Question, ask, first-no, all-yes, Turned-down, First-no-means}
+
+-- a question that does not turn the call down
+pub passes : (n : ℕ) (yes : Bool) (r : ℕ) → cond yes r (suc n) ≡ 0 → (yes ≡ true) × (r ≡ 0)
+passes n true r e = (refl, e)
+passes n false r e = absurd (omega arith)
 
 pub first-no-means : First-no-means
 unfolding First-no-means first-no all-yes

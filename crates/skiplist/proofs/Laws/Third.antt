@@ -13,9 +13,10 @@ use Rattle.sizes.specs.Header.{table-long, sizes-in, held-in, rule-1}
 use Rattle.sizes.specs.declared.Sizes.{Sizes}
 use Rattle.placement.specs.declared.Order.{Order}
 use Rattle.skiplist.specs.Image.{image, orders-in, orders-good, fits, same, is-image}
-use Rattle.skiplist.specs.Questions.{first-no, is-key, held, without, with-order, order, asks-put}
-use Rattle.skiplist.specs.Book.{put-refusal, key-refusal, Call, put, cancel, reading, booked, book, refusal, done, after}
+use Rattle.skiplist.specs.Questions.{first-no, is-key, held, asks-image, asks-put}
+use Rattle.skiplist.specs.Book.{Call, put, asks, changed, book-refusal, booked, book, refusal, done, after}
 use Rattle.skiplist.specs.Promise.{Image-reads-back, Lists-image, Equal-exactly, Checks-exactly}
+use Rattle.skiplist.proofs.Laws.Questions.{passes}
 use Rattle.skiplist.proofs.Laws.Parts.{and-left, and-right, up-past, Good, good-parts, good-up, below-here}
 use Rattle.skiplist.proofs.Laws.Shapes.{put-new}
 use Rattle.skiplist.proofs.Laws.Kept.{fits-parts, fits-prefix, Kept, kept-none, kept-booked, kept-book}
@@ -33,7 +34,7 @@ good-at (x ∷ xs) z zs a e = good-at xs z zs (suc (x .key)) (good-parts a x (xs
 -- a put of one more order, above all held
 pub booked-last : (s : Sizes) (xs : List Order) (z : Order) (zs : List Order) → Limits s → orders-good 1 (xs ++ z ∷ zs) ≡ true → fits s (xs ++ z ∷ []) ≡ true →
     booked s (put (z .key) (z .total) (z .displayed)) xs ≡ xs ++ z ∷ []
-unfolding booked put-refusal first-no asks-put is-key
+unfolding booked book-refusal asks changed first-no asks-put is-key
 booked-last s xs z zs m g f =
     let u = good-up 1 (xs ++ z ∷ zs) g in
     let w = good-at xs z zs 1 g in
@@ -87,27 +88,31 @@ image-parts bs e =
     (same (image s os) bs) e in
     record { sizes-made = rw (w .0, w .1) (ten bs); orders-kept = record { good = w .2; fit = w .3 }; bytes = same-is (image s os) bs (w .4) }
 
+-- no question turns the call down: the bytes are an image, and the plain book takes it too
+pub taken : (c : Call) (x : List ℕ) → refusal c x ≡ 0 → (is-image x ≡ true) × (book-refusal (sizes-in x) c (orders-in x) ≡ 0)
+unfolding refusal book-refusal first-no asks-image
+taken c x e = passes 3 (is-image x) _ e
+
+-- A READING leaves the very bytes: they are the image of the orders that they hold
+pub done-same : (c : Call) (x : List ℕ) → changed c (orders-in x) ≡ orders-in x → done c x ≡ x
+unfolding done
+done-same c x e = go (eqb (refusal c x) 0) refl
+  where
+    go : (t : Bool) → eqb (refusal c x) 0 ≡ t → cond t (image (sizes-in x) (changed c (orders-in x))) x ≡ x
+    go true h = ap (image (sizes-in x)) e ∙ image-parts x (taken c x (eqb-true (refusal c x) 0 h) .0) .bytes
+    go false h = refl
+
 -- A CALL ON AN IMAGE, where images read back
 module _ (reads : Image-reads-back) where
   pub done-image : (s : Sizes) (c : Call) (os : List Order) → made s ≡ true → Kept s os → done c (image s os) ≡ image s (booked s c os)
-  unfolding Image-reads-back done refusal booked
-  done-image s (put k t d) os m w =
+  unfolding Image-reads-back done refusal booked book-refusal first-no asks-image
+  done-image s c os m w =
       let r = reads s os m (w .good) (w .fit) in
-      rw (r .0, r .1, r .2) (go (eqb (put-refusal s k t d os) 0))
+      rw (r .0, r .1, r .2) (go (eqb (first-no (asks s c os)) 0))
     where
-      go : (t′ : Bool) → cond t′ (image s (cond t′ (with-order (order k t d) os) os)) (image s os) ≡ image s (cond t′ (with-order (order k t d) os) os)
+      go : (t : Bool) → cond t (image s (changed c os)) (image s os) ≡ image s (cond t (changed c os) os)
       go true = refl
       go false = refl
-  done-image s (cancel k) os m w =
-      let r = reads s os m (w .good) (w .fit) in
-      rw (r .0, r .1, r .2) (go (eqb (key-refusal k os) 0))
-    where
-      go : (t′ : Bool) → cond t′ (image s (cond t′ (without k os) os)) (image s os) ≡ image s (cond t′ (without k os) os)
-      go true = refl
-      go false = refl
-  done-image s reading os m w =
-      let r = reads s os m (w .good) (w .fit) in
-      rw (r .0, r .1, r .2)
 
   pub after-image : (s : Sizes) (cs : List Call) (os : List Order) → made s ≡ true → Kept s os → after cs (image s os) ≡ image s (book s cs os)
   unfolding after book

@@ -7,6 +7,7 @@ use lib.ListN.{getD}
 use Rattle.sizes.proofs.Laws.Numbers.{Bytes}
 use Rattle.skiplist.specs.Image.{is-image}
 use Rattle.skiplist.specs.Questions.{first-no, asks-image}
+use Rattle.skiplist.specs.Book.{asks, refusal}
 use Rattle.table.specs.Check.{check-passes, Passed, Examined}
 use Rattle.table.specs.declared.Tally.{Tally}
 use Rattle.table.specs.Calls.{check-number}
@@ -22,9 +23,9 @@ module _ (bs : List ℕ) (small : (i : ℕ) → getD bs i 0 < 256) where
 
 module _ (bs : List ℕ) (r : Tally) (x : Examined bs r) where
   pub check-yes : r .clean ≡ true → 0 ≡ check-number bs
-  unfolding check-number first-no asks-image
+  unfolding check-number refusal asks first-no asks-image
   check-yes e = let z : is-image bs ≡ true = sym (x .image) ∙ e in sym (rw z)
 
   pub check-no : r .clean ≡ false → 4 ≡ check-number bs
-  unfolding check-number first-no asks-image
+  unfolding check-number refusal asks first-no asks-image
   check-no e = let z : is-image bs ≡ false = sym (x .image) ∙ e in sym (rw z)

@@ -24,7 +24,7 @@ use Rattle.placement.proofs.Laws.Keeps.{placed-keeps}
 use Rattle.placement.proofs.Laws.Tables.{shaped}
 use Rattle.skiplist.specs.Lists.{front, at-least, list-at, starts-one, run, rest, partitions, first-key, masked, chunks-of, all-chunks, chunks-from, chunks}
 use Rattle.skiplist.specs.Image.{image, orders-good, fits}
-use Rattle.skiplist.specs.Questions.{first-no, sizes, asks-make}
+use Rattle.skiplist.specs.Questions.{Parameters, first-no, sizes, asks-make}
 use Rattle.skiplist.specs.Book.{make-refusal}
 use Rattle.skiplist.proofs.Laws.Image.{is-the-image}
 use Rattle.table.specs.Calls.{Make-says}
@@ -161,31 +161,31 @@ fronts-image s m x x₁ x₂ long e₁ e₂ top z e f =
     is-the-image s [] (fronts-map (beta s)) (beta s) z good-none (made-fits s m) q (fronts-chunks s m)
 
 -- THE QUESTIONS
-module _ (c b n m : ℕ) (ss : List ℕ) where
-  refusal-is : (long : ℕ) (p q r : Bool) → (eqb (length ss) 40 && seed-good (sizes c b n m ss .seed)) ≡ p → sizes-good (sizes c b n m ss) ≡ q → eqb long (table-long (sizes c b n m ss)) ≡ r
-      → make-refusal c b n m ss long ≡ cond p (cond q (cond r 0 3) 2) 1
+module _ (q : Parameters) where
+  refusal-is : (long : ℕ) (a b c : Bool) → (eqb (length (q .seed)) 40 && seed-good (sizes q .seed)) ≡ a → sizes-good (sizes q) ≡ b → eqb long (table-long (sizes q)) ≡ c
+      → make-refusal q long ≡ cond a (cond b (cond c 0 3) 2) 1
   unfolding make-refusal first-no asks-make
-  refusal-is long p q r ep eq er = rw (ep, eq, er)
+  refusal-is long a b c ea eb ec = rw (ea, eb, ec)
 
-  says : (x z : List ℕ) (v : ℕ) → make-refusal c b n m ss (length x) ≡ v → z ≡ cond (eqb v 0) (image (sizes c b n m ss) []) x → Make-says c b n m ss v x z
+  says : (x z : List ℕ) (v : ℕ) → make-refusal q (length x) ≡ v → z ≡ cond (eqb v 0) (image (sizes q) []) x → Make-says q v x z
   unfolding Make-says
   says x z v e h = (sym e, rw e h)
 
-  pub make-short : (x : List ℕ) → (length ss ≡ 40 → ⊥) → Make-says c b n m ss 1 x x
+  pub make-short : (x : List ℕ) → (length (q .seed) ≡ 40 → ⊥) → Make-says q 1 x x
   make-short x e = says x x 1 (refusal-is (length x) false _ _ (rw (ne-eqb _ _ e)) refl refl) refl
 
-  module _ (s : Sizes) (es : s ≡ sizes c b n m ss) (t : Bool) (et : t ≡ seed-good (s .seed)) where
-    seeds : (w : Bool) → t ≡ w → seed-good (sizes c b n m ss .seed) ≡ w
+  module _ (s : Sizes) (es : s ≡ sizes q) (t : Bool) (et : t ≡ seed-good (s .seed)) where
+    seeds : (w : Bool) → t ≡ w → seed-good (sizes q .seed) ≡ w
     seeds w e = ap (λ (z : Sizes). seed-good (z .seed)) (sym es) ∙ sym et ∙ e
 
-    pub make-seed : (x : List ℕ) → t ≡ false → Make-says c b n m ss 1 x x
+    pub make-seed : (x : List ℕ) → t ≡ false → Make-says q 1 x x
     make-seed x e = says x x 1 (refusal-is (length x) false _ _ (rw (seeds false e, and-false)) refl refl) refl
 
     module _ (t1 : t ≡ true) (u : Bool) (eu : u ≡ sizes-good s) where
-      whole : (w : Bool) → u ≡ w → sizes-good (sizes c b n m ss) ≡ w
+      whole : (w : Bool) → u ≡ w → sizes-good (sizes q) ≡ w
       whole w e = ap sizes-good (sym es) ∙ sym eu ∙ e
 
-      ten : length (sizes c b n m ss .seed) ≡ 10
+      ten : length (sizes q .seed) ≡ 10
       unfolding sizes rows-in
       ten = refl
 
@@ -193,19 +193,19 @@ module _ (c b n m : ℕ) (ss : List ℕ) where
       unfolding made
       given-made u1 = rw (es, whole true u1, seeds true t1, eq-eqb _ _ ten)
 
-      module _ (forty : length ss ≡ 40) (x : List ℕ) where
-        first : (eqb (length ss) 40 && seed-good (sizes c b n m ss .seed)) ≡ true
+      module _ (forty : length (q .seed) ≡ 40) (x : List ℕ) where
+        first : (eqb (length (q .seed)) 40 && seed-good (sizes q .seed)) ≡ true
         first = rw (eq-eqb _ _ forty, seeds true t1)
 
-        pub make-sizes : u ≡ false → Make-says c b n m ss 2 x x
+        pub make-sizes : u ≡ false → Make-says q 2 x x
         make-sizes e = says x x 2 (refusal-is (length x) true false _ first (whole false e) refl) refl
 
         module _ (u1 : u ≡ true) (k : ℕ) (ek : k ≡ table-long s) where
-          long : table-long (sizes c b n m ss) ≡ k
+          long : table-long (sizes q) ≡ k
           long = ap table-long (sym es) ∙ sym ek
 
-          pub make-long : (length x ≡ k → ⊥) → Make-says c b n m ss 3 x x
+          pub make-long : (length x ≡ k → ⊥) → Make-says q 3 x x
           make-long e = says x x 3 (refusal-is (length x) true true false first (whole true u1) (rw long (ne-eqb _ _ e))) refl
 
-          pub make-done : length x ≡ k → (z : List ℕ) → z ≡ image s [] → Make-says c b n m ss 0 x z
+          pub make-done : length x ≡ k → (z : List ℕ) → z ≡ image s [] → Make-says q 0 x z
           make-done e z h = says x z 0 (refusal-is (length x) true true true first (whole true u1) (rw long (eq-eqb _ _ e))) (h ∙ ap (λ (w : Sizes). image w []) es)

@@ -1,7 +1,7 @@
 -- The contracts can be met: every call has an answer, on every table.
 use mathlib.Core.Path.{_≡_, refl, sym, _∙_}
 use mathlib.Core.Bool.{Bool, true, false, _&&_, _||_, cond, false≢true, or-true}
-use mathlib.Core.List.{List, [], _∷_, _++_}
+use mathlib.Core.List.{List, [], _∷_}
 use Prim.Native.Nat.{ℕ, zero, suc, _≤_}
 use native.Mathlib.Omega.{arith}
 use borrow.Author.Tests.{leb-true}
@@ -9,14 +9,14 @@ use lib.Dec.{leb}
 use lib.ListN.{length}
 use Rattle.placement.specs.declared.Order.{Order}
 use Rattle.skiplist.specs.Image.{is-image, orders-in}
-use Rattle.skiplist.specs.Questions.{first-no, asks-image, asks-key, asks-range, asks-span, asks-seek, is-key, held, between, reserve, any-reserve}
-use Rattle.skiplist.specs.Book.{Call, refusal, done}
+use Rattle.skiplist.specs.Questions.{first-no, asks-image, asks-range, asks-seek, is-key, held, between, reserve, any-reserve}
+use Rattle.skiplist.specs.Book.{Call, put, cancel, lookup, span, seek, check, asks, refusal, done}
+use Rattle.skiplist.proofs.Laws.Questions.{passes}
 use Rattle.skiplist.proofs.Laws.Parts.{Up, good-up}
 use Rattle.skiplist.proofs.Laws.Third.{image-parts}
 use Rattle.table.specs.Calls.{says, Edit-says, Put-says, Cancel-says, check-number, total-of, displayed-of, Look-says, Look-as, Span-says, Span-as, Seek-gives, Seek-says, Seek-as}
-use Rattle.table.specs.Promise.{Act, put, cancel, lookup, span, seek, check, Does, Runs, Runs-exist}
+use Rattle.table.specs.Promise.{Does, Runs, Runs-exist}
 use Rattle.table.specs.declared.Reply.{Reply}
-use Rattle.table.proofs.Laws.Makes.{passes}
 use Rattle.table.proofs.Laws.Alike.{here, there}
 
 -- an order that a seek may give, with a key from a on
@@ -72,8 +72,8 @@ found a (o ∷ os) lo hi l u e = go (leb lo (o .key) && leb (o .key) hi) refl e 
     go false f e ih = later (ih e)
 
 -- ANSWERS, by their number
-seek-some : (x : List ℕ) (lo hi l n : ℕ) → first-no (asks-image x ++ asks-seek lo hi l (orders-in x)) ≡ n → (r : Reply) × Seek-as n (orders-in x) lo hi l r
-unfolding first-no asks-image asks-range asks-seek Seek-as says
+seek-some : (x : List ℕ) (lo hi l n : ℕ) → refusal (seek lo hi l) x ≡ n → (r : Reply) × Seek-as n (orders-in x) lo hi l r
+unfolding refusal asks first-no asks-image asks-range asks-seek Seek-as says
 seek-some x lo hi l zero e =
     let i = passes 3 (is-image x) _ e in
     let k = passes 4 (is-key lo && is-key hi) _ (i .1) in
@@ -92,14 +92,13 @@ unfolding Span-as says
 span-some zero os o = (record { number = 0; key = 0; total = length os; displayed = 0 }, _, ((refl, refl, refl, refl), refl))
 span-some (suc n) os o = (record { number = suc n; key = 0; total = 0; displayed = 0 }, o, ((refl, refl, refl, refl), refl))
 
-does-some : (c : Act) (x : List ℕ) → (z : List ℕ) × Does c x z
+does-some : (c : Call) (x : List ℕ) → (z : List ℕ) × Does c x z
 unfolding Does Put-says Cancel-says Edit-says Look-says Span-says Seek-says
-does-some (put k t d) x = (done (Call.put k t d) x, (refusal (Call.put k t d) x, (refl, refl)))
-does-some (cancel k) x = (done (Call.cancel k) x, (refusal (Call.cancel k) x, (refl, refl)))
-does-some (lookup k) x = let w = look-some (first-no (asks-image x ++ asks-key k (orders-in x))) k (orders-in x) in (x, (w .0, w .1, refl))
-does-some (span lo hi o) x =
-    let w = span-some (first-no (asks-image x ++ asks-span lo hi (length o) (orders-in x))) (between lo hi (orders-in x)) o in (x, (w .0, w .1, w .2, refl))
-does-some (seek lo hi l) x = let w = seek-some x lo hi l (first-no (asks-image x ++ asks-seek lo hi l (orders-in x))) refl in (x, (w .0, w .1, refl))
+does-some (put k t d) x = (done (put k t d) x, (refusal (put k t d) x, (refl, refl)))
+does-some (cancel k) x = (done (cancel k) x, (refusal (cancel k) x, (refl, refl)))
+does-some (lookup k) x = let w = look-some (refusal (lookup k) x) k (orders-in x) in (x, (w .0, w .1, refl))
+does-some (span lo hi o) x = let w = span-some (refusal (span lo hi o) x) (between lo hi (orders-in x)) o in (x, (w .0, w .1, w .2, refl))
+does-some (seek lo hi l) x = let w = seek-some x lo hi l (refusal (seek lo hi l) x) refl in (x, (w .0, w .1, refl))
 does-some check x = (x, (check-number x, refl, refl))
 
 pub runs-exist : Runs-exist

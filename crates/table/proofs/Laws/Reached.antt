@@ -2,45 +2,32 @@
 use mathlib.Core.Path.{_≡_, refl, sym, ap, _∙_, subst}
 use mathlib.Core.Bool.{Bool, true, _&&_, cond}
 use mathlib.Core.List.{List, [], _∷_}
-use Prim.Native.Nat.{ℕ, suc, _≤_, _<_}
+use Prim.Native.Nat.{ℕ, suc, _≤_}
 use native.Mathlib.Omega.{arith}
-use borrow.Author.Tests.{ltb-true, leb-true, lt-ltb}
+use borrow.Author.Tests.{ltb-true, leb-true}
 use lib.Dec.{leb}
 use lib.ListN.{replicate}
-use Rattle.sizes.specs.Sizes.{prime, made}
+use Rattle.sizes.specs.Sizes.{prime}
 use Rattle.sizes.specs.Header.{table-long, sizes-in}
 use Rattle.sizes.specs.declared.Sizes.{Sizes}
 use Rattle.placement.specs.declared.Order.{Order}
 use Rattle.sizes.proofs.Laws.Sizes.{and-parts, limits}
 use Rattle.skiplist.specs.Image.{image, orders-in, quantities-good, orders-good, is-image}
 use Rattle.skiplist.specs.Questions.{first-no, asks-image}
-use Rattle.skiplist.specs.Book.{Call, book}
+use Rattle.skiplist.specs.Book.{asks, book, refusal}
+use Rattle.skiplist.proofs.Laws.Questions.{passes}
 use Rattle.skiplist.proofs.Laws.Parts.{good-parts}
 use Rattle.skiplist.proofs.Laws.Third.{image-parts, puts, book-puts}
 use Rattle.table.specs.Calls.{check-number}
-use Rattle.table.specs.Promise.{Act, put, Runs, Made-by, left-by, word, in-range, all-in-range, Given, Demand-3-check, Runs-exist, Make-reaches}
-use Rattle.table.proofs.Laws.Makes.{passes, make-reaches, make-writes}
-use Rattle.table.proofs.Laws.Runs.{plain, plains, left-book, run-holds}
+use Rattle.table.specs.Promise.{Runs, Made-by, in-range, all-in-range, Given, Demand-3-check, Runs-exist, Make-reaches}
+use Rattle.table.proofs.Laws.Makes.{is-word, make-reaches, make-writes}
+use Rattle.table.proofs.Laws.Runs.{run-holds}
 use Rattle.table.proofs.Laws.Meeting.{runs-exist}
 
--- a put for each order
-unfoldable enters : List Order → List Act
-enters [] = []
-enters (o ∷ os) = put (o .key) (o .total) (o .displayed) ∷ enters os
-
-enters-plain : (os : List Order) → plains (enters os) ≡ puts os
-unfolding plains plain enters puts
-enters-plain [] = refl
-enters-plain (o ∷ os) = rw (enters-plain os)
-
-is-word : (x : ℕ) → x < 4294967296 → word x ≡ true
-unfolding word
-is-word x h = lt-ltb x 4294967296 h
-
-enters-in-range : (a : ℕ) (os : List Order) → orders-good a os ≡ true → all-in-range (enters os) ≡ true
-unfolding all-in-range in-range enters quantities-good
-enters-in-range a [] e = refl
-enters-in-range a (o ∷ os) e =
+puts-in-range : (a : ℕ) (os : List Order) → orders-good a os ≡ true → all-in-range (puts os) ≡ true
+unfolding all-in-range in-range puts quantities-good
+puts-in-range a [] e = refl
+puts-in-range a (o ∷ os) e =
     let w = good-parts a o os e in
     let q = and-parts (leb 1 (o .total) && leb (o .total) 4294967295) (leb (o .displayed) (o .total)) (w .quantity) in
     let t : o .total ≤ 4294967295 = leb-true (o .total) 4294967295 (and-parts (leb 1 (o .total)) (leb (o .total) 4294967295) (q .0) .1) in
@@ -48,12 +35,7 @@ enters-in-range a (o ∷ os) e =
       is-word (o .key) (omega (arith, ltb-true (o .key) prime (w .key))),
       is-word (o .total) (omega arith),
       is-word (o .displayed) (omega (arith, leb-true (o .displayed) (o .total) (q .1))),
-    ) (enters-in-range (suc (o .key)) os (w .others))
-
-sizes-words : (s : Sizes) → made s ≡ true → (word (s .gamma) && (word (s .nodes) && (word (s .orders) && word (s .blocks)))) ≡ true
-sizes-words s m =
-    let w = limits s m in
-    rw (is-word (s .gamma) (omega arith), is-word (s .nodes) (omega arith), is-word (s .orders) (omega arith), is-word (s .blocks) (omega arith))
+    ) (puts-in-range (suc (o .key)) os (w .others))
 
 given : (bs : List ℕ) → is-image bs ≡ true → Given bs
 unfolding Make-reaches Made-by Runs-exist
@@ -63,29 +45,23 @@ given bs e =
     let os = orders-in bs in
     let m = w .sizes-made in
     let v = make-reaches s m in
-    let by : Made-by (s .gamma) (s .nodes) (s .orders) (s .blocks) (v .0) (image s []) = (replicate (table-long s) 0, make-writes s (v .0) (v .2) (v .3)) in
-    let r = runs-exist (enters os) (image s []) in
-    let h = run-holds (s .gamma) (s .nodes) (s .orders) (s .blocks) (v .0) (image s []) (r .0) (enters os) by (r .1) in
-    let o : left-by s (enters os) [] ≡ os =
-    left-book s (enters os) [] ∙ ap (λ (cs : List Call). book s cs []) (enters-plain os) ∙ book-puts s os [] (limits s m) (w .orders-kept .good) (w .orders-kept .fit) in
+    let by : Made-by (v .0) (image s []) = (replicate (table-long s) 0, make-writes s (v .0) (v .2) (v .3)) in
+    let r = runs-exist (puts os) (image s []) in
+    let h = run-holds (v .0) (image s []) (r .0) (puts os) by (r .1) in
+    let o : book s (puts os) [] ≡ os = book-puts s os [] (limits s m) (w .orders-kept .good) (w .orders-kept .fit) in
     record {
-      gamma = s .gamma;
-      nodes = s .nodes;
-      orders = s .orders;
-      blocks = s .blocks;
-      seed = v .0;
+      asked = v .0;
       table = image s [];
-      acts = enters os;
+      calls = puts os;
       makes = by;
-      runs = subst (Runs (enters os) (image s [])) (h .bytes ∙ ap (λ (t : Sizes). image t (left-by t (enters os) [])) (v .2) ∙ ap (image s) o ∙ w .bytes) (r .1);
-      numbers = sizes-words s m;
-      seed-bytes = v .1;
-      acts-in-range = enters-in-range 1 os (w .orders-kept .good);
+      runs = subst (Runs (puts os) (image s [])) (h .bytes ∙ ap (λ (t : Sizes). image t (book t (puts os) [])) (v .2) ∙ ap (image s) o ∙ w .bytes) (r .1);
+      make-in-range = v .1;
+      calls-in-range = puts-in-range 1 os (w .orders-kept .good);
     }
 
 pub demand-3-check : Demand-3-check
-unfolding Demand-3-check check-number first-no asks-image
+unfolding Demand-3-check check-number refusal asks first-no asks-image
 demand-3-check bs r e = (
   λ z. given bs (passes 3 (is-image bs) 0 (sym e ∙ z) .0),
-  λ c b n m ss x cs mx rx. e ∙ ap (λ (t : Bool). cond t 0 4) (run-holds c b n m ss x bs cs mx rx .good),
+  λ q x cs mx rx. e ∙ ap (λ (t : Bool). cond t 0 4) (run-holds q x bs cs mx rx .good),
 )

@@ -8,7 +8,7 @@ use Rattle.sizes.specs.Header.{seed-in}
 use Rattle.sizes.specs.declared.Sizes.{Sizes}
 use Rattle.sizes.proofs.Laws.Numbers.{field-drop}
 use Rattle.sizes.proofs.Laws.HeaderLoops.{Seeded, seeded-start, seeded-more, seeded-end}
-use Rattle.skiplist.specs.Questions.{sizes}
+use Rattle.skiplist.specs.Questions.{parameters, sizes}
 
 abbrev pub past-13 : List ℕ → List ℕ
 past-13 bs = replicate 13 0 ++ bs
@@ -23,7 +23,7 @@ module _ (bs : List ℕ) where
         let f : field (4 * i) 4 bs ≡ field (13 + 4 * i) 4 (past-13 bs) = field-drop (4 * i) 4 13 (past-13 bs) in
         seeded-more (past-13 bs) seed i s v h (e ∙ f)
 
-    pub given-end : (c b n m : ℕ) → 10 ≤ i → _≡_ {A = Sizes} (record { gamma = c; nodes = b; orders = n; blocks = m; seed = seed }) (sizes c b n m bs)
+    pub given-end : (c b n m : ℕ) → 10 ≤ i → _≡_ {A = Sizes} (record { gamma = c; nodes = b; orders = n; blocks = m; seed = seed }) (sizes (parameters c b n m bs))
     unfolding sizes
     given-end c b n m h =
         let e : seed ≡ seed-in 10 bs = seeded-end (past-13 bs) seed i s h in

@@ -20,24 +20,25 @@ use Rattle.sizes.proofs.Laws.Sizes.{and-parts, limits}
 use Rattle.skiplist.specs.Lists.{front, at-least, list-at, starts-one, run, rest, partitions, first-key, masked, chunks-of, all-chunks, chunks-from, chunks, blocks}
 use Rattle.skiplist.specs.Image.{image, into, all-into, gathered, orders-in, quantities-good, orders-good, fits, same, is-image}
 use Rattle.skiplist.specs.Questions.{Question, ask, first-no, is-key, held, without, with-order, order, between, reserve, any-reserve, asks-image, asks-put, asks-key, asks-range, asks-span, asks-seek}
-use Rattle.skiplist.specs.Book.{cancel, put-refusal, key-refusal, booked, refusal, done}
+use Rattle.skiplist.specs.Book.{Call, put, cancel, lookup, span, seek, check, asks, changed, book-refusal, refusal, done}
 use Rattle.skiplist.specs.Examples.{run-seed, run-sizes, empty-table, put-3, put-6}
+use Rattle.skiplist.proofs.Laws.Questions.{passes}
 use Rattle.skiplist.proofs.Laws.Parts.{or-left, or-right, good-up}
-use Rattle.skiplist.proofs.Laws.Kept.{held-without, kept-none, kept-put, kept-cancel}
-use Rattle.skiplist.proofs.Laws.Third.{image-parts}
+use Rattle.skiplist.proofs.Laws.Kept.{held-without, kept-none, kept-changed}
+use Rattle.skiplist.proofs.Laws.Third.{image-parts, taken}
 use Rattle.table.specs.Calls.{says, Edit-says, Put-says, Cancel-says, check-number, Look-says, Look-as, Span-says, Span-as, Seek-says, Seek-as}
 use Rattle.table.specs.declared.Reply.{Reply}
-use Rattle.table.proofs.Laws.Makes.{passes}
 use Rattle.table.proofs.Laws.Runs.{Holds, holds-image}
 use Rattle.table.proofs.Laws.Alike.{Tells, here, there, none-held}
 
--- ---- THE CLAUSE ON THE TABLE. A put or cancel that returns 0 leaves the book's orders
-pub put-holds : (k t d : ℕ) (x z : List ℕ) → Put-says k t d 0 x z → Holds (sizes-in x) (with-order (order k t d) (orders-in x)) z
-unfolding Put-says Edit-says refusal done booked
-put-holds k t d x z w =
-    let i = passes 3 (is-image x) (put-refusal (sizes-in x) k t d (orders-in x)) (sym (w .0)) in
+-- ---- THE CLAUSE ON THE TABLE. A put or cancel that returns 0 leaves the orders as it changes them
+edit-holds : (c : Call) (x z : List ℕ) → Edit-says c 0 x z → Holds (sizes-in x) (changed c (orders-in x)) z
+unfolding Edit-says done
+edit-holds c x z w =
+    let s = sizes-in x in
+    let i = taken c x (sym (w .0)) in
     let p = image-parts x (i .0) in
-    holds-image (sizes-in x) (with-order (order k t d) (orders-in x)) z (p .sizes-made) (kept-put (sizes-in x) k t d (orders-in x) (p .orders-kept) (i .1)) (w .1 ∙ rw (i .0, i .1))
+    holds-image s (changed c (orders-in x)) z (p .sizes-made) (kept-changed s (limits s (p .sizes-made)) c (orders-in x) (p .orders-kept) (i .1)) (w .1 ∙ rw (← w .0))
 
 -- a put: its order, with its quantities
 into-tells : (o : Order) (os : List Order) → held (o .key) os ≡ false → Tells (o .key) (o .total) (o .displayed) (into o os)
@@ -52,25 +53,22 @@ into-tells o (q ∷ os) e = go (ltb (o .key) (q .key)) (into-tells o os (or-righ
         (n .0 ∙ w .0, n .1 ∙ w .1, n .2 ∙ w .2)
 
 pub put-tells : (k t d : ℕ) (x z : List ℕ) → Put-says k t d 0 x z → Tells k t d (orders-in z)
-unfolding with-order Put-says Edit-says refusal
+unfolding Put-says Edit-says changed with-order
 put-tells k t d x z w =
-    let p = image-parts x (passes 3 (is-image x) (put-refusal (sizes-in x) k t d (orders-in x)) (sym (w .0)) .0) in
-    rw (put-holds k t d x z w .orders) (into-tells (order k t d) (without k (orders-in x)) (held-without k 1 (orders-in x) (good-up 1 (orders-in x) (p .orders-kept .good))))
+    let p = image-parts x (taken (put k t d) x (sym (w .0)) .0) in
+    rw (edit-holds (put k t d) x z w .orders) (into-tells (order k t d) (without k (orders-in x)) (held-without k 1 (orders-in x) (good-up 1 (orders-in x) (p .orders-kept .good))))
 
 -- a cancel: an order was there, and is gone
-key-held : (k : ℕ) (os : List Order) → key-refusal k os ≡ 0 → held k os ≡ true
-unfolding key-refusal first-no asks-key
-key-held k os e = passes 8 (held k os) 0 (passes 4 (is-key k) _ e .1) .0
+key-held : (s : Sizes) (k : ℕ) (os : List Order) → book-refusal s (cancel k) os ≡ 0 → held k os ≡ true
+unfolding book-refusal asks first-no asks-key
+key-held s k os e = passes 8 (held k os) 0 (passes 4 (is-key k) _ e .1) .0
 
 pub cancel-tells : (k : ℕ) (x z : List ℕ) → Cancel-says k 0 x z → (held k (orders-in x) ≡ true) × (held k (orders-in z) ≡ false)
-unfolding Cancel-says Edit-says refusal done booked
+unfolding Cancel-says Edit-says changed
 cancel-tells k x z w =
-    let s = sizes-in x in
-    let os = orders-in x in
-    let i = passes 3 (is-image x) (key-refusal k os) (sym (w .0)) in
+    let i = taken (cancel k) x (sym (w .0)) in
     let p = image-parts x (i .0) in
-    let l = holds-image s (without k os) z (p .sizes-made) (kept-cancel s (limits s (p .sizes-made)) k os (p .orders-kept) (i .1)) (w .1 ∙ rw (i .0, i .1)) in
-    (key-held k os (i .1), ap (held k) (l .orders) ∙ held-without k 1 os (good-up 1 os (p .orders-kept .good)))
+    (key-held (sizes-in x) k (orders-in x) (i .1), ap (held k) (edit-holds (cancel k) x z w .orders) ∙ held-without k 1 (orders-in x) (good-up 1 (orders-in x) (p .orders-kept .good)))
 
 -- a put that returns 0 and leaves the table, whatever it did before
 pub idle-put : (k t d : ℕ) (x : List ℕ) → held k (orders-in x) ≡ false → Put-says k t d 0 x x → ⊥
@@ -132,38 +130,51 @@ own-question n (ask m false ∷ qs) rs t a e = absurd (false≢true (sym (ap not
 
 -- an 8 given without looking
 pub blind-8 : (k t d : ℕ) (x z : List ℕ) → Put-says k t d 8 x z → fits (sizes-in x) (with-order (order k t d) (orders-in x)) ≡ false
-unfolding Put-says Edit-says refusal put-refusal first-no asks-image asks-put apart
+unfolding Put-says Edit-says refusal asks first-no asks-image asks-put apart
 blind-8 k t d x z w = own-question 8 (take 4 (asks-image x ++ asks-put (sizes-in x) k t d (orders-in x))) [] _ refl (sym (w .0))
 
 -- a 12 given without looking
 pub blind-12 : (x : List ℕ) (lo hi l : ℕ) (r : Reply) → Seek-says x lo hi l r → r .number ≡ 12 → any-reserve l (between lo hi (orders-in x)) ≡ false
-unfolding Seek-says first-no asks-image asks-range asks-seek apart
+unfolding Seek-says refusal asks first-no asks-image asks-range asks-seek apart
 blind-12 x lo hi l r w e = own-question 12 (asks-image x ++ asks-range lo hi) [] _ refl (sym (seek-number _ (orders-in x) lo hi l r w) ∙ e)
 
 -- a call that gives 4 to all: 4 is given only of bytes that are no image
+no-other-4 : (s : Sizes) (c : Call) (os : List Order) → apart 4 (asks s c os) ≡ true
+unfolding asks asks-put asks-key asks-range asks-span asks-seek apart
+no-other-4 s (put k t d) os = refl
+no-other-4 s (cancel k) os = refl
+no-other-4 s (lookup k) os = refl
+no-other-4 s (span lo hi o) os = refl
+no-other-4 s (seek lo hi l) os = refl
+no-other-4 s check os = refl
+
+blind-4 : (c : Call) (x : List ℕ) → refusal c x ≡ 4 → is-image x ≡ false
+unfolding refusal asks-image
+blind-4 c x e = own-question 4 [] (asks (sizes-in x) c (orders-in x)) _ (no-other-4 (sizes-in x) c (orders-in x)) e
+
 pub put-4 : (k t d : ℕ) (x z : List ℕ) → Put-says k t d 4 x z → is-image x ≡ false
-unfolding Put-says Edit-says refusal put-refusal first-no asks-put apart
-put-4 k t d x z w = own-question 4 [] (asks-put (sizes-in x) k t d (orders-in x)) _ refl (sym (w .0))
+unfolding Put-says Edit-says
+put-4 k t d x z w = blind-4 (put k t d) x (sym (w .0))
 
 pub cancel-4 : (k : ℕ) (x z : List ℕ) → Cancel-says k 4 x z → is-image x ≡ false
-unfolding Cancel-says Edit-says refusal key-refusal first-no asks-key apart
-cancel-4 k x z w = own-question 4 [] (asks-key k (orders-in x)) _ refl (sym (w .0))
+unfolding Cancel-says Edit-says
+cancel-4 k x z w = blind-4 (cancel k) x (sym (w .0))
 
 pub look-4 : (x : List ℕ) (k : ℕ) (r : Reply) → Look-says x k r → r .number ≡ 4 → is-image x ≡ false
-unfolding Look-says asks-image asks-key apart
-look-4 x k r w e = own-question 4 [] (asks-key k (orders-in x)) _ refl (sym (look-number _ k (orders-in x) r w) ∙ e)
+unfolding Look-says
+look-4 x k r w e = blind-4 (lookup k) x (sym (look-number _ k (orders-in x) r w) ∙ e)
 
 pub span-4 : (x : List ℕ) (lo hi : ℕ) (r : Reply) (o z : List ℕ) → Span-says x lo hi r o z → r .number ≡ 4 → is-image x ≡ false
-unfolding Span-says asks-image asks-range asks-span apart
-span-4 x lo hi r o z w e = own-question 4 [] (asks-span lo hi (length o) (orders-in x)) _ refl (sym (span-number _ (between lo hi (orders-in x)) r o z w) ∙ e)
+unfolding Span-says
+span-4 x lo hi r o z w e = blind-4 (span lo hi o) x (sym (span-number _ (between lo hi (orders-in x)) r o z w) ∙ e)
 
 pub seek-4 : (x : List ℕ) (lo hi l : ℕ) (r : Reply) → Seek-says x lo hi l r → r .number ≡ 4 → is-image x ≡ false
-unfolding Seek-says asks-image asks-range asks-seek apart
-seek-4 x lo hi l r w e = own-question 4 [] (asks-seek lo hi l (orders-in x)) _ refl (sym (seek-number _ (orders-in x) lo hi l r w) ∙ e)
+unfolding Seek-says
+seek-4 x lo hi l r w e = blind-4 (seek lo hi l) x (sym (seek-number _ (orders-in x) lo hi l r w) ∙ e)
 
 pub check-4 : (x : List ℕ) → check-number x ≡ 4 → is-image x ≡ false
-unfolding check-number asks-image apart
-check-4 x e = own-question 4 [] [] _ refl e
+unfolding check-number
+check-4 x e = blind-4 check x e
 
 -- ---- ON TABLES OF THE RUN, where no question turns these calls down
 unfoldable pub with-6 : List ℕ
@@ -178,12 +189,12 @@ record Computed : Type 0 where
   not-yet : held 3 (orders-in with-6) ≡ false
   cancels : refusal (cancel 6) with-6 ≡ 0
   allowed : made run-sizes ≡ true
-  spans : first-no (asks-image with-both ++ asks-span 1 9 24 (orders-in with-both)) ≡ 0
+  spans : refusal (span 1 9 (replicate 24 7)) with-both ≡ 0
   finds : length (between 1 9 (orders-in with-both)) ≡ 2
-  seeks : first-no (asks-image with-both ++ asks-seek 1 9 80 (orders-in with-both)) ≡ 0
+  seeks : refusal (seek 1 9 80) with-both ≡ 0
 
 computed : Computed
-unfolding big value-from field rows rows-in least-power beta sizes-good seed-good made hash-from h g divides-from level block-long table-long header sizes-in held-in rule-1 around stored place-from placed home node-bytes block-bytes node-in chunk-of block-of blocks-in front at-least list-at starts-one run rest partitions first-key masked chunks-of all-chunks chunks-from chunks blocks image into all-into gathered orders-in quantities-good orders-good fits same is-image first-no is-key held without with-order between reserve any-reserve asks-image asks-put asks-key asks-range asks-span asks-seek put-refusal key-refusal booked refusal done run-seed run-sizes empty-table put-3 put-6 with-6 with-both
+unfolding big value-from field rows rows-in least-power beta sizes-good seed-good made hash-from h g divides-from level block-long table-long header sizes-in held-in rule-1 around stored place-from placed home node-bytes block-bytes node-in chunk-of block-of blocks-in front at-least list-at starts-one run rest partitions first-key masked chunks-of all-chunks chunks-from chunks blocks image into all-into gathered orders-in quantities-good orders-good fits same is-image first-no is-key held without with-order between reserve any-reserve asks-image asks-put asks-key asks-range asks-span asks-seek asks changed refusal done run-seed run-sizes empty-table put-3 put-6 with-6 with-both
 computed = record { six = refl; three = refl; not-yet = refl; cancels = refl; allowed = refl; spans = refl; finds = refl; seeks = refl }
 
 -- a put that edits properly once and later only returns 0, or returns whatever it likes

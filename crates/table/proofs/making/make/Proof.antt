@@ -13,7 +13,7 @@ ruleset laws = (needs, not-true, not-false, good-nodes, good-blocks, make-short,
 write-empty-requires : tie.Need-write-empty-requires
 write-empty-requires c κs =
     let g = c .before .before .before in (
-      given-made _ _ _ _ _ _ (g .before .before .before .before .sizes-of .ensures) _ (g .before .before .before .seed-allowed .ensures) (not-false _ (g .before .before .if2 .left)) _ (g .before .sizes-allowed .ensures) (not-false _ (g .if3 .left)),
+      given-made _ _ (g .before .before .before .before .sizes-of .ensures) _ (g .before .before .before .seed-allowed .ensures) (not-false _ (g .before .before .if2 .left)) _ (g .before .sizes-allowed .ensures) (not-false _ (g .if3 .left)),
       c .before .if4 .left ∙ c .before .before .table-length .ensures,
     )
 
