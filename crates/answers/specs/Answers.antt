@@ -69,7 +69,7 @@ keys-of ns = map (λ (o : Order). o .key) ns
 
 unfoldable pub block-line : (number : ℕ) → Block Chunk → List ℕ
 block-line i empty = dash i
-block-line i (holds c) = row i (c .level ∷ c .number ∷ c .first ∷ length (c .nodes) ∷ keys-of (c .nodes))
+block-line i (holds c) = row i (c .label .level ∷ c .label .number ∷ c .label .first ∷ length (c .nodes) ∷ keys-of (c .nodes))
 
 unfoldable pub block-lines : (number : ℕ) → List (Block Chunk) → List (List ℕ)
 block-lines i [] = []

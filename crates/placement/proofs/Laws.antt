@@ -11,7 +11,6 @@ pub mod Kinds
 pub mod Maps
 pub mod Keeps
 pub mod Other
-pub mod Order
 pub mod Cells
 pub mod Rows
 pub mod Coded

@@ -1,4 +1,5 @@
 pub mod Blocks
+pub mod Labels
 pub mod Chunks
 pub mod Place
 pub mod Decode

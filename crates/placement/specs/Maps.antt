@@ -1,10 +1,9 @@
 -- What placement promises the layer above: a table told as a map from labels to nodes, [] for a label that is absent, and the bytes that keep one.
 use mathlib.Core.Path.{_≡_}
 use mathlib.Core.Logic.{_≢_}
-use mathlib.Core.Bool.{Bool, true, _&&_}
+use mathlib.Core.Bool.{true}
 use mathlib.Core.List.{List, [], _++_}
 use Prim.Native.Nat.{ℕ, _<_, _≤_}
-use lib.Dec.{eqb}
 use lib.ListN.{length}
 use Rattle.placement.specs.Blocks.{Block, holds}
 use Rattle.sizes.specs.Numbers.{Each}
@@ -12,7 +11,8 @@ use Rattle.placement.specs.Kinds.{Kind}
 use Rattle.placement.specs.Kinds
 use Rattle.sizes.specs.Sizes.{made}
 use Rattle.sizes.specs.Header.{sizes-in, block-long}
-use Rattle.placement.specs.Chunks.{Chunk, home, label-before, block-bytes, all-bytes}
+use Rattle.placement.specs.Labels.{label, same-label}
+use Rattle.placement.specs.Chunks.{Chunk, chunk-home, chunk-before, block-bytes, all-bytes}
 use Rattle.sizes.specs.Parts.{block-in}
 use Rattle.sizes.specs.declared.Sizes.{Sizes}
 use Rattle.placement.specs.declared.Order.{Order}
@@ -24,32 +24,21 @@ use Rattle.placement.specs.declared.Found.the-variants.{At, Nothing}
 abbrev pub Map : Type 0
 Map = (level first number : ℕ) → List Order
 
-abbrev pub at : Map → Chunk → List Order
-at F c = F (c .level) (c .first) (c .number)
-
-abbrev pub chunk : Map → (level first number : ℕ) → Chunk
-chunk F l f i = record { level = l; first = f; number = i; nodes = F l f i }
-
 -- a label with nodes; a map of labels
 abbrev pub labelled : Label → List Order → Chunk
-labelled w ns = record { level = w .level; first = w .first; number = w .number; nodes = ns }
+labelled w ns = record { label = w; nodes = ns }
 
 abbrev pub nodes-of : Map → Label → List Order
 nodes-of F w = F (w .level) (w .first) (w .number)
 
-abbrev pub by-parts : (Label → List Order) → Map
-by-parts G l f i = G (record { level = l; first = f; number = i })
+abbrev pub chunk : Map → (level first number : ℕ) → Chunk
+chunk F l f i = labelled (label l f i) (F l f i)
 
-unfoldable pub is-label : Chunk → (level first number : ℕ) → Bool
-is-label c l f i = eqb (c .level) l && (eqb (c .first) f && eqb (c .number) i)
+abbrev pub by-parts : (Label → List Order) → Map
+by-parts G l f i = G (label l f i)
 
 abbrev pub chunk-kind : Kind Chunk Label Order
-chunk-kind = record {
-  label = λ c. record { level = c .level; first = c .first; number = c .number };
-  rows = λ c. c .nodes;
-  make = λ w ns. labelled w ns;
-  has = λ c w. is-label c (w .level) (w .first) (w .number);
-}
+chunk-kind = record { label = λ c. c .label; rows = λ c. c .nodes; make = λ w ns. labelled w ns; has = λ c w. same-label (c .label) w }
 
 -- the table holds what the map tells
 abbrev pub Holds : (m : ℕ) → List (Block Chunk) → Map → Type 0
@@ -57,7 +46,7 @@ Holds m bs F = Kinds.Holds chunk-kind m bs (nodes-of F)
 
 -- a table of sizes s that keeps rule 3 and holds the map F in n blocks
 abbrev pub Keeps : Sizes → List (Block Chunk) → Map → (n : ℕ) → Type 0
-Keeps s bs F n = Kinds.Keeps chunk-kind (home s) label-before (s .blocks) bs (nodes-of F) n
+Keeps s bs F n = Kinds.Keeps chunk-kind (chunk-home s) chunk-before (s .blocks) bs (nodes-of F) n
 
 -- the map with a chunk put in, the map with a label taken out, and the map of some chunks
 unfoldable pub with-chunk : Chunk → Map → Map
@@ -80,9 +69,9 @@ Fines os = Each Fine os
 
 -- a chunk that the bytes of a block can hold
 pub record Holdable (s : Sizes) (c : Chunk) : Type 0 where
-  pub level : 0 < c .level
-  pub first : c .first < 4294967296
-  pub number : c .number < 65536
+  pub level : 0 < c .label .level
+  pub first : c .label .first < 4294967296
+  pub number : c .label .number < 65536
   pub fine : Fines (c .nodes)
   pub nodes : length (c .nodes) ≤ s .nodes
 

@@ -1,16 +1,16 @@
 -- Labels in the bytes of a table: the search for one, the removal and the insertion of a chunk. Document 01, "When bytes are an image".
 use mathlib.Core.Path.{_≡_}
 use mathlib.Core.List.{List, _∷_, _++_}
-use mathlib.Core.Bool.{Bool, true, false, _&&_, _||_, not, cond}
+use mathlib.Core.Bool.{Bool, true, false, _&&_, not, cond}
 use Prim.Native.Nat.{ℕ, zero, suc, _+_, _*_, _-_, _%_, _≤_, _<_}
 use lib.Dec.{ltb, leb, eqb}
 use lib.ListN.{length, getD, replicate}
 use Rattle.sizes.specs.Numbers.{field, big}
-use Rattle.sizes.specs.Sizes.{prime, seed-good}
-use Rattle.sizes.specs.Hash.{g}
+use Rattle.sizes.specs.Sizes.{seed-good}
 use Rattle.sizes.specs.Header.{block-long}
 use Rattle.sizes.specs.Parts.{put-block, clear-in, copy-in, swap-in}
 use Rattle.sizes.specs.declared.Sizes.{Sizes}
+use Rattle.placement.specs.Labels.{before, same-label, home}
 use Rattle.placement.specs.declared.Label.{Label}
 use Rattle.placement.specs.declared.Found.{Found}
 use Rattle.placement.specs.declared.Found.the-variants.{At, Nothing}
@@ -28,20 +28,9 @@ pub record Shaped (s : Sizes) (bs : List ℕ) : Type 0 where
 unfoldable pub label-in : (long : ℕ) → List ℕ → (i : ℕ) → Label
 label-in w bs i = record { level = getD bs (53 + i * w) 0; first = field (53 + i * w + 4) 4 bs; number = field (53 + i * w + 2) 2 bs }
 
-unfoldable pub before-label : Label → Label → Bool
-before-label a b =
-    ltb (a .level) (b .level) || (eqb (a .level) (b .level) && (ltb (a .first) (b .first) || (eqb (a .first) (b .first) && ltb (a .number) (b .number))))
-
-unfoldable pub same-label : Label → Label → Bool
-same-label a b = eqb (a .level) (b .level) && (eqb (a .first) (b .first) && eqb (a .number) (b .number))
-
 -- a search goes past a block that holds a smaller label
 unfoldable pub passes-label : Label → Label → Bool
-passes-label l w = ltb 0 (l .level) && before-label l w
-
--- the block where the search for a label starts
-unfoldable pub home-of : Sizes → Label → ℕ
-home-of s w = (g s (w .first) + 65536 * w .level + w .number) % prime % s .blocks
+passes-label l w = ltb 0 (l .level) && before l w
 
 -- THE SEARCH over the labels of blocks, from block i % m on
 unfoldable pub probe : (look : ℕ → Label) → (m : ℕ) → (want : Label) → (fuel i : ℕ) → Found
@@ -51,7 +40,7 @@ probe look m w (suc k) i =
 
 -- the search for a label in the bytes of a table
 unfoldable pub search-in : Sizes → List ℕ → Label → Found
-search-in s bs w = probe (label-in (block-long s) bs) (s .blocks) w (s .blocks) (home-of s w)
+search-in s bs w = probe (label-in (block-long s) bs) (s .blocks) w (s .blocks) (home s w)
 
 -- the first of so many blocks from block i on that is empty or has a chunk of level l or more
 unfoldable pub past-lower : (look : ℕ → Label) → (l : ℕ) → (count i : ℕ) → ℕ
@@ -92,7 +81,7 @@ pull st home m (suc k) e i x =
 unfoldable pub settle : {S : Type 0} → Store S → (m : ℕ) → (fuel e i : ℕ) → S → S
 settle st m zero e i x = x
 settle st m (suc k) e i x =
-    settle st m k e (suc i) (cond (before-label (st .look x e) (st .look x (i % m))) (st .swap x (i % m) e) x)
+    settle st m k e (suc i) (cond (before (st .look x e) (st .look x (i % m))) (st .swap x (i % m) e) x)
 
 -- what a search found: a block, and the table without the chunk that stands there
 unfoldable pub found-at : Found → Bool
@@ -100,7 +89,7 @@ found-at (At i) = true
 found-at Nothing = false
 
 unfoldable pub taken-out : Sizes → Found → List ℕ → List ℕ
-taken-out s (At i) bs = pull (bytes (block-long s)) (home-of s) (s .blocks) (s .blocks - 1) i (i + 1) bs
+taken-out s (At i) bs = pull (bytes (block-long s)) (home s) (s .blocks) (s .blocks - 1) i (i + 1) bs
 taken-out s Nothing bs = bs
 
 -- the first empty block from block i % m on
@@ -118,5 +107,5 @@ block-with w l n xs = head-bytes l n ++ xs ++ replicate (w - 8 - 12 * n) 0
 -- a new chunk: it goes to the empty block, and from there to its place
 unfoldable pub inserted : Sizes → Found → Label → (n : ℕ) → (nodes : List ℕ) → List ℕ → List ℕ
 inserted s (At e) l n xs bs =
-    settle (bytes (block-long s)) (s .blocks) (distance-of (s .blocks) (home-of s l) e) e (home-of s l) (put-block (block-long s) bs e (block-with (block-long s) l n xs))
+    settle (bytes (block-long s)) (s .blocks) (distance-of (s .blocks) (home s l) e) e (home s l) (put-block (block-long s) bs e (block-with (block-long s) l n xs))
 inserted s Nothing l n xs bs = bs

@@ -6,7 +6,8 @@ ghost use lib.ListN.{length, take, drop};
 ghost use lib.Seq.{sets};
 ghost use Rattle.sizes.specs.Header.{block-long};
 ghost use Rattle.sizes.specs.Parts.{put-block, clear-in, copy-in, swap-in};
-ghost use Rattle.placement.specs.Place.{Shaped, label-in, before-label, home-of, search-in, distance-of, stays-at, bytes, Pulled, pull, settle, found-at, taken-out, free-in, head-bytes, block-with, inserted};
+ghost use Rattle.placement.specs.Labels.{before, home};
+ghost use Rattle.placement.specs.Place.{Shaped, label-in, search-in, distance-of, stays-at, bytes, Pulled, pull, settle, found-at, taken-out, free-in, head-bytes, block-with, inserted};
 use crate::Found;
 use crate::Label;
 use crate::labels::before;
@@ -88,7 +89,7 @@ fn pull_one(table: &mut [u8], s: Sizes, hole: u32, j: u32, h: u32) -> u32
 // Takes the chunk out of a block, and pulls later chunks back toward their homes. One round of blocks is enough, full tables included.
 pub fn pull_back(table: &mut [u8], s: Sizes, at: u32)
     requires { ⌜ Shaped s (now table) × (at < s .blocks) ⌝ }
-    ensures { λ r. ⌜ now (table .exit) ≡ pull (bytes (block-long s)) (home-of s) (s .blocks) (s .blocks - 1) at (at + 1) (now (table .entry)) ⌝ }
+    ensures { λ r. ⌜ now (table .exit) ≡ pull (bytes (block-long s)) (home s) (s .blocks) (s .blocks - 1) at (at + 1) (now (table .entry)) ⌝ }
 {
     let m = s.blocks;
     let mut hole = at;
@@ -122,7 +123,7 @@ pub fn remove(table: &mut [u8], s: Sizes, want: Label) -> bool
 // Two blocks change places if the first holds the smaller label.
 fn settle_one(table: &mut [u8], s: Sizes, e: u32, j: u32)
     requires { ⌜ Shaped s (now table) × (e < s .blocks) × (j < s .blocks) ⌝ }
-    ensures { λ r. ⌜ now (table .exit) ≡ cond (before-label (label-in (block-long s) (now (table .entry)) e) (label-in (block-long s) (now (table .entry)) j)) (swap-in (block-long s) (now (table .entry)) j e) (now (table .entry)) ⌝ }
+    ensures { λ r. ⌜ now (table .exit) ≡ cond (before (label-in (block-long s) (now (table .entry)) e) (label-in (block-long s) (now (table .entry)) j)) (swap-in (block-long s) (now (table .entry)) j e) (now (table .entry)) ⌝ }
 {
     let x = label_at(table, s, e);
     let y = label_at(table, s, j);
@@ -169,7 +170,7 @@ pub fn write_block(table: &mut [u8], s: Sizes, e: u32, l: Label, n: u32, nodes: 
 // A new chunk with a label and n nodes, in its place; nothing where no block is empty.
 pub fn insert(table: &mut [u8], s: Sizes, l: Label, n: u32, nodes: &[u8], start: usize) -> Found
     requires { ⌜ Shaped s (now table) × (l .level < 256) × (8 + 12 * n ≤ block-long s) × (start + 12 * n ≤ length (now nodes)) ⌝ }
-    ensures { λ r. ⌜ (r ≡ free-in (label-in (block-long s) (now (table .entry))) (s .blocks) (s .blocks) (home-of s l)) × (now (table .exit) ≡ inserted s r l n (take (12 * n) (drop start (now (nodes .entry)))) (now (table .entry))) ⌝ }
+    ensures { λ r. ⌜ (r ≡ free-in (label-in (block-long s) (now (table .entry))) (s .blocks) (s .blocks) (home s l)) × (now (table .exit) ≡ inserted s r l n (take (12 * n) (drop start (now (nodes .entry)))) (now (table .entry))) ⌝ }
 {
     let first = home(s, l);
     let Found::At(e) = free(table, s, first) else {

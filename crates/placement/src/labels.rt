@@ -6,7 +6,8 @@ ghost use mathlib.Core.Bool.{true};
 ghost use Rattle.sizes.specs.Numbers.{over};
 ghost use Rattle.sizes.specs.Sizes.{seed-good};
 ghost use Rattle.sizes.specs.Hash.{hash-from};
-ghost use Rattle.placement.specs.Place.{Shaped, label-in, before-label, same-label, passes-label, home-of};
+ghost use Rattle.placement.specs.Labels.{before, same-label, home};
+ghost use Rattle.placement.specs.Place.{Shaped, label-in, passes-label};
 use crate::Label;
 use sizes::Sizes;
 use sizes::header::Header;
@@ -43,7 +44,7 @@ pub fn label_at(table: &[u8], s: Sizes, i: u32) -> Label
 }
 
 pub fn before(a: Label, b: Label) -> bool
-    ensures { λ r. ⌜ r ≡ before-label a b ⌝ }
+    ensures { λ r. ⌜ r ≡ before a b ⌝ }
 {
     if a.level != b.level {
         return a.level < b.level;
@@ -85,7 +86,7 @@ pub fn passes_at(table: &[u8], s: Sizes, i: u32, want: Label) -> bool
 // The block where the search for a label starts: mod p before mod M.
 pub fn home(s: Sizes, want: Label) -> u32
     requires { ⌜ (seed-good (s .seed) ≡ true) × (0 < s .blocks) × (s .blocks ≤ 65535) ⌝ }
-    ensures { λ r. ⌜ (r ≡ home-of s want) × (r < s .blocks) ⌝ }
+    ensures { λ r. ⌜ (r ≡ home s want) × (r < s .blocks) ⌝ }
 {
     let h = sizes::hash::hash(s, 5, want.first);
     let t = (h as u64 + 65536 * (want.level as u64) + want.number as u64) % 2147483647;
@@ -95,7 +96,7 @@ pub fn home(s: Sizes, want: Label) -> u32
 // The same from the hash g of the first key, without a division: `round` is 2^32 over the number of blocks, rounded up.
 pub fn home_over(s: Sizes, round: u64, g: u32, want: Label) -> u32
     requires { ⌜ (0 < s .blocks) × (s .blocks ≤ 65535) × (round ≡ over (s .blocks)) × (g ≡ hash-from 5 5 (s .seed) (want .first)) × (g < 2147483647) × (want .level ≤ 19) × (want .number ≤ 65535) ⌝ }
-    ensures { λ r. ⌜ (r ≡ home-of s want) × (r < s .blocks) ⌝ }
+    ensures { λ r. ⌜ (r ≡ home s want) × (r < s .blocks) ⌝ }
 {
     let t = g + 65536 * want.level + want.number;
     if t < 2147483647 {

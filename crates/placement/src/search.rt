@@ -6,7 +6,8 @@ ghost use lib.ListN.{getD};
 ghost use Rattle.sizes.specs.Numbers.{over};
 ghost use Rattle.sizes.specs.Hash.{hash-from};
 ghost use Rattle.sizes.specs.Header.{block-long};
-ghost use Rattle.placement.specs.Place.{Shaped, label-in, home-of, probe, past-lower, search-in, free-in};
+ghost use Rattle.placement.specs.Labels.{home};
+ghost use Rattle.placement.specs.Place.{Shaped, label-in, probe, past-lower, search-in, free-in};
 use crate::Found;
 use crate::Label;
 use crate::labels::home;
@@ -100,7 +101,7 @@ pub fn find_high(table: &[u8], s: Sizes, round: u64, g: u32, want: Label) -> Fou
 // Does the search for a label start at an empty block, and end there?
 pub fn ends_at_once(table: &[u8], s: Sizes, round: u64, g: u32, want: Label) -> bool
     requires { ⌜ Shaped s (now table) × (round ≡ over (s .blocks)) × (g ≡ hash-from 5 5 (s .seed) (want .first)) × (want .level ≤ 19) × (want .number ≤ 65535) ⌝ }
-    ensures { λ r. ⌜ r ≡ eqb (label-in (block-long s) (now (table .entry)) (home-of s want) .level) 0 ⌝ }
+    ensures { λ r. ⌜ r ≡ eqb (label-in (block-long s) (now (table .entry)) (home s want) .level) 0 ⌝ }
 {
     table[offset(s, home_over(s, round, g, want))] == 0
 }

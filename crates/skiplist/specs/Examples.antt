@@ -8,7 +8,7 @@ use lib.ListN.{length, getD, set, take, drop, replicate}
 use Rattle.sizes.specs.Sizes.{prime, beta}
 use Rattle.sizes.specs.Hash.{h, g, level}
 use Rattle.sizes.specs.Header.{seed-bytes, table-long, header}
-use Rattle.placement.specs.Chunks.{home}
+use Rattle.placement.specs.Labels.{label, home}
 use Rattle.sizes.specs.declared.Sizes.{Sizes}
 use Rattle.skiplist.specs.Image.{image, is-image, same}
 use Rattle.skiplist.specs.Questions.{Parameters, parameters, sizes}
@@ -67,7 +67,7 @@ true-of (leaves cs xs) = is-image (after cs empty-table) && blocks-are (drop 53 
 true-of (leaves-bytes cs i bs) = same (take (length bs) (drop i (after cs empty-table))) bs
 true-of (answers cs c l) = eqb (refusal c (after cs empty-table)) l
 true-of (alike cs ds) = same (after cs empty-table) (after ds empty-table)
-true-of (has-home l f n i) = eqb (home run-sizes (record { level = l; first = f; number = n; nodes = [] })) i
+true-of (has-home l f n i) = eqb (home run-sizes (label l f n)) i
 
 unfoldable pub every : List Example → Bool
 every [] = true

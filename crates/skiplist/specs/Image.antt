@@ -30,7 +30,7 @@ all-into (n ∷ ns) os = all-into ns (cond (eqb (n .key) 0) os (into n os))
 unfoldable pub gathered : List (Block Chunk) → List Order → List Order
 gathered [] os = os
 gathered (empty ∷ bs) os = gathered bs os
-gathered (holds c ∷ bs) os = gathered bs (cond (eqb (c .level) 1) (all-into (c .nodes) os) os)
+gathered (holds c ∷ bs) os = gathered bs (cond (eqb (c .label .level) 1) (all-into (c .nodes) os) os)
 
 unfoldable pub orders-in : List ℕ → List Order
 orders-in bs = gathered (blocks-in (sizes-in bs) bs) []

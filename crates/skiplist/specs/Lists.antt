@@ -7,7 +7,8 @@ use lib.ListN.{length, take, drop, replicate}
 use Rattle.sizes.specs.Sizes.{beta}
 use Rattle.sizes.specs.Hash.{level}
 use Rattle.placement.specs.Blocks.{Block, empty, placed}
-use Rattle.placement.specs.Chunks.{Chunk, home}
+use Rattle.placement.specs.Labels.{label}
+use Rattle.placement.specs.Chunks.{Chunk, chunk-home}
 use Rattle.sizes.specs.declared.Sizes.{Sizes}
 use Rattle.placement.specs.declared.Order.{Order}
 
@@ -52,7 +53,7 @@ unfoldable pub chunks-of : (fuel : ℕ) → (b : ℕ) → (level first number : 
 chunks-of zero b l f i ns = []
 chunks-of (suc k) b l f i [] = []
 chunks-of (suc k) b l f i (n ∷ ns) =
-    record { level = l; first = f; number = i; nodes = take b (n ∷ ns) } ∷ chunks-of k b l f (suc i) (drop b (n ∷ ns))
+    record { label = label l f i; nodes = take b (n ∷ ns) } ∷ chunks-of k b l f (suc i) (drop b (n ∷ ns))
 
 -- the chunks of some partitions of a level
 unfoldable pub all-chunks : Sizes → (l : ℕ) → List (List Order) → List Chunk
@@ -69,4 +70,4 @@ chunks s os = chunks-from (beta s) 1 s os
 
 -- THE BLOCKS of some orders: chunks by rising labels, each in the first free block from its home on
 unfoldable pub blocks : Sizes → (orders : List Order) → List (Block Chunk)
-blocks s os = placed (home s) (s .blocks) (chunks s os) (replicate (s .blocks) empty)
+blocks s os = placed (chunk-home s) (s .blocks) (chunks s os) (replicate (s .blocks) empty)

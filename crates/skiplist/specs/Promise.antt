@@ -8,7 +8,7 @@ use lib.ListN.{length}
 use Rattle.sizes.specs.Sizes.{made}
 use Rattle.sizes.specs.Header.{sizes-in}
 use Rattle.placement.specs.Blocks.{Block, Among, Stands, Rule-3, how-many}
-use Rattle.placement.specs.Chunks.{Chunk, home, label-before}
+use Rattle.placement.specs.Chunks.{Chunk, chunk-home, chunk-before}
 use Rattle.sizes.specs.declared.Sizes.{Sizes}
 use Rattle.placement.specs.declared.Order.{Order}
 use Rattle.skiplist.specs.Lists.{chunks, blocks}
@@ -27,7 +27,7 @@ Image-reads-back =
 unfoldable pub labels-rise : List Chunk → Bool
 labels-rise [] = true
 labels-rise (c ∷ []) = true
-labels-rise (c ∷ d ∷ cs) = label-before c d && labels-rise (d ∷ cs)
+labels-rise (c ∷ d ∷ cs) = chunk-before c d && labels-rise (d ∷ cs)
 
 unfoldable pub Labels-rise : Type 0
 Labels-rise = (s : Sizes) (os : List Order) → orders-good 1 os ≡ true → labels-rise (chunks s os) ≡ true
@@ -35,13 +35,13 @@ Labels-rise = (s : Sizes) (os : List Order) → orders-good 1 os ≡ true → la
 -- an image obeys rule 3
 unfoldable pub Rule-three : Type 0
 Rule-three =
-    (s : Sizes) (os : List Order) → made s ≡ true → orders-good 1 os ≡ true → fits s os ≡ true → Rule-3 (home s) label-before (s .blocks) (blocks s os)
+    (s : Sizes) (os : List Order) → made s ≡ true → orders-good 1 os ≡ true → fits s os ≡ true → Rule-3 (chunk-home s) chunk-before (s .blocks) (blocks s os)
 
 -- rule 3 leaves only one arrangement of the same chunks
 unfoldable pub One-arrangement : Type 0
 One-arrangement =
     (s : Sizes) (os : List Order) (bs : List (Block Chunk)) → made s ≡ true → orders-good 1 os ≡ true → fits s os ≡ true → length bs ≡ s .blocks →
-    Rule-3 (home s) label-before (s .blocks) bs → ((c : Chunk) → Among c (chunks s os) → Stands (s .blocks) bs c) → how-many bs ≡ length (chunks s os) → bs ≡ blocks s os
+    Rule-3 (chunk-home s) chunk-before (s .blocks) bs → ((c : Chunk) → Among c (chunks s os) → Stands (s .blocks) bs c) → how-many bs ≡ length (chunks s os) → bs ≡ blocks s os
 
 -- ---- DEMAND 3 over the definitions alone: the table that calls leave is the image of what the plain book leaves
 

@@ -11,7 +11,7 @@ use Rattle.sizes.specs.Sizes.{prime, beta, made}
 use Rattle.sizes.specs.Hash.{h, g, level}
 use Rattle.sizes.specs.Header.{header, sizes-in}
 use Rattle.placement.specs.Blocks.{Block, empty, holds, holds-smaller, Among}
-use Rattle.placement.specs.Chunks.{Chunk, home, label-before, all-bytes}
+use Rattle.placement.specs.Chunks.{Chunk, chunk-home, chunk-before, all-bytes}
 use Rattle.sizes.specs.declared.Sizes.{Sizes}
 use Rattle.placement.specs.declared.Order.{Order}
 use Rattle.skiplist.specs.Lists.{front, list-at, partitions, first-key, masked, chunks}
@@ -31,8 +31,8 @@ pub record Rules (s : Sizes) (os : List Order) (x : List ℕ) : Type 0 where
   pub only : (j : ℕ) (c : Chunk) → getD table j empty ≡ holds c → Among c (chunks s os)
   pub once : (i j : ℕ) (c : Chunk) → getD table i empty ≡ holds c → getD table j empty ≡ holds c → i ≡ j
   -- rule 3: going round from home, up to just before the chunk's own block, every block holds a smaller label
-  pub smaller : (j : ℕ) (c : Chunk) → getD table j empty ≡ holds c → (t : ℕ) → ((u : ℕ) → u ≤ t → (home s c + u) % s .blocks ≡ j → ⊥) →
-      holds-smaller label-before c (getD table ((home s c + t) % s .blocks) empty) ≡ true
+  pub smaller : (j : ℕ) (c : Chunk) → getD table j empty ≡ holds c → (t : ℕ) → ((u : ℕ) → u ≤ t → (chunk-home s c + u) % s .blocks ≡ j → ⊥) →
+      holds-smaller chunk-before c (getD table ((chunk-home s c + t) % s .blocks) empty) ≡ true
 
 -- question 4 is document 01's definition of an image, and its sizes and orders are the only ones
 unfoldable pub Image-exactly : Type 0
@@ -90,12 +90,12 @@ Lists-are =
 -- a chunk of level k: piece number i of a partition of L_k, of at most B nodes, and not empty; quantities 0 above level 1
 pub record Piece (s : Sizes) (os : List Order) (c : Chunk) : Type 0 where
   pub part : List Order
-  pub low : 1 ≤ c .level
-  pub high : c .level ≤ beta s
-  pub of-level : Among part (partitions s (c .level) (list-at s (c .level) os))
-  pub first-is : c .first ≡ first-key part
-  pub inside : c .number * s .nodes < length part
-  pub nodes-are : c .nodes ≡ map (masked (c .level)) (take (s .nodes) (drop (c .number * s .nodes) part))
+  pub low : 1 ≤ c .label .level
+  pub high : c .label .level ≤ beta s
+  pub of-level : Among part (partitions s (c .label .level) (list-at s (c .label .level) os))
+  pub first-is : c .label .first ≡ first-key part
+  pub inside : c .label .number * s .nodes < length part
+  pub nodes-are : c .nodes ≡ map (masked (c .label .level)) (take (s .nodes) (drop (c .label .number * s .nodes) part))
 
 -- the chunks are exactly these pieces
 unfoldable pub Chunks-are : Type 0

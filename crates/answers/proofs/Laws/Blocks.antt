@@ -14,8 +14,9 @@ use Rattle.lines.specs.Text.{row, dash}
 use Rattle.sizes.specs.Numbers.{field, rows-in}
 use Rattle.sizes.specs.Header.{block-long, header, sizes-in}
 use Rattle.placement.specs.Blocks.{Block, empty, holds}
+use Rattle.placement.specs.Labels.{label}
 use Rattle.placement.specs.Chunks.{Chunk, block-bytes}
-use Rattle.placement.specs.Decode.{node-in, nodes-from, chunk-of, block-of, cut, blocks-in}
+use Rattle.placement.specs.Decode.{node-in, nodes-from, head-label, chunk-of, block-of, cut, blocks-in}
 use Rattle.placement.specs.Maps.{Table, map-of}
 use Rattle.sizes.specs.Parts.{block-in}
 use Rattle.placement.specs.declared.Order.{Order}
@@ -115,8 +116,8 @@ module _ (old : List ℕ) (used : ℕ) (new : List ℕ) (r : ℕ) (table : List 
 
   module _ (n : ℕ) (c : n ≡ getD table (at + 1) 0) (h : n ≤ nodes) where
     chunk-is : chunk-of (take (8 + 12 * nodes) (drop at table))
-        ≡ record { level = getD table at 0; first = field (at + 4) 4 table; number = field (at + 2) 2 table; nodes = nodes-from n (drop (at + 8) table) }
-    unfolding chunk-of
+        ≡ record { label = label (getD table at 0) (field (at + 4) 4 table) (field (at + 2) 2 table); nodes = nodes-from n (drop (at + 8) table) }
+    unfolding chunk-of head-label
     chunk-is =
         let w = 8 + 12 * nodes in
         let x = take w (drop at table) in
@@ -125,7 +126,7 @@ module _ (old : List ℕ) (used : ℕ) (new : List ℕ) (r : ℕ) (table : List 
         let i : field 2 2 x ≡ field (at + 2) 2 table = field-part 2 2 w at table (omega arith) in
         let m : nodes-from (getD x 1 0) (drop 8 x) ≡ nodes-from n (drop (at + 8) table) =
         ap (λ (k : ℕ). nodes-from k (drop 8 x)) (getD-part w at table 1 (omega arith) ∙ sym c) ∙ nodes-part n 8 w at table (omega arith) in
-        λ j. record { level = l j; first = f j; number = i j; nodes = m j }
+        λ j. record { label = label (l j) (f j) (i j); nodes = m j }
 
     pub block-full : getD table at 0 ≢ 0 → (head rows : List ℕ) → take 4 head ≡ getD table at 0 ∷ field (at + 2) 2 table ∷ field (at + 4) 4 table ∷ n ∷ []
         → take (4 + n) rows ≡ take 4 head ++ keys-of (nodes-from n (drop (at + 8) table)) → Said old used (row number (take (4 + n - 0) rows) ∷ []) new r

@@ -53,7 +53,7 @@ told-empty s =
 
 -- a chunk's bytes up to the zeros
 front-of : Chunk → List ℕ
-front-of c = (c .level ∷ length (c .nodes) ∷ []) ++ big 2 (c .number) ++ big 4 (c .first) ++ nodes-bytes (c .nodes)
+front-of c = (c .label .level ∷ length (c .nodes) ∷ []) ++ big 2 (c .label .number) ++ big 4 (c .label .first) ++ nodes-bytes (c .nodes)
 
 front-long : (s : Sizes) (c : Chunk) → length (front-of c) ≡ 8 + 12 * length (c .nodes)
 unfolding front-of big
@@ -69,7 +69,7 @@ front-zeros s c j h q =
     rw (front-bytes s c, ← front-long s c)
     (getD-append-add (front-of c) (replicate (12 * (s .nodes - length (c .nodes))) 0) j 0 ∙ zero-at (12 * (s .nodes - length (c .nodes))) j (omega (arith, q, h)))
 
-first-byte : (s : Sizes) (c : Chunk) → getD (block-bytes s (holds c)) 0 0 ≡ c .level
+first-byte : (s : Sizes) (c : Chunk) → getD (block-bytes s (holds c)) 0 0 ≡ c .label .level
 unfolding block-bytes
 first-byte s c = refl
 
@@ -80,7 +80,7 @@ second-byte s c = refl
 told-holds : (s : Sizes) (c : Chunk) → Holdable s c → Told s (holds c) (block-bytes s (holds c))
 unfolding more-of used-of how-many
 told-holds s c k =
-    let n : eqb (c .level) 0 ≡ false = ne-eqb (c .level) 0 (λ z. omega (arith, k .level)) in
+    let n : eqb (c .label .level) 0 ≡ false = ne-eqb (c .label .level) 0 (λ z. omega (arith, k .level)) in
     record {
       more = λ m. rw (first-byte s c, n);
       zeros = rw (first-byte s c, second-byte s c, n) (λ j q. front-zeros s c j (k .nodes) q);

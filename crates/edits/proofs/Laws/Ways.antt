@@ -9,6 +9,7 @@ use lib.Seq.{sets}
 use Rattle.sizes.specs.Numbers.{big}
 use Rattle.sizes.specs.Sizes.{beta, made}
 use Rattle.sizes.specs.Header.{header}
+use Rattle.placement.specs.Labels.{label}
 use Rattle.placement.specs.Maps.{map-of, Table}
 use Rattle.sizes.specs.declared.Sizes.{Sizes}
 use Rattle.placement.specs.declared.Order.{Order}
@@ -26,10 +27,10 @@ use Rattle.edits.specs.Change.{Between}
 
 -- no chunks above the top level, and none of level 0
 pub none-over : (s : Sizes) (os : List Order) → orders-good 1 os ≡ true → (l f i : ℕ) → beta s < l → map-of (chunks s os) l f i ≡ []
-none-over s os g l f i h = map-content l f i (chunks s os) 0 0 0 (chunks-rise s os (good-up 1 os g)) ∙ content-outside s l f i os h
+none-over s os g l f i h = map-content l f i (chunks s os) (label 0 0 0) (chunks-rise s os (good-up 1 os g)) ∙ content-outside s l f i os h
 
 none-under : (s : Sizes) (os : List Order) → orders-good 1 os ≡ true → (f i : ℕ) → map-of (chunks s os) 0 f i ≡ []
-none-under s os g f i = map-content 0 f i (chunks s os) 0 0 0 (chunks-rise s os (good-up 1 os g)) ∙ content-level-zero s 0 f i os refl
+none-under s os g f i = map-content 0 f i (chunks s os) (label 0 0 0) (chunks-rise s os (good-up 1 os g)) ∙ content-level-zero s 0 f i os refl
 
 header-sets : (s : Sizes) (n k : ℕ) → sets (header s n) 11 (big 2 k) ≡ header s k
 unfolding header big

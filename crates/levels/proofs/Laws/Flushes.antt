@@ -9,8 +9,9 @@ use lib.ListN.{length, take, drop, length-drop}
 use lib.Seq.{sets, take-all, length-take-le}
 use Rattle.sizes.specs.Header.{block-long}
 use Rattle.placement.specs.Chunks.{nodes-bytes}
-use Rattle.placement.specs.Place.{free-in, label-in, home-of, inserted}
-use Rattle.placement.specs.Maps.{Map, Table, Fines, labelled, nodes-of, with-chunk, with-nodes}
+use Rattle.placement.specs.Labels.{label, home}
+use Rattle.placement.specs.Place.{free-in, label-in, inserted}
+use Rattle.placement.specs.Maps.{Map, Table, Fines, nodes-of, with-chunk, with-nodes}
 use Rattle.sizes.specs.declared.Sizes.{Sizes}
 use Rattle.placement.specs.declared.Order.{Order}
 use Rattle.placement.specs.declared.Label.{Label}
@@ -19,7 +20,7 @@ use Rattle.placement.proofs.Laws.Tables.{insert-keeps}
 use Rattle.sizes.proofs.Laws.Sizes.{some-nodes}
 use Rattle.levels.specs.Pour.{one, Writable, waits, writes, Flushes, Puts}
 use Rattle.levels.proofs.Laws.Takes.{one-some}
-use Rattle.placement.proofs.Laws.Maps.{Label-is, is, isnt, label-is}
+use Rattle.placement.proofs.Laws.Labels.{Label-is, is, isnt, label-is}
 use Rattle.levels.proofs.Laws.CarryFronts.{front-none, front-part, front-first, front-more}
 
 pub fines-take : (n : ℕ) (c : List Order) → Fines c → Fines (take n c)
@@ -51,7 +52,7 @@ fines-there s F n hd bs k f i t = go (F k f i) refl
 -- nodes of a carry written under a label that is absent
 module _ (s : Sizes) (w : Label) (F : Map) (m : ℕ) (hd bs : List ℕ) (t : Table s F m hd bs) (c : List Order) where
   pub insert-nodes : (n : ℕ) (xs bs′ : List ℕ) (r : Found) → Writable w → Fines c → nodes-of F w ≡ [] → m < s .blocks → 0 < n → n ≤ s .nodes → n ≡ length c → xs ≡ nodes-bytes c
-      → r ≡ free-in (label-in (block-long s) bs) (s .blocks) (s .blocks) (home-of s w) → bs′ ≡ inserted s r w n xs bs → Table s (with-nodes w c F) (suc m) hd bs′
+      → r ≡ free-in (label-in (block-long s) bs) (s .blocks) (s .blocks) (home s w) → bs′ ≡ inserted s r w n xs bs → Table s (with-nodes w c F) (suc m) hd bs′
   insert-nodes n xs bs′ r q f gone room pos few en ex er eb =
       insert-keeps s F m hd bs t w c (record { level = q .level; first = q .first; number = q .number; fine = f; nodes = omega arith }) gone (not-none c (omega arith)) room r bs′ er
       (eb ∙ rw (en, ex))
@@ -80,10 +81,10 @@ module _ (s : Sizes) (w : Label) (n : ℕ) (bs cs : List ℕ) where
 -- some nodes of a row, or none
 with-none : (w : Label) (F : Map) → nodes-of F w ≡ [] → with-nodes w [] F ≡ F
 unfolding with-chunk
-with-none w F e = λ j l f i. same l f i (label-is (labelled w []) l f i) j
+with-none w F e = λ j l f i. same l f i (label-is w (label l f i)) j
   where
-    same : (l f i : ℕ) → Label-is (labelled w []) l f i → with-nodes w [] F l f i ≡ F l f i
-    same l f i (is z p q r) = rw z (sym e ∙ rw (p, q, r))
+    same : (l f i : ℕ) → Label-is w (label l f i) → with-nodes w [] F l f i ≡ F l f i
+    same l f i (is z p) = rw z (sym e ∙ ap (nodes-of F) p)
     same l f i (isnt z n) = rw z
 
 module _ (s : Sizes) (w : Label) (n : ℕ) (bs cs : List ℕ) where
@@ -93,7 +94,7 @@ module _ (s : Sizes) (w : Label) (n : ℕ) (bs cs : List ℕ) where
       let e : n ≡ 0 = omega arith in
       rw e (record { full = m; table = subst (λ (G : Map). Table s G m hd bs) (sym (with-none w F gone)) t; count = omega arith })
 
-  pub put-some : (bs′ : List ℕ) (r : Found) → 0 < n → n ≤ s .nodes → r ≡ free-in (label-in (block-long s) bs) (s .blocks) (s .blocks) (home-of s w)
+  pub put-some : (bs′ : List ℕ) (r : Found) → 0 < n → n ≤ s .nodes → r ≡ free-in (label-in (block-long s) bs) (s .blocks) (s .blocks) (home s w)
       → bs′ ≡ inserted s r w n (take (12 * n) (drop 0 cs)) bs → Puts s w n bs bs′ cs
   unfolding Puts
   put-some bs′ r pos few er eb F m hd c t f k fine gone can =

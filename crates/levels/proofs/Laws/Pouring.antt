@@ -1,6 +1,7 @@
 -- A pouring under way: chunks are taken behind a carry and written from it, until all stand in their new places.
 use mathlib.Core.Path.{_≡_, refl, sym, ap, _∙_, subst}
 use mathlib.Core.Logic.{_≢_}
+use mathlib.Core.Bool.{true, false}
 use mathlib.Core.List.{List, [], _∷_, _++_, append-assoc, append-nil}
 use Prim.Native.Nat.{ℕ, zero, suc, _+_, _*_, _-_, _/_, _≤_, _<_}
 use native.Mathlib.Decide.{ℕ-discrete, decLt}
@@ -9,14 +10,15 @@ use native.Mathlib.Numerals.{add-one}
 use native.Mathlib.Omega.{arith}
 use lib.ListN.{length, take, drop, length-append, length-drop, length-take, take-append-drop}
 use lib.Seq.{take-append-le, drop-append-le, take-all, take-nil, drop-nil, length-take-le}
-use Rattle.placement.specs.Maps.{Map, Table, Fines, labelled, nodes-of, with-nodes, cleared, with-chunk, without-label}
+use Rattle.placement.specs.Maps.{Map, Table, Fines, nodes-of, with-nodes, cleared, with-chunk, without-label}
 use Rattle.sizes.specs.Header.{block-long}
-use Rattle.placement.specs.Place.{Shaped, free-in, label-in, home-of, inserted}
+use Rattle.placement.specs.Labels.{label, same-label}
+use Rattle.placement.specs.Place.{Shaped, free-in, label-in, inserted}
 use Rattle.sizes.specs.declared.Sizes.{Sizes}
 use Rattle.placement.specs.declared.Found.{Found}
 use Rattle.placement.specs.declared.Order.{Order}
 use Rattle.placement.specs.declared.Label.{Label}
-use Rattle.placement.proofs.Laws.Maps.{Label-is, is, isnt, label-is}
+use Rattle.placement.proofs.Laws.Labels.{Label-is, is, isnt, label-is, is-same, one-label}
 use Rattle.skiplist.proofs.Laws.Count.{pieces}
 use Rattle.levels.specs.Edit.{Pieces}
 use Rattle.levels.specs.Pour.{at, Front, one, Taken, Takes, Writable, Flushed, waits, writes, Flushes, Pourable, Poured, Pours, Put, Puts, Kept}
@@ -26,37 +28,31 @@ use Rattle.levels.proofs.Laws.Chunking.{pieces-none, pieces-skip, piece
 
 -- LABELS of a map with nodes put in or a label cleared
 module _ (w : Label) (F : Map) (l f i : ℕ) where
+  this : w .level ≡ l → w .first ≡ f → w .number ≡ i → same-label w (label l f i) ≡ true
+  this a b d = is-same w (label l f i) (one-label w (label l f i) a b d)
+
+  another : (w .level ≡ l → w .first ≡ f → w .number ≡ i → ⊥) → same-label w (label l f i) ≡ false
+  another h = go (label-is w (label l f i))
+    where
+      go : Label-is w (label l f i) → same-label w (label l f i) ≡ false
+      go (is z p) = absurd (h (ap (λ (v : Label). v .level) p) (ap (λ (v : Label). v .first) p) (ap (λ (v : Label). v .number) p))
+      go (isnt z n) = z
+
   pub cleared-same : w .level ≡ l → w .first ≡ f → w .number ≡ i → cleared w F l f i ≡ []
   unfolding without-label
-  cleared-same a b d = go (label-is (labelled w []) l f i)
-    where
-      go : Label-is (labelled w []) l f i → cleared w F l f i ≡ []
-      go (is z p q r) = rw z
-      go (isnt z n) = absurd (n a b d)
+  cleared-same a b d = rw (this a b d)
 
   pub cleared-other : (w .level ≡ l → w .first ≡ f → w .number ≡ i → ⊥) → cleared w F l f i ≡ F l f i
   unfolding without-label
-  cleared-other h = go (label-is (labelled w []) l f i)
-    where
-      go : Label-is (labelled w []) l f i → cleared w F l f i ≡ F l f i
-      go (is z p q r) = absurd (h p q r)
-      go (isnt z n) = rw z
+  cleared-other h = rw (another h)
 
   pub with-same : (ns : List Order) → w .level ≡ l → w .first ≡ f → w .number ≡ i → with-nodes w ns F l f i ≡ ns
   unfolding with-chunk
-  with-same ns a b d = go (label-is (labelled w ns) l f i)
-    where
-      go : Label-is (labelled w ns) l f i → with-nodes w ns F l f i ≡ ns
-      go (is z p q r) = rw z
-      go (isnt z n) = absurd (n a b d)
+  with-same ns a b d = rw (this a b d)
 
   pub with-other : (ns : List Order) → (w .level ≡ l → w .first ≡ f → w .number ≡ i → ⊥) → with-nodes w ns F l f i ≡ F l f i
   unfolding with-chunk
-  with-other ns h = go (label-is (labelled w ns) l f i)
-    where
-      go : Label-is (labelled w ns) l f i → with-nodes w ns F l f i ≡ F l f i
-      go (is z p q r) = absurd (h p q r)
-      go (isnt z n) = rw z
+  with-other ns h = rw (another h)
 
 -- t chunks are taken, and `done` are written, up to number v; `carry` is in between
 pub record Pouring (s : Sizes) (F : Map) (m : ℕ) (hd : List ℕ) (k f j g q : ℕ) (c rest : List Order) (t v left : ℕ) (bs cs : List ℕ) : Type 0 where

@@ -18,7 +18,8 @@ use Rattle.placement.specs.Blocks.{holds}
 use Rattle.placement.specs.Chunks.{block-bytes}
 use Rattle.sizes.specs.Parts.{block-in}
 use Rattle.placement.specs.Place.{search-in, taken-out}
-use Rattle.placement.specs.Maps.{Map, Table, Finds, is-at, is-none, labelled, nodes-of, cleared, without-label, is-label}
+use Rattle.placement.specs.Labels.{same-label}
+use Rattle.placement.specs.Maps.{Map, Table, Finds, is-at, is-none, labelled, nodes-of, cleared, without-label}
 use Rattle.sizes.specs.declared.Sizes.{Sizes}
 use Rattle.placement.specs.declared.Order.{Order}
 use Rattle.placement.specs.declared.Label.{Label}
@@ -167,7 +168,7 @@ keys-read bs y (o ∷ ns) a x h =
 -- no partition has more chunks than there are blocks
 module _ (s : Sizes) (k f : ℕ) (pos : 0 < k) where
   cleared-other : (a i : ℕ) (F : Map) → cleared (record { level = k; first = f; number = a }) F k f (suc a + i) ≡ F k f (suc a + i)
-  unfolding without-label is-label
+  unfolding without-label same-label
   cleared-other a i F = rw (ne-eqb a (suc a + i) (λ e. omega arith), and-false, and-false)
 
   crowd : (j : ℕ) (F : Map) (n : ℕ) (hd bs : List ℕ) (a : ℕ) → Table s F n hd bs → ((i : ℕ) → i < j → F k f (a + i) ≢ []) → j ≤ n

@@ -9,7 +9,8 @@ use lib.Seq.{sets, take-all, length-take-le}
 use Rattle.sizes.specs.Header.{block-long}
 use Rattle.placement.specs.Chunks.{nodes-bytes}
 use Rattle.sizes.specs.Parts.{put-block}
-use Rattle.placement.specs.Place.{search-in, bytes, pull, home-of, block-with}
+use Rattle.placement.specs.Labels.{home}
+use Rattle.placement.specs.Place.{search-in, bytes, pull, block-with}
 use Rattle.placement.specs.Maps.{Map, Table, Finds, is-at, is-none, Fines, nodes-of, with-chunk, without-label, with-nodes, cleared}
 use Rattle.sizes.specs.declared.Sizes.{Sizes}
 use Rattle.placement.specs.declared.Order.{Order}
@@ -50,7 +51,7 @@ module _ (s : Sizes) (w : Label) (n : ℕ) (bs cs : List ℕ) (r : Found) (er : 
         go Nothing z g = absurd (true≢false cc)
 
     -- .. or there, and cleared
-    pub store-none : n ≡ 0 → (bs′ : List ℕ) → bs′ ≡ pull (bytes (block-long s)) (home-of s) (s .blocks) (s .blocks - 1) i (i + 1) bs → Stores s w n bs bs′ cs
+    pub store-none : n ≡ 0 → (bs′ : List ℕ) → bs′ ≡ pull (bytes (block-long s)) (home s) (s .blocks) (s .blocks - 1) i (i + 1) bs → Stores s w n bs bs′ cs
     unfolding Stores one
     store-none z bs′ eb F m hd c t f k fine can =
         let h = there F m hd t (can .level) in

@@ -13,13 +13,14 @@ use Rattle.sizes.specs.Header.{block-long}
 use Rattle.sizes.specs.Parts.{block-in}
 use Rattle.placement.specs.Chunks.{block-bytes, nodes-bytes}
 use Rattle.placement.specs.Place.{search-in, taken-out}
+use Rattle.placement.specs.Labels.{label}
 use Rattle.placement.specs.Maps.{Map, Table, Finds, is-at, is-none, labelled, nodes-of, cleared, without-label}
 use Rattle.sizes.specs.declared.Sizes.{Sizes}
 use Rattle.placement.specs.declared.Order.{Order}
 use Rattle.placement.specs.declared.Label.{Label}
 use Rattle.placement.specs.declared.Found.{Found}
 use Rattle.placement.specs.declared.Found.the-variants.{At, Nothing}
-use Rattle.placement.proofs.Laws.Maps.{Label-is, is, isnt, label-is}
+use Rattle.placement.proofs.Laws.Labels.{Label-is, is, isnt, label-is}
 use Rattle.placement.proofs.Laws.Tables.{find-told, remove-keeps, remove-none, count-some}
 use Rattle.placement.proofs.Laws.Reading.{count-read}
 use Rattle.placement.proofs.Laws.Bridge.{nodes-long}
@@ -29,10 +30,10 @@ use Rattle.levels.proofs.Laws.CarryFronts.{front-more}
 -- a label that is not there is cleared already
 pub cleared-none : (w : Label) (F : Map) → nodes-of F w ≡ [] → cleared w F ≡ F
 unfolding without-label
-cleared-none w F e = λ j l f i. same l f i (label-is (labelled w []) l f i) j
+cleared-none w F e = λ j l f i. same l f i (label-is w (label l f i)) j
   where
-    same : (l f i : ℕ) → Label-is (labelled w []) l f i → cleared w F l f i ≡ F l f i
-    same l f i (is z p q r) = rw z (sym e ∙ rw (p, q, r))
+    same : (l f i : ℕ) → Label-is w (label l f i) → cleared w F l f i ≡ F l f i
+    same l f i (is z p) = rw z (sym e ∙ ap (nodes-of F) p)
     same l f i (isnt z n) = rw z
 
 pub one-some : (ns : List Order) → ns ≢ [] → one ns ≡ 1

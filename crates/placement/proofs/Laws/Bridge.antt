@@ -8,26 +8,24 @@ use Rattle.sizes.specs.declared.Sizes.{Sizes}
 use Rattle.placement.specs.declared.Order.{Order}
 use Rattle.placement.specs.declared.Label.{Label}
 use Rattle.placement.specs.Blocks.{Block, empty, holds}
+use Rattle.placement.specs.Labels.{label}
 use Rattle.sizes.specs.Numbers.{field, value-from, big}
 use Rattle.sizes.specs.Header.{block-long}
-use Rattle.placement.specs.Chunks.{Chunk, label-before, block-bytes, all-bytes, nodes-bytes, node-bytes}
-use Rattle.placement.specs.Place.{Store, before-label}
+use Rattle.placement.specs.Chunks.{Chunk, block-bytes, all-bytes, nodes-bytes, node-bytes}
+use Rattle.placement.specs.Decode.{head-label}
+use Rattle.placement.specs.Place.{Store}
 use Rattle.placement.specs.Maps.{Holdable}
 use Rattle.sizes.proofs.Laws.Numbers.{field-big}
 use Rattle.placement.proofs.Laws.Rows.{length-rows}
-use Rattle.placement.proofs.Laws.Cells.{join, Even, head-label}
+use Rattle.placement.proofs.Laws.Cells.{join, Even}
 use Rattle.placement.proofs.Laws.Coded.{Coding, All, listed, rows-join}
 use Rattle.placement.proofs.Laws.Coded
 pub use Rattle.placement.proofs.Laws.Coded.{good-none, good-more}
 
 -- LABELS: what the head of a block's bytes says is the chunk's label
-unfoldable pub label-of : Block Chunk → Label
-label-of empty = record { level = 0; first = 0; number = 0 }
-label-of (holds c) = record { level = c .level; first = c .first; number = c .number }
-
-pub before-chunk : (a b : Chunk) → before-label (label-of (holds a)) (label-of (holds b)) ≡ label-before a b
-unfolding label-of before-label label-before
-before-chunk a b = refl
+abbrev pub label-of : Block Chunk → Label
+label-of empty = label 0 0 0
+label-of (holds c) = c .label
 
 -- a block, and blocks, that bytes can hold
 pub data Good (s : Sizes) : Block Chunk → Type 0 where
@@ -49,16 +47,16 @@ pub nodes-long : (os : List Order) → length (nodes-bytes os) ≡ 12 * length o
 nodes-long os = length-rows 12 node-bytes node-long os
 
 module _ (s : Sizes) where
-  number-of : (c : Chunk) → Holdable s c → field 2 2 (block-bytes s (holds c)) ≡ c .number
+  number-of : (c : Chunk) → Holdable s c → field 2 2 (block-bytes s (holds c)) ≡ c .label .number
   unfolding block-bytes field
-  number-of c k = rw (append-assoc, append-assoc) (field-big 2 (c .number) _ (k .number))
+  number-of c k = rw (append-assoc, append-assoc) (field-big 2 (c .label .number) _ (k .number))
 
-  first-of : (c : Chunk) → Holdable s c → field 4 4 (block-bytes s (holds c)) ≡ c .first
+  first-of : (c : Chunk) → Holdable s c → field 4 4 (block-bytes s (holds c)) ≡ c .label .first
   unfolding block-bytes field big
-  first-of c k = field-big 4 (c .first) [] (k .first)
+  first-of c k = field-big 4 (c .label .first) [] (k .first)
 
   pub head-of : {b : Block Chunk} → Good s b → head-label (block-bytes s b) ≡ label-of b
-  unfolding head-label label-of block-bytes block-long field value-from
+  unfolding head-label block-bytes block-long field value-from
   head-of free =
       let e : 8 + 12 * s .nodes ≡ suc (suc (suc (suc (suc (suc (suc (suc (12 * s .nodes)))))))) = omega arith in
       rw e

@@ -8,10 +8,10 @@ use native.Mathlib.Omega.{arith}
 use lib.Dec.{eqb}
 use lib.ListN.{length, getD, set, take, drop, replicate, length-append, length-drop, length-set, length-replicate, take-append-drop}
 use lib.Seq.{sets, sets-eq, length-take-le, take-at, drop-at, drop-append-add, getD-take, getD-drop}
-use Rattle.sizes.specs.Numbers.{field}
-use Rattle.placement.specs.Decode.{cut}
+use Rattle.placement.specs.Decode.{head-label, cut}
 use Rattle.sizes.specs.Parts.{block-in, put-block, clear-in, copy-in, swap-in}
-use Rattle.placement.specs.Place.{label-in, Store, bytes, pull, settle, stays-at, before-label}
+use Rattle.placement.specs.Place.{label-in, Store, bytes, pull, settle, stays-at}
+use Rattle.placement.specs.Labels.{before}
 use Rattle.placement.specs.declared.Label.{Label}
 use Rattle.sizes.specs.Numbers.{rows-in}
 use Rattle.sizes.proofs.Laws.Numbers.{field-part}
@@ -86,10 +86,6 @@ module _ (w : ℕ) (hd : List ℕ) (eh : length hd ≡ 53) {bl : List (List ℕ)
   unfolding put-block
   table-put i h v e = rw (← eh, sets-past hd (join bl) (i * w) v, sets-join w ev i h v e)
 
--- the label at the front of a block's bytes
-unfoldable pub head-label : List ℕ → Label
-head-label x = record { level = getD x 0 0; first = field 4 4 x; number = field 2 2 x }
-
 pub label-cell : (w : ℕ) (bs : List ℕ) (i : ℕ) → 8 ≤ w → label-in w bs i ≡ head-label (block-in w bs i)
 unfolding label-in head-label block-in
 label-cell w bs i h =
@@ -138,7 +134,7 @@ module _ {S R : Type 0} (s : Store S) (r : Store R) (m : ℕ) (f : R → S) (Val
   settle-same zero e i x v h = refl
   settle-same (suc k) e i x v h =
       let j : i % m < m = mod-lt i pos in
-      let t : Bool = before-label (r .look x e) (r .look x (i % m)) in
+      let t : Bool = before (r .look x e) (r .look x (i % m)) in
       rw (q .look x v (i % m) j, q .look x v e h, q .swap x v (i % m) e j h, cond-out f t)
       (settle-same k e (suc i) (cond t (r .swap x (i % m) e) x) (cond-valid Valid t _ _ (q .swap-valid x v (i % m) e j h) v) h)
 

@@ -8,9 +8,10 @@ use lib.ListN.{length, getD, set, replicate, length-set, length-map}
 use Rattle.placement.specs.Blocks.{Block, empty}
 use Rattle.sizes.specs.Numbers.{rows}
 use Rattle.sizes.specs.Parts.{block-in, put-block}
+use Rattle.placement.specs.Decode.{head-label}
 use Rattle.placement.specs.Place.{label-in, bytes, Store, pull, settle, probe}
 use Rattle.placement.specs.declared.Label.{Label}
-use Rattle.placement.proofs.Laws.Cells.{join, Even, none, more, table-block, table-put, head-label, cells, Same, cells-same, pull-same, settle-same}
+use Rattle.placement.proofs.Laws.Cells.{join, Even, none, more, table-block, table-put, cells, Same, cells-same, pull-same, settle-same}
 
 -- A CODING: `Good` says of a block that bytes can hold it
 pub record Coding {A : Type 0} (w : ℕ) (code : Block A → List ℕ) (label : Block A → Label) (Good : Block A → Type 0) : Type 0 where

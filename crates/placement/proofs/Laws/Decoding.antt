@@ -11,7 +11,7 @@ use lib.ListN.{length, getD, take, drop, replicate, length-drop, length-map, tak
 use borrow.Author.Tests.{eq-eqb, ne-eqb}
 use lib.Seq.{drop-drop, length-take-le}
 use Rattle.sizes.specs.Numbers.{big, field}
-use Rattle.placement.specs.Decode.{node-in, nodes-from, chunk-of, block-of, cut, blocks-in}
+use Rattle.placement.specs.Decode.{node-in, nodes-from, head-label, chunk-of, block-of, cut, blocks-in}
 use Rattle.placement.specs.Chunks.{node-bytes, nodes-bytes, block-bytes, all-bytes, Chunk}
 use Rattle.sizes.specs.Header.{block-long}
 use Rattle.sizes.specs.Parts.{block-in}
@@ -55,7 +55,7 @@ five-parts k a b c n z x ea eb ec en ez = rw (ea, eb, ec, en, ez, take-more 2 2 
 
 chunk-again : (s : Sizes) (x : List ℕ) → length x ≡ 8 + 12 * s .nodes → Bytes x → getD x 1 0 ≤ s .nodes → drop (8 + 12 * getD x 1 0) x ≡ replicate (12 * (s .nodes - getD x 1 0)) 0
     → block-bytes s (holds (chunk-of x)) ≡ x
-unfolding block-bytes chunk-of
+unfolding block-bytes chunk-of head-label
 chunk-again s x long b few rest =
     let n : length (nodes-from (getD x 1 0) (drop 8 x)) ≡ getD x 1 0 = nodes-count (getD x 1 0) (drop 8 x) in
     let d : length (drop 8 x) ≡ 12 * s .nodes = simp length-drop (omega arith) in
@@ -76,7 +76,7 @@ block-again s x long b (filled l one few rest) = rw (ne-eqb (getD x 0 0) 0 (omeg
 
 -- .. and that block is one that bytes can hold
 pub block-holdable : (s : Sizes) (x : List ℕ) → length x ≡ block-long s → Bytes x → Clean s x → Good s (block-of x)
-unfolding block-of block-long chunk-of
+unfolding block-of block-long chunk-of head-label
 block-holdable s x long b (zeros z e) = rw (eq-eqb (getD x 0 0) 0 z) free
 block-holdable s x long b (filled l one few rest) =
     rw (ne-eqb (getD x 0 0) 0 (omega arith))

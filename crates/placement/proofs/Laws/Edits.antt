@@ -10,10 +10,11 @@ use lib.ListN.{length, getD, set, length-set}
 use Rattle.placement.specs.Blocks.{Block, empty, holds, around, is-free}
 use Rattle.sizes.specs.declared.Sizes.{Sizes}
 use Rattle.placement.specs.declared.Order.{Order}
-use Rattle.placement.specs.Chunks.{Chunk, home, label-before, block-bytes, all-bytes, nodes-bytes}
+use Rattle.placement.specs.Labels.{home}
+use Rattle.placement.specs.Chunks.{Chunk, chunk-home, chunk-before, block-bytes, all-bytes, nodes-bytes}
 use Rattle.sizes.specs.Header.{block-long}
 use Rattle.sizes.specs.Parts.{block-in, put-block}
-use Rattle.placement.specs.Place.{label-in, probe, search-in, distance-of, bytes, pull, settle, free-in, head-bytes, block-with, inserted, home-of}
+use Rattle.placement.specs.Place.{label-in, probe, search-in, distance-of, bytes, pull, settle, free-in, head-bytes, block-with, inserted}
 use Rattle.placement.specs.Maps.{Map, Keeps, Holdable, labelled, nodes-of, chunk-kind}
 use Rattle.placement.specs.declared.Label.{Label}
 use Rattle.placement.specs.declared.Found.{Found}
@@ -23,27 +24,23 @@ use Rattle.placement.proofs.Laws.Maps.{lawful}
 use Rattle.sizes.proofs.Laws.Round.{steps-to}
 use Rattle.placement.proofs.Laws.Placed.{gap}
 use Rattle.placement.proofs.Laws.Removal.{removed-at}
-use Rattle.placement.proofs.Laws.Insertion.{insert-from, Carry}
-use Rattle.placement.proofs.Laws.Labels.{labels-strict, labels-chain, home-tied, home-inside}
+use Rattle.placement.proofs.Laws.Insertion.{insert-from}
+use Rattle.placement.proofs.Laws.Labels.{home-inside}
 use Rattle.placement.proofs.Laws.Bridge.{Good, held, All-good, label-of, good-at, good-set, coding}
 use Rattle.placement.proofs.Laws.Coded.{block-read, block-write, pull-blocks, settle-blocks, label-blocks, probe-blocks}
 use Rattle.placement.proofs.Laws.Pulling.{pull-removed, distance-steps}
-use Rattle.placement.proofs.Laws.Settling.{Ahead, settle-theory, First-free, free-first, free-found}
-use Rattle.sizes.specs.Hash.{level}
+use Rattle.placement.proofs.Laws.Settling.{Ahead, Carried, settle-theory, First-free, free-first, free-found}
 
 -- a block that holds nothing, by its label
 free-label : (s : Sizes) (b : Block Chunk) → Good s b → label-of b .level ≡ 0 → b ≡ empty
-unfolding label-of
 free-label s empty q e = refl
 free-label s (holds c) (held q) e = absurd (omega (arith, q .level))
 
 full-label : (s : Sizes) (b : Block Chunk) → Good s b → label-of b .level ≢ 0 → is-free b ≡ false
-unfolding label-of
 full-label s empty q n = absurd (n refl)
 full-label s (holds c) q n = refl
 
 empty-label : (b : Block Chunk) → b ≡ empty → label-of b .level ≡ 0
-unfolding label-of
 empty-label b e = rw e
 
 -- the bytes of a chunk's block, as the code writes them
@@ -54,11 +51,6 @@ block-written s w ns h =
     let e : 8 + 12 * s .nodes - 8 - 12 * length ns ≡ 12 * (s .nodes - length ns) = omega arith in
     rw e
 
--- the home of a label
-pub home-labelled : (s : Sizes) (w : Label) (ns : List Order) → home-of s w ≡ home s (labelled w ns)
-unfolding home-of home
-home-labelled s w ns = refl
-
 -- a table of sizes s: a header and blocks
 module _ (s : Sizes) (some : 0 < s .blocks) (hd : List ℕ) (eh : length hd ≡ 53) (bl : List (Block Chunk)) (v : All-good s bl) (long : length bl ≡ s .blocks) where
   -- a block of the bytes, and one written
@@ -68,19 +60,19 @@ module _ (s : Sizes) (some : 0 < s .blocks) (hd : List ℕ) (eh : length hd ≡ 
   pub block-put : (i : ℕ) (b : Block Chunk) → i < s .blocks → Good s b → put-block (block-long s) (hd ++ all-bytes s bl) i (block-bytes s b) ≡ hd ++ all-bytes s (set bl i b)
   block-put = block-write (coding s) (s .blocks) some hd eh bl v long
 
-  pub search-blocks : (w : Label) → search-in s (hd ++ all-bytes s bl) w ≡ probe (λ j. label-of (getD bl j empty)) (s .blocks) w (s .blocks) (home s (labelled w []))
+  pub search-blocks : (w : Label) → search-in s (hd ++ all-bytes s bl) w ≡ probe (λ j. label-of (getD bl j empty)) (s .blocks) w (s .blocks) (home s w)
   unfolding search-in
-  search-blocks w = rw (home-labelled s w []) (probe-blocks (coding s) (s .blocks) some hd eh bl v long w (s .blocks) (home s (labelled w [])))
+  search-blocks w = probe-blocks (coding s) (s .blocks) some hd eh bl v long w (s .blocks) (home s w)
 
-  pub pull-at : (i : ℕ) → i < s .blocks → pull (bytes (block-long s)) (home-of s) (s .blocks) (s .blocks - 1) i (i + 1) (hd ++ all-bytes s bl) ≡ hd ++ all-bytes s (removed-at (home s) (s .blocks) i bl)
+  pub pull-at : (i : ℕ) → i < s .blocks → pull (bytes (block-long s)) (home s) (s .blocks) (s .blocks - 1) i (i + 1) (hd ++ all-bytes s bl) ≡ hd ++ all-bytes s (removed-at (chunk-home s) (s .blocks) i bl)
   pull-at i h =
-      pull-blocks (coding s) (s .blocks) some hd eh bl v long (home-of s) (s .blocks - 1) i (i + 1) h
+      pull-blocks (coding s) (s .blocks) some hd eh bl v long (home s) (s .blocks - 1) i (i + 1) h
       ∙ ap (λ (x : List (Block Chunk)). hd ++ all-bytes s x) (pull-removed s some i bl v h)
 
   -- INSERTION
   module _ (F : Map) (n : ℕ) (k : Keeps s bl F n) (w : Label) (ns : List Order) (q : Holdable s (labelled w ns)) (gone : nodes-of F w ≡ []) (room : n < s .blocks) where
     abbrev start : ℕ
-    start = home s (labelled w ns)
+    start = home s w
 
     look-at : (j : ℕ) → label-in (block-long s) (hd ++ all-bytes s bl) (j % s .blocks) ≡ label-of (around (s .blocks) bl j)
     unfolding around
@@ -95,7 +87,7 @@ module _ (s : Sizes) (some : 0 < s .blocks) (hd : List ℕ) (eh : length hd ≡ 
     unfolding around
     not-nothing =
         let z = gap bl (omega (arith, k .count)) in
-        let t = steps-to (s .blocks) start (home-inside s some (labelled w ns)) (z .at) (omega (arith, z .inside)) in
+        let t = steps-to (s .blocks) start (home-inside s some w) (z .at) (omega (arith, z .inside)) in
         free-found (label-in (block-long s) (hd ++ all-bytes s bl)) (s .blocks) (s .blocks) start (t .steps) (t .few)
         (ap (λ (l : Label). l .level) (look-at (start + t .steps)) ∙ empty-label (around (s .blocks) bl (start + t .steps)) (rw (t .there) (z .is)))
 
@@ -117,11 +109,11 @@ module _ (s : Sizes) (some : 0 < s .blocks) (hd : List ℕ) (eh : length hd ≡ 
       unfolding around
       ahead = record { long = long; there = r .there; free = ap (λ (j : ℕ). getD bl j empty) (sym (r .there)) ∙ around-free; full = around-full }
 
-      carry : Carry (home s) label-before (s .blocks) labels-strict labels-chain (home-tied s) (home-inside s some) (s .blocks) start (labelled w ns) bl
+      carry : Carried s some (s .blocks) start (labelled w ns) bl
       carry = record {
         long = long;
         rule-3 = k .rule-3;
-        other = absent-other chunk-kind (home s) label-before (s .blocks) (lawful s some) bl (nodes-of F) (labelled w ns) (k .map) gone;
+        other = absent-other chunk-kind (chunk-home s) chunk-before (s .blocks) (lawful s some) bl (nodes-of F) (labelled w ns) (k .map) gone;
         steps = 0;
         there = ap (λ (x : ℕ). x % s .blocks) (add-zero start);
         smaller = λ l h. absurd (omega arith);
@@ -131,19 +123,19 @@ module _ (s : Sizes) (some : 0 < s .blocks) (hd : List ℕ) (eh : length hd ≡ 
       }
 
       steps-is : distance-of (s .blocks) start e ≡ r .steps
-      steps-is = distance-steps (s .blocks) start e (r .steps) (home-inside s some (labelled w ns)) inside (r .few) (r .there)
+      steps-is = distance-steps (s .blocks) start e (r .steps) (home-inside s some w) inside (r .few) (r .there)
 
       insert-here : settle (bytes (block-long s)) (s .blocks) (r .steps) e start (put-block (block-long s) (hd ++ all-bytes s bl) e (block-bytes s (holds (labelled w ns))))
-          ≡ hd ++ all-bytes s (insert-from label-before (s .blocks) start (s .blocks) (labelled w ns) bl)
+          ≡ hd ++ all-bytes s (insert-from chunk-before (s .blocks) start (s .blocks) (labelled w ns) bl)
       insert-here =
           rw (block-put e (holds (labelled w ns)) inside (held q))
           (settle-blocks (coding s) (s .blocks) some hd eh (set bl e (holds (labelled w ns))) (good-set s v e (held q)) (length-set bl e _ ∙ long) (r .steps) e start inside
           ∙ ap (λ (x : List (Block Chunk)). hd ++ all-bytes s x) (settle-theory s some e inside (r .steps) (s .blocks) start (labelled w ns) bl carry ahead))
 
     pub insert-at : (r : Found) → r ≡ free-in (label-in (block-long s) (hd ++ all-bytes s bl)) (s .blocks) (s .blocks) start
-        → inserted s r w (length ns) (nodes-bytes ns) (hd ++ all-bytes s bl) ≡ hd ++ all-bytes s (insert-from label-before (s .blocks) start (s .blocks) (labelled w ns) bl)
+        → inserted s r w (length ns) (nodes-bytes ns) (hd ++ all-bytes s bl) ≡ hd ++ all-bytes s (insert-from chunk-before (s .blocks) start (s .blocks) (labelled w ns) bl)
     unfolding inserted
     insert-at (At e) h =
         let r = free-first (label-in (block-long s) (hd ++ all-bytes s bl)) (s .blocks) (s .blocks) start e (sym h) in
-        rw (block-written s w ns (q .nodes), home-labelled s w ns, steps-is e r) (insert-here e r)
+        rw (block-written s w ns (q .nodes), steps-is e r) (insert-here e r)
     insert-at Nothing h = absurd (not-nothing (sym h))

@@ -89,7 +89,7 @@ module _ {A L R : Type 0} (k : Kind A L R) (home : A → ℕ) (before : A → A 
   apart : (c x : A) → k .label c ≡ k .label x → (before x c ≡ false) × (before c x ≡ false)
   apart c x e = let a = law .alike c x e in (a .right x ∙ law .strict x, a .left x ∙ law .strict x)
 
-  tied : (c d : A) → before c d ≡ false → before d c ≡ false → home c ≡ home d
+  pub tied : (c d : A) → before c d ≡ false → before d c ≡ false → home c ≡ home d
   tied c d p q = law .alike c d (law .one c d p q) .home-same
 
   like : (c d e : A) → before c d ≡ false → before d c ≡ false → before e c ≡ true → before e d ≡ true

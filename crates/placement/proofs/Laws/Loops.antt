@@ -19,11 +19,12 @@ use Rattle.sizes.specs.declared.Sizes.{Sizes}
 use Rattle.placement.specs.declared.Label.{Label}
 use Rattle.placement.specs.declared.Found.{Found}
 use Rattle.placement.specs.declared.Found.the-variants.{At, Nothing}
-use Rattle.placement.specs.Place.{Shaped, label-in, before-label, same-label, passes-label, probe, past-lower, search-in, distance-of, stays-at, bytes, Pulled, pull, settle, found-at, taken-out, free-in, head-bytes, block-with, inserted}
+use Rattle.placement.specs.Place.{Shaped, label-in, passes-label, probe, past-lower, search-in, distance-of, stays-at, bytes, Pulled, pull, settle, found-at, taken-out, free-in, head-bytes, block-with, inserted}
 use Rattle.sizes.proofs.Laws.Parts.{sets-append}
 use Rattle.sizes.proofs.Laws.Sizes.{and-parts}
-use Rattle.placement.specs.Place.{home-of}
+use Rattle.placement.specs.Labels.{before, same-label, home}
 use Rattle.sizes.specs.Hash.{hash-from, g}
+use Rattle.placement.proofs.Laws.Labels.{labels-strict, home-inside}
 
 -- the search goes by where it stands on the way round
 probe-round : (look : ℕ → Label) (m : ℕ) (w : Label) (k i j : ℕ) → i % m ≡ j % m → probe look m w k i ≡ probe look m w k j
@@ -84,7 +85,7 @@ module _ (look : ℕ → Label) (m : ℕ) (w : Label) where
   lower i = ltb 0 (look i .level) && ltb (look i .level) (w .level)
 
   lower-passes : (i : ℕ) → lower i ≡ true → passes-label (look i) w ≡ true
-  unfolding lower passes-label before-label
+  unfolding lower passes-label before
   lower-passes i e = let p = and-parts (ltb 0 (look i .level)) (ltb (look i .level) (w .level)) e in rw (p .0, p .1)
 
   passed-one : (f i : ℕ) → i < m → 0 < f → lower i ≡ true → probe look m w f i ≡ probe look m w (f - 1) (suc i)
@@ -121,21 +122,21 @@ module _ (look : ℕ → Label) (m : ℕ) (w : Label) where
           ap (λ (k : ℕ). probe look m w k i) n
 
 -- the search for a label is the one from home on, round the whole table
-pub home-search : (s : Sizes) (bs : List ℕ) (w : Label) (home : ℕ) (r : Found) → home ≡ home-of s w →
-    r ≡ probe (label-in (block-long s) bs) (s .blocks) w (s .blocks) home → r ≡ search-in s bs w
+pub home-search : (s : Sizes) (bs : List ℕ) (w : Label) (start : ℕ) (r : Found) → start ≡ home s w →
+    r ≡ probe (label-in (block-long s) bs) (s .blocks) w (s .blocks) start → r ≡ search-in s bs w
 unfolding search-in
-home-search s bs w home r eh er = er ∙ ap (probe (label-in (block-long s) bs) (s .blocks) w (s .blocks)) eh
+home-search s bs w start r eh er = er ∙ ap (probe (label-in (block-long s) bs) (s .blocks) w (s .blocks)) eh
 
 -- .. and goes on from the first block that is not of a lower level
-pub past-search : (s : Sizes) (bs : List ℕ) (w : Label) (home i j : ℕ) (r : Found) → home ≡ home-of s w → home < s .blocks →
-    i ≡ past-lower (label-in (block-long s) bs) (w .level) (s .blocks - home) home → j ≡ i % s .blocks → j < s .blocks →
-    r ≡ probe (label-in (block-long s) bs) (s .blocks) w (s .blocks - (i - home)) j → r ≡ search-in s bs w
-past-search s bs w home i j r eh h ei ej hj er =
+pub past-search : (s : Sizes) (bs : List ℕ) (w : Label) (start i j : ℕ) (r : Found) → start ≡ home s w → start < s .blocks →
+    i ≡ past-lower (label-in (block-long s) bs) (w .level) (s .blocks - start) start → j ≡ i % s .blocks → j < s .blocks →
+    r ≡ probe (label-in (block-long s) bs) (s .blocks) w (s .blocks - (i - start)) j → r ≡ search-in s bs w
+past-search s bs w start i j r eh h ei ej hj er =
     let look = label-in (block-long s) bs in
     let m = s .blocks in
-    let there : probe look m w m home ≡ probe look m w (m - (i - home)) i =
-    past-probe look m w (m - home) m home (omega arith) (omega arith) ∙ ap (λ (x : ℕ). probe look m w (m - (x - home)) x) (sym ei) in
-    home-search s bs w home r eh (er ∙ probe-round look m w (m - (i - home)) j i (mod-eq-of-lt hj ∙ ej) ∙ sym there)
+    let there : probe look m w m start ≡ probe look m w (m - (i - start)) i =
+    past-probe look m w (m - start) m start (omega arith) (omega arith) ∙ ap (λ (x : ℕ). probe look m w (m - (x - start)) x) (sym ei) in
+    home-search s bs w start r eh (er ∙ probe-round look m w (m - (i - start)) j i (mod-eq-of-lt hj ∙ ej) ∙ sym there)
 
 -- what the loop of `past_lower` keeps
 pub record Lowering (look : ℕ → Label) (l m start i : ℕ) : Type 0 where
@@ -205,7 +206,7 @@ pub out-none : (g : Sizes) (bs : List ℕ) (w : Label) (r : Found) → r ≡ Not
 unfolding taken-out
 out-none g bs w r e q = rw (← q, e)
 
-pub out-at : (g : Sizes) (bs bs′ : List ℕ) (w : Label) (r : Found) (i : ℕ) → r ≡ At i → r ≡ search-in g bs w → bs′ ≡ pull (bytes (block-long g)) (home-of g) (g .blocks) (g .blocks - 1) i (i + 1) bs
+pub out-at : (g : Sizes) (bs bs′ : List ℕ) (w : Label) (r : Found) (i : ℕ) → r ≡ At i → r ≡ search-in g bs w → bs′ ≡ pull (bytes (block-long g)) (home g) (g .blocks) (g .blocks - 1) i (i + 1) bs
     → bs′ ≡ taken-out g (search-in g bs w) bs
 unfolding taken-out
 out-at g bs bs′ w r i e q p = rw (← q, e) p
@@ -220,7 +221,7 @@ found-some g bs w r i e q = rw (← q, e)
 
 pub search-below : (g : Sizes) (bs : List ℕ) (w : Label) (r : Found) (i : ℕ) → r ≡ At i → r ≡ search-in g bs w → Shaped g bs → i < g .blocks
 unfolding search-in below
-search-below g bs w r i e q s = rw (sym q ∙ e) at (probe-below (label-in (block-long g) bs) (g .blocks) w (g .blocks) (home-of g w) (s .some))
+search-below g bs w r i e q s = rw (sym q ∙ e) at (probe-below (label-in (block-long g) bs) (g .blocks) w (g .blocks) (home g w) (s .some))
 
 pub passes-empty : (l w : Label) → l .level ≡ 0 → false ≡ passes-label l w
 unfolding passes-label
@@ -235,7 +236,7 @@ module _ (w : ℕ) (bs : List ℕ) (i a v : ℕ) (want : Label) (ea : a ≡ 53 +
       rw z (passes-empty (label-in w bs i) want (sym (rw ea at ev) ∙ z))
 
   pub passes-level : 0 < v → (v ≡ want .level → ⊥) → ltb v (want .level) ≡ passes-label (label-in w bs i) want
-  unfolding passes-label before-label label-in
+  unfolding passes-label before label-in
   passes-level h ne = rw (← ea, ← ev, lt-ltb 0 v h, ne-eqb v (want .level) ne) (or-none (ltb v (want .level)))
     where
       or-none : (t : Bool) → t ≡ (t || false)
@@ -245,7 +246,7 @@ module _ (w : ℕ) (bs : List ℕ) (i a v : ℕ) (want : Label) (ea : a ≡ 53 +
 pub passes-there : (l l′ w : Label) (t : Bool) → l ≡ l′ → t ≡ passes-label l w → t ≡ passes-label l′ w
 passes-there l l′ w t e q = q ∙ ap (λ (z : Label). passes-label z w) e
 
-pub passes-held : (l w : Label) (t : Bool) → t ≡ before-label l w → (l .level ≡ 0 → ⊥) → t ≡ passes-label l w
+pub passes-held : (l w : Label) (t : Bool) → t ≡ before l w → (l .level ≡ 0 → ⊥) → t ≡ passes-label l w
 unfolding passes-label
 passes-held l w t e ne = let h : 0 < l .level = pos-of-ne-zero ne in e ∙ rw (lt-ltb 0 (l .level) h)
 
@@ -260,7 +261,7 @@ pub record Pulling (g : Sizes) (at : ℕ) (bs₀ bs : List ℕ) (hole k : ℕ) :
   pub within : k ≤ g .blocks
   pub spot : hole < g .blocks
   pub same : length bs ≡ length bs₀
-  pub rest : pull (bytes (block-long g)) (home-of g) (g .blocks) (g .blocks - 1) at (at + 1) bs₀ ≡ pull (bytes (block-long g)) (home-of g) (g .blocks) (g .blocks - k) hole (at + k) bs
+  pub rest : pull (bytes (block-long g)) (home g) (g .blocks) (g .blocks - 1) at (at + 1) bs₀ ≡ pull (bytes (block-long g)) (home g) (g .blocks) (g .blocks - k) hole (at + k) bs
 
 pub shaped-same : (g : Sizes) (bs₀ bs : List ℕ) → Shaped g bs₀ → length bs ≡ length bs₀ → Shaped g bs
 shaped-same g bs₀ bs s e =
@@ -271,7 +272,7 @@ module _ (g : Sizes) (at : ℕ) (bs₀ : List ℕ) where
   pulling-start s h = record { shaped = s; first = omega arith; within = omega arith; spot = h; same = refl; rest = refl }
 
   module _ (bs : List ℕ) (e k : ℕ) (p : Pulling g at bs₀ bs e k) where
-    pub pulling-end : g .blocks ≤ k → clear-in (block-long g) bs e ≡ pull (bytes (block-long g)) (home-of g) (g .blocks) (g .blocks - 1) at (at + 1) bs₀
+    pub pulling-end : g .blocks ≤ k → clear-in (block-long g) bs e ≡ pull (bytes (block-long g)) (home g) (g .blocks) (g .blocks - 1) at (at + 1) bs₀
     unfolding pull
     pulling-end h =
         let f : g .blocks - k ≡ 0 = omega arith in
@@ -284,19 +285,19 @@ module _ (g : Sizes) (at : ℕ) (bs₀ : List ℕ) where
       n : at + (k + 1) ≡ suc (at + k)
       n = omega arith
 
-      pub pulling-empty : l .level ≡ 0 → clear-in (block-long g) bs e ≡ pull (bytes (block-long g)) (home-of g) (g .blocks) (g .blocks - 1) at (at + 1) bs₀
+      pub pulling-empty : l .level ≡ 0 → clear-in (block-long g) bs e ≡ pull (bytes (block-long g)) (home g) (g .blocks) (g .blocks - 1) at (at + 1) bs₀
       unfolding pull
       pulling-empty z =
           let z′ : eqb (label-in (block-long g) bs ((at + k) % g .blocks) .level) 0 ≡ true = rw (← el) (eq-eqb _ _ z) in
           rw (p .rest, f, z′)
 
-      pub pulling-next : (h : ℕ) (bs′ : List ℕ) (e′ : ℕ) → (l .level ≡ 0 → ⊥) → h ≡ home-of g l
+      pub pulling-next : (h : ℕ) (bs′ : List ℕ) (e′ : ℕ) → (l .level ≡ 0 → ⊥) → h ≡ home g l
           → Pulled g e ((at + k) % g .blocks) h bs bs′ e′ → length bs′ ≡ length bs → Pulling g at bs₀ bs′ e′ (k + 1)
       unfolding pull
       pulling-next h bs′ e′ ne eh q ln =
           let held : eqb (label-in (block-long g) bs ((at + k) % g .blocks) .level) 0 ≡ false = rw (← el) (ne-eqb _ _ ne) in
           let t : Bool = stays-at (g .blocks) e ((at + k) % g .blocks) h in
-          let test : stays-at (g .blocks) e ((at + k) % g .blocks) (home-of g (label-in (block-long g) bs ((at + k) % g .blocks))) ≡ t = sym (rw (eh, el)) in
+          let test : stays-at (g .blocks) e ((at + k) % g .blocks) (home g (label-in (block-long g) bs ((at + k) % g .blocks))) ≡ t = sym (rw (eh, el)) in
           record {
             shaped = shaped-same g bs bs′ (p .shaped) ln;
             first = omega arith;
@@ -322,17 +323,13 @@ pub label-made : (w : ℕ) (bs : List ℕ) (i a l n f : ℕ) → a ≡ 53 + i * 
 unfolding label-in
 label-made w bs i a l n f ea el en ef = rw (el, en, ef, ea)
 
-home-less : (s : Sizes) (w : Label) → 0 < s .blocks → home-of s w < s .blocks
-unfolding home-of
-home-less s w pos = mod-lt _ pos
-
-pub home-made : (s : Sizes) (w : Label) (h : ℕ) → h ≡ hash-from 5 5 (s .seed) (w .first) → (h + 65536 * w .level + w .number) % 2147483647 % s .blocks ≡ home-of s w
-unfolding home-of g
+pub home-made : (s : Sizes) (w : Label) (h : ℕ) → h ≡ hash-from 5 5 (s .seed) (w .first) → (h + 65536 * w .level + w .number) % 2147483647 % s .blocks ≡ home s w
+unfolding home g
 home-made s w h e = rw e
 
 -- an empty block where the search for a label starts
-pub empty-says : (s : Sizes) (bs : List ℕ) (want : Label) (i a v : ℕ) → i ≡ home-of s want → a ≡ 53 + i * block-long s → v ≡ getD bs a 0
-    → eqb v 0 ≡ eqb (label-in (block-long s) bs (home-of s want) .level) 0
+pub empty-says : (s : Sizes) (bs : List ℕ) (want : Label) (i a v : ℕ) → i ≡ home s want → a ≡ 53 + i * block-long s → v ≡ getD bs a 0
+    → eqb v 0 ≡ eqb (label-in (block-long s) bs (home s want) .level) 0
 unfolding label-in
 empty-says s bs want i a v ei ea ev = rw (ev, ea, ei)
 
@@ -342,18 +339,18 @@ unfolding probe same-label
 probe-none look m want zero i h lo z = refl
 probe-none look m want (suc k) i h lo z = rw (mod-eq-of-lt h, ← passes-empty (look i) want z, z, ne-eqb 0 (want .level) (λ q. omega arith))
 
-pub search-none : (s : Sizes) (bs : List ℕ) (want : Label) → Shaped s bs → 1 ≤ want .level → eqb (label-in (block-long s) bs (home-of s want) .level) 0 ≡ true
+pub search-none : (s : Sizes) (bs : List ℕ) (want : Label) → Shaped s bs → 1 ≤ want .level → eqb (label-in (block-long s) bs (home s want) .level) 0 ≡ true
     → search-in s bs want ≡ Nothing
 unfolding search-in
-search-none s bs want h lo e = probe-none (label-in (block-long s) bs) (s .blocks) want (s .blocks) (home-of s want) (home-less s want (h .some)) lo (eqb-true _ _ e)
+search-none s bs want h lo e = probe-none (label-in (block-long s) bs) (s .blocks) want (s .blocks) (home s want) (home-inside s (h .some) want) lo (eqb-true _ _ e)
 
 -- a sum below p, and one that is less than p past it
 pub home-below : (s : Sizes) (w : Label) (h r : ℕ) → h ≡ hash-from 5 5 (s .seed) (w .first) → h + 65536 * w .level + w .number < 2147483647
-    → r ≡ (h + 65536 * w .level + w .number) % s .blocks → r ≡ home-of s w
+    → r ≡ (h + 65536 * w .level + w .number) % s .blocks → r ≡ home s w
 home-below s w h r e l f = f ∙ ap (λ (i : ℕ). i % s .blocks) (sym (mod-eq-of-lt l)) ∙ home-made s w h e
 
 pub home-past : (s : Sizes) (w : Label) (h r : ℕ) → h ≡ hash-from 5 5 (s .seed) (w .first) → h < 2147483647 → w .level ≤ 19 → w .number ≤ 65535
-    → 2147483647 ≤ h + 65536 * w .level + w .number → r ≡ (h + 65536 * w .level + w .number - 2147483647) % s .blocks → r ≡ home-of s w
+    → 2147483647 ≤ h + 65536 * w .level + w .number → r ≡ (h + 65536 * w .level + w .number - 2147483647) % s .blocks → r ≡ home s w
 home-past s w h r e b hl hn l f =
     f ∙ ap (λ (i : ℕ). i % s .blocks) (sym (mod-eq-sub-mod l ∙ mod-eq-of-lt (omega arith))) ∙ home-made s w h e
 
@@ -381,7 +378,7 @@ module _ (g : Sizes) (e start n : ℕ) (bs₀ : List ℕ) where
 
   module _ (bs : List ℕ) (k : ℕ) (p : Settling g e start n bs₀ bs k) where
     pub settling-more : k < n → (bs′ : List ℕ) → length bs′ ≡ length bs
-        → bs′ ≡ cond (before-label (label-in (block-long g) bs e) (label-in (block-long g) bs ((start + k) % g .blocks))) (swap-in (block-long g) bs ((start + k) % g .blocks) e) bs
+        → bs′ ≡ cond (before (label-in (block-long g) bs e) (label-in (block-long g) bs ((start + k) % g .blocks))) (swap-in (block-long g) bs ((start + k) % g .blocks) e) bs
         → Settling g e start n bs₀ bs′ (k + 1)
     unfolding settle
     settling-more h bs′ l q =
@@ -395,24 +392,20 @@ module _ (g : Sizes) (e start n : ℕ) (bs₀ : List ℕ) where
         let f : n - k ≡ 0 = omega arith in
         rw (p .rest, f)
 
-before-irrefl : (a : Label) → before-label a a ≡ false
-unfolding before-label
-before-irrefl a = simp (le-ltb _ _ (le-refl (a .level)), le-ltb _ _ (le-refl (a .first)), le-ltb _ _ (le-refl (a .number)), eq-eqb (a .level) _ refl, eq-eqb (a .first) _ refl)
-
 -- what a comparison of the labels of two blocks picks; and where it holds neither block is the other
-module _ (w : ℕ) (bs : List ℕ) (i j : ℕ) (x y : Label) (t : Bool) (ex : x ≡ label-in w bs i) (ey : y ≡ label-in w bs j) (et : t ≡ before-label x y) where
-  compares : before-label (label-in w bs i) (label-in w bs j) ≡ t
+module _ (w : ℕ) (bs : List ℕ) (i j : ℕ) (x y : Label) (t : Bool) (ex : x ≡ label-in w bs i) (ey : y ≡ label-in w bs j) (et : t ≡ before x y) where
+  compares : before (label-in w bs i) (label-in w bs j) ≡ t
   compares = sym (rw (et, ex, ey))
 
-  pub picks-first : (z a b : List ℕ) → t ≡ true → z ≡ a → z ≡ cond (before-label (label-in w bs i) (label-in w bs j)) a b
+  pub picks-first : (z a b : List ℕ) → t ≡ true → z ≡ a → z ≡ cond (before (label-in w bs i) (label-in w bs j)) a b
   picks-first z a b h e = rw (compares, h) e
 
-  pub picks-second : (a b : List ℕ) → t ≡ false → b ≡ cond (before-label (label-in w bs i) (label-in w bs j)) a b
+  pub picks-second : (a b : List ℕ) → t ≡ false → b ≡ cond (before (label-in w bs i) (label-in w bs j)) a b
   picks-second a b h = rw (compares, h)
 
   pub before-differs : t ≡ true → j ≡ i → ⊥
   before-differs h q =
-      let z : false ≡ true = sym (before-irrefl (label-in w bs i)) ∙ (rw q at (compares ∙ h)) in
+      let z : false ≡ true = sym (labels-strict (label-in w bs i)) ∙ (rw q at (compares ∙ h)) in
       let n : _≡_ {A = ℕ} 0 1 = cc in
       omega arith
 
@@ -495,11 +488,11 @@ pub free-at : (look : ℕ → Label) (m k i : ℕ) (r : Found) (e : ℕ) → r �
 unfolding below
 free-at look m k i r e er q pos = rw (sym q ∙ er) at (free-below look m k i pos)
 
-module _ (g : Sizes) (bs : List ℕ) (l : Label) (start : ℕ) (r : Found) (es : start ≡ home-of g l) (er : r ≡ free-in (label-in (block-long g) bs) (g .blocks) (g .blocks) start) where
-  pub inserted-none : r ≡ Nothing → Nothing ≡ free-in (label-in (block-long g) bs) (g .blocks) (g .blocks) (home-of g l)
+module _ (g : Sizes) (bs : List ℕ) (l : Label) (start : ℕ) (r : Found) (es : start ≡ home g l) (er : r ≡ free-in (label-in (block-long g) bs) (g .blocks) (g .blocks) start) where
+  pub inserted-none : r ≡ Nothing → Nothing ≡ free-in (label-in (block-long g) bs) (g .blocks) (g .blocks) (home g l)
   inserted-none q = sym q ∙ er ∙ rw es
 
-  pub inserted-found : (e : ℕ) → r ≡ At e → At e ≡ free-in (label-in (block-long g) bs) (g .blocks) (g .blocks) (home-of g l)
+  pub inserted-found : (e : ℕ) → r ≡ At e → At e ≡ free-in (label-in (block-long g) bs) (g .blocks) (g .blocks) (home g l)
   inserted-found e q = sym q ∙ er ∙ rw es
 
   pub inserted-made : (e k n : ℕ) (xs s₁ s₂ : List ℕ) → s₁ ≡ put-block (block-long g) bs e (block-with (block-long g) l n xs) → k ≡ distance-of (g .blocks) start e

@@ -11,7 +11,8 @@ use lib.Seq.{set-set}
 use borrow.Author.Tests.{le-leb, lt-leb, ne-eqb}
 use Rattle.placement.specs.Blocks.{Block, empty, holds, around, stored}
 use Rattle.sizes.specs.declared.Sizes.{Sizes}
-use Rattle.placement.specs.Chunks.{Chunk, home}
+use Rattle.placement.specs.Labels.{home}
+use Rattle.placement.specs.Chunks.{Chunk, chunk-home}
 use Rattle.placement.specs.Place.{pull, stays-at, distance-of}
 use Rattle.sizes.proofs.Laws.Round.{Turn, turn, first, second, Which, which, less, same, more, steps-to, steps-apart}
 use Rattle.placement.proofs.Laws.Blocks.{stored-elsewhere}
@@ -19,9 +20,7 @@ use Rattle.placement.proofs.Laws.Insertion.{suc-mod-same}
 use Rattle.placement.proofs.Laws.Removal.{pull-from, removed-at, distance, distance-is}
 use Rattle.placement.proofs.Laws.Walks.{pull-stop, pull-move, pull-pass}
 use Rattle.placement.proofs.Laws.Labels.{home-inside}
-use Rattle.placement.proofs.Laws.Bridge.{Good, held, All-good, places, label-of, good-at, good-set}
-use Rattle.placement.specs.Place.{home-of}
-use Rattle.sizes.specs.Hash.{level}
+use Rattle.placement.proofs.Laws.Bridge.{Good, held, All-good, places, good-at, good-set}
 
 -- how far the code finds it from a on to b
 pub distance-steps : (m a b k : ℕ) → a < m → b < m → k < m → (a + k) % m ≡ b → distance-of m a b ≡ k
@@ -65,25 +64,16 @@ module _ (m e t j q : ℕ) (he : e < m) (hq : q < m) (pos : 0 < t) (few : t < m)
           by a w u (more h) =
               rw (distance-is m q j (t + m - a) hq inside (omega arith) (round-home a (t + m - a) u (omega arith)), ne-eqb a 0 (omega arith), lt-leb a t h, le-leb t (t + m - a) (omega arith))
 
--- the home of a chunk's label is the chunk's
-pub home-label : (s : Sizes) (d : Chunk) → home-of s (label-of (holds d)) ≡ home s d
-unfolding label-of home-of home
-home-label s d = refl
-
 module _ (s : Sizes) (some : 0 < s .blocks) where
   -- the steps of the code
-  code-stop : (k e i : ℕ) (x : List (Block Chunk)) → getD x (i % s .blocks) empty ≡ empty → pull places (home-of s) (s .blocks) (suc k) e i x ≡ set x e empty
-  unfolding pull label-of
+  code-stop : (k e i : ℕ) (x : List (Block Chunk)) → getD x (i % s .blocks) empty ≡ empty → pull places (home s) (s .blocks) (suc k) e i x ≡ set x e empty
+  unfolding pull
   code-stop k e i x z = rw z
 
-  full-level : (d : Chunk) → 0 < d .level → eqb (label-of (holds d) .level) 0 ≡ false
-  unfolding label-of
-  full-level d l = ne-eqb (d .level) 0 (omega arith)
-
-  code-next : (k e i : ℕ) (x : List (Block Chunk)) (d : Chunk) (b : Bool) → getD x (i % s .blocks) empty ≡ holds d → 0 < d .level → stays-at (s .blocks) e (i % s .blocks) (home s d) ≡ b
-      → pull places (home-of s) (s .blocks) (suc k) e i x ≡ pull places (home-of s) (s .blocks) k (cond b e (i % s .blocks)) (suc i) (cond b x (set x e (holds d)))
+  code-next : (k e i : ℕ) (x : List (Block Chunk)) (d : Chunk) (b : Bool) → getD x (i % s .blocks) empty ≡ holds d → 0 < d .label .level → stays-at (s .blocks) e (i % s .blocks) (chunk-home s d) ≡ b
+      → pull places (home s) (s .blocks) (suc k) e i x ≡ pull places (home s) (s .blocks) k (cond b e (i % s .blocks)) (suc i) (cond b x (set x e (holds d)))
   unfolding pull
-  code-next k e i x d b z l eb = rw (z, full-level d l, home-label s d, eb)
+  code-next k e i x d b z l eb = rw (z, ne-eqb (d .label .level) 0 (omega arith), eb)
 
   past-hole : (h t i : ℕ) (x : List (Block Chunk)) → 0 < t → t < s .blocks → i % s .blocks ≡ (h + t) % s .blocks → around (s .blocks) (stored (s .blocks) x h empty) (h + t) ≡ getD x (i % s .blocks) empty
   unfolding around
@@ -98,23 +88,23 @@ module _ (s : Sizes) (some : 0 < s .blocks) where
   moved h t e x b ee = rw (ee, set-set x (h % s .blocks) empty b)
 
   test : (h t e i : ℕ) (d : Chunk) → e ≡ h % s .blocks → i % s .blocks ≡ (h + t) % s .blocks → 0 < t → t < s .blocks
-      → stays-at (s .blocks) e (i % s .blocks) (home s d) ≡ not (leb t (distance (s .blocks) (home s d) ((h + t) % s .blocks)))
+      → stays-at (s .blocks) e (i % s .blocks) (chunk-home s d) ≡ not (leb t (distance (s .blocks) (chunk-home s d) ((h + t) % s .blocks)))
   test h t e i d ee ei pos few =
       rw (ei, ee)
-      (stays-crosses (s .blocks) (h % s .blocks) t ((h + t) % s .blocks) (home s d) (mod-lt h some) (home-inside s some d) pos few (mod-add-mod h (s .blocks) t))
+      (stays-crosses (s .blocks) (h % s .blocks) t ((h + t) % s .blocks) (chunk-home s d) (mod-lt h some) (home-inside s some (d .label)) pos few (mod-add-mod h (s .blocks) t))
 
   cleared : (h e : ℕ) (x : List (Block Chunk)) → e ≡ h % s .blocks → set x e empty ≡ stored (s .blocks) x h empty
   unfolding stored
   cleared h e x ee = ap (λ (z : ℕ). set x z empty) ee
 
   nothing-left : (h t e i : ℕ) (x : List (Block Chunk)) → e ≡ h % s .blocks
-      → pull places (home-of s) (s .blocks) zero e i x ≡ pull-from (home s) zero h t (s .blocks) (stored (s .blocks) x h empty)
+      → pull places (home s) (s .blocks) zero e i x ≡ pull-from (chunk-home s) zero h t (s .blocks) (stored (s .blocks) x h empty)
   unfolding pull pull-from
   nothing-left h t e i x ee = cleared h e x ee
 
   -- the code keeps in the hole what it has moved, and the theory empties it
   pub pull-theory : (k h t e i : ℕ) (x : List (Block Chunk)) → All-good s x → e ≡ h % s .blocks → i % s .blocks ≡ (h + t) % s .blocks → 0 < t → t + k ≤ s .blocks
-      → pull places (home-of s) (s .blocks) k e i x ≡ pull-from (home s) k h t (s .blocks) (stored (s .blocks) x h empty)
+      → pull places (home s) (s .blocks) k e i x ≡ pull-from (chunk-home s) k h t (s .blocks) (stored (s .blocks) x h empty)
   pull-theory zero h t e i x v ee ei pos few = nothing-left h t e i x ee
   pull-theory (suc k) h t e i x v ee ei pos few =
       go (getD x (i % s .blocks) empty) refl (good-at s v (i % s .blocks))
@@ -122,26 +112,26 @@ module _ (s : Sizes) (some : 0 < s .blocks) where
       (λ b g. pull-theory k (h + t) 1 (i % s .blocks) (suc i) (set x e b) (good-set s v e g) ei (suc-mod-same (s .blocks) i (h + t) ei ∙ ap (λ (z : ℕ). z % s .blocks) (omega arith)) (omega arith) (omega arith))
     where
       go : (b : Block Chunk) → getD x (i % s .blocks) empty ≡ b → Good s b
-          → pull places (home-of s) (s .blocks) k e (suc i) x ≡ pull-from (home s) k h (suc t) (s .blocks) (stored (s .blocks) x h empty)
-          → ((b : Block Chunk) → Good s b → pull places (home-of s) (s .blocks) k (i % s .blocks) (suc i) (set x e b) ≡ pull-from (home s) k (h + t) 1 (s .blocks) (stored (s .blocks) (set x e b) (h + t) empty))
-          → pull places (home-of s) (s .blocks) (suc k) e i x ≡ pull-from (home s) (suc k) h t (s .blocks) (stored (s .blocks) x h empty)
+          → pull places (home s) (s .blocks) k e (suc i) x ≡ pull-from (chunk-home s) k h (suc t) (s .blocks) (stored (s .blocks) x h empty)
+          → ((b : Block Chunk) → Good s b → pull places (home s) (s .blocks) k (i % s .blocks) (suc i) (set x e b) ≡ pull-from (chunk-home s) k (h + t) 1 (s .blocks) (stored (s .blocks) (set x e b) (h + t) empty))
+          → pull places (home s) (s .blocks) (suc k) e i x ≡ pull-from (chunk-home s) (suc k) h t (s .blocks) (stored (s .blocks) x h empty)
       go empty z g stay move =
-          code-stop k e i x z ∙ cleared h e x ee ∙ sym (pull-stop (home s) k h t (s .blocks) (stored (s .blocks) x h empty) (past-hole h t i x pos (omega arith) ei ∙ z))
-      go (holds d) z (held q) stay move = by (leb t (distance (s .blocks) (home s d) ((h + t) % s .blocks))) refl
+          code-stop k e i x z ∙ cleared h e x ee ∙ sym (pull-stop (chunk-home s) k h t (s .blocks) (stored (s .blocks) x h empty) (past-hole h t i x pos (omega arith) ei ∙ z))
+      go (holds d) z (held q) stay move = by (leb t (distance (s .blocks) (chunk-home s d) ((h + t) % s .blocks))) refl
         where
-          by : (b : Bool) → leb t (distance (s .blocks) (home s d) ((h + t) % s .blocks)) ≡ b
-              → pull places (home-of s) (s .blocks) (suc k) e i x ≡ pull-from (home s) (suc k) h t (s .blocks) (stored (s .blocks) x h empty)
+          by : (b : Bool) → leb t (distance (s .blocks) (chunk-home s d) ((h + t) % s .blocks)) ≡ b
+              → pull places (home s) (s .blocks) (suc k) e i x ≡ pull-from (chunk-home s) (suc k) h t (s .blocks) (stored (s .blocks) x h empty)
           by true f =
               code-next k e i x d false z (q .level) (test h t e i d ee ei pos (omega arith) ∙ ap not f)
               ∙ move (holds d) (held q)
-              ∙ ap (λ (y : List (Block Chunk)). pull-from (home s) k (h + t) 1 (s .blocks) y) (moved h t e x (holds d) ee)
-              ∙ sym (pull-move (home s) k h t (s .blocks) (stored (s .blocks) x h empty) d (past-hole h t i x pos (omega arith) ei ∙ z) f)
+              ∙ ap (λ (y : List (Block Chunk)). pull-from (chunk-home s) k (h + t) 1 (s .blocks) y) (moved h t e x (holds d) ee)
+              ∙ sym (pull-move (chunk-home s) k h t (s .blocks) (stored (s .blocks) x h empty) d (past-hole h t i x pos (omega arith) ei ∙ z) f)
           by false f =
               code-next k e i x d true z (q .level) (test h t e i d ee ei pos (omega arith) ∙ ap not f)
               ∙ stay
-              ∙ sym (pull-pass (home s) k h t (s .blocks) (stored (s .blocks) x h empty) d (past-hole h t i x pos (omega arith) ei ∙ z) f)
+              ∙ sym (pull-pass (chunk-home s) k h t (s .blocks) (stored (s .blocks) x h empty) d (past-hole h t i x pos (omega arith) ei ∙ z) f)
 
   -- THE REMOVAL by the code from the block i
-  pub pull-removed : (i : ℕ) (x : List (Block Chunk)) → All-good s x → i < s .blocks → pull places (home-of s) (s .blocks) (s .blocks - 1) i (i + 1) x ≡ removed-at (home s) (s .blocks) i x
+  pub pull-removed : (i : ℕ) (x : List (Block Chunk)) → All-good s x → i < s .blocks → pull places (home s) (s .blocks) (s .blocks - 1) i (i + 1) x ≡ removed-at (chunk-home s) (s .blocks) i x
   unfolding removed-at
   pull-removed i x v h = pull-theory (s .blocks - 1) i 1 i (i + 1) x v (sym (mod-eq-of-lt h)) refl (omega arith) (omega arith)

@@ -10,14 +10,15 @@ use lib.ListN.{length, getD, take}
 use lib.Seq.{length-take-le}
 use Rattle.placement.specs.Blocks.{Block, empty, holds, around, holds-smaller, Stands, Rule-3, how-many}
 use Rattle.sizes.specs.declared.Sizes.{Sizes}
-use Rattle.placement.specs.Chunks.{Chunk, home, label-before, all-bytes}
+use Rattle.placement.specs.Labels.{label}
+use Rattle.placement.specs.Chunks.{Chunk, chunk-home, chunk-before, all-bytes}
 use Rattle.sizes.specs.Sizes.{made}
 use Rattle.sizes.specs.Header.{sizes-in, block-long}
 use Rattle.sizes.specs.Parts.{block-in}
 use Rattle.placement.specs.Decode.{blocks-in}
 use Rattle.placement.specs.declared.Label.{Label}
 use Rattle.placement.specs.Place.{label-in, probe, search-in}
-use Rattle.placement.specs.Maps.{chunk, Holdable, Table, labelled}
+use Rattle.placement.specs.Maps.{chunk, Holdable, Table}
 use Rattle.placement.specs.declared.Found.the-variants.{At}
 use Rattle.placement.proofs.Laws.Maps.{nodes-at, holds-read}
 use Rattle.sizes.proofs.Laws.Round.{steps-same}
@@ -43,66 +44,58 @@ module _ (m : ℕ) (c : Chunk) (bl : List (Block Chunk)) where
   same-at : (a b : ℕ) → At a ≡ At b → a ≡ b
   same-at a b e = cc
 
-  pub ended : (f i j : ℕ) → place-of m (search-from label-before f i m c bl) ≡ At j → Ended label-before m c bl f i j
+  pub ended : (f i j : ℕ) → place-of m (search-from chunk-before f i m c bl) ≡ At j → Ended chunk-before m c bl f i j
   unfolding search-from
   ended zero i j e = absurd (true≢false cc)
   ended (suc f) i j e = go (around m bl i) refl e (λ z. ended f (suc i) j z)
     where
-      here : (i % m) ≡ j → Ended label-before m c bl (suc f) i j
+      here : (i % m) ≡ j → Ended chunk-before m c bl (suc f) i j
       here e = record { steps = 0; few = omega arith; there = ap (λ (n : ℕ). n % m) (add-zero i) ∙ e; smaller = λ l w. absurd (omega arith) }
 
-      later : (d : Chunk) → around m bl i ≡ holds d → label-before d c ≡ true → Ended label-before m c bl f (suc i) j → Ended label-before m c bl (suc f) i j
+      later : (d : Chunk) → around m bl i ≡ holds d → chunk-before d c ≡ true → Ended chunk-before m c bl f (suc i) j → Ended chunk-before m c bl (suc f) i j
       later d z h r = record { steps = suc (r .steps); few = omega (arith, r .few); there = ap (λ (n : ℕ). n % m) (omega arith) ∙ r .there; smaller = all }
         where
-          all : (l : ℕ) → l < suc (r .steps) → holds-smaller label-before c (around m bl (i + l)) ≡ true
+          all : (l : ℕ) → l < suc (r .steps) → holds-smaller chunk-before c (around m bl (i + l)) ≡ true
           all zero w = rw (add-zero, z) h
-          all (suc l) w = ap (λ (n : ℕ). holds-smaller label-before c (around m bl n)) (omega arith) ∙ r .smaller l (omega arith)
+          all (suc l) w = ap (λ (n : ℕ). holds-smaller chunk-before c (around m bl n)) (omega arith) ∙ r .smaller l (omega arith)
 
-      test : (d : Chunk) (p q : Bool) → around m bl i ≡ holds d → label-before d c ≡ p
-          → place-of m (cond p (search-from label-before f (suc i) m c bl) (cond q absent (at-place i d))) ≡ At j
-          → (place-of m (search-from label-before f (suc i) m c bl) ≡ At j → Ended label-before m c bl f (suc i) j) → Ended label-before m c bl (suc f) i j
+      test : (d : Chunk) (p q : Bool) → around m bl i ≡ holds d → chunk-before d c ≡ p
+          → place-of m (cond p (search-from chunk-before f (suc i) m c bl) (cond q absent (at-place i d))) ≡ At j
+          → (place-of m (search-from chunk-before f (suc i) m c bl) ≡ At j → Ended chunk-before m c bl f (suc i) j) → Ended chunk-before m c bl (suc f) i j
       test d true q z h e rest = later d z h (rest e)
       test d false true z h e rest = absurd (true≢false cc)
       test d false false z h e rest = here (same-at (i % m) j e)
 
-      go : (b : Block Chunk) → around m bl i ≡ b → place-of m (search-step label-before c i b (search-from label-before f (suc i) m c bl)) ≡ At j
-          → (place-of m (search-from label-before f (suc i) m c bl) ≡ At j → Ended label-before m c bl f (suc i) j) → Ended label-before m c bl (suc f) i j
+      go : (b : Block Chunk) → around m bl i ≡ b → place-of m (search-step chunk-before c i b (search-from chunk-before f (suc i) m c bl)) ≡ At j
+          → (place-of m (search-from chunk-before f (suc i) m c bl) ≡ At j → Ended chunk-before m c bl f (suc i) j) → Ended chunk-before m c bl (suc f) i j
       go empty z e rest = absurd (true≢false cc)
-      go (holds d) z e rest = test d (label-before d c) (label-before c d) z refl e rest
+      go (holds d) z e rest = test d (chunk-before d c) (chunk-before c d) z refl e rest
 
 module _ (s : Sizes) (some : 0 < s .blocks) (bl : List (Block Chunk)) (v : All-good s bl) where
   -- the search over the labels finds every chunk in its block
   abbrev pub All-found : Type 0
-  All-found = (c : Chunk) (i : ℕ) → i < s .blocks → getD bl i empty ≡ holds c → probe (λ j. label-of (getD bl j empty)) (s .blocks) (label-of (holds c)) (s .blocks) (home s c) ≡ At i
+  All-found = (c : Chunk) (i : ℕ) → i < s .blocks → getD bl i empty ≡ holds c → probe (λ j. label-of (getD bl j empty)) (s .blocks) (c .label) (s .blocks) (chunk-home s c) ≡ At i
 
   chunk-at : (c : Chunk) (i : ℕ) → around (s .blocks) bl i ≡ holds c → getD bl (i % s .blocks) empty ≡ holds c
   unfolding around
   chunk-at c i z = z
 
-  level-at : (c : Chunk) (b : Block Chunk) → Good s b → b ≡ holds c → 0 < c .level
+  level-at : (c : Chunk) (b : Block Chunk) → Good s b → b ≡ holds c → 0 < c .label .level
   level-at c empty g e = absurd (true≢false cc)
   level-at c (holds d) (held q) e = let z : d ≡ c = cc in rw (← z) (q .level)
 
-  own : (c : Chunk) → labelled (label-of (holds c)) (c .nodes) ≡ c
-  unfolding label-of
-  own c = λ j. record { level = c .level; first = c .first; number = c .number; nodes = c .nodes }
-
-  level-of : (c : Chunk) → 0 < c .level → 0 < label-of (holds c) .level
-  unfolding label-of
-  level-of c h = h
-
   -- RULE 3
-  pub found-rule-3 : All-found → Rule-3 (home s) label-before (s .blocks) bl
+  pub found-rule-3 : All-found → Rule-3 (chunk-home s) chunk-before (s .blocks) bl
   found-rule-3 found c k few z =
-      let i : ℕ = (home s c + k) % s .blocks in
-      let y = chunk-at c (home s c + k) z in
-      let p = level-of c (level-at c (getD bl i empty) (good-at s v i) y) in
-      let e = sym (probe-theory (label-of (holds c)) p (c .nodes) s (s .blocks) (s .blocks) (home s c) bl v) ∙ found c i (mod-lt (home s c + k) some) y in
-      let e′ : place-of (s .blocks) (search-from label-before (s .blocks) (home s c) (s .blocks) c bl) ≡ At i = rw (own c) at e in
-      go (ended (s .blocks) c bl (s .blocks) (home s c) i e′)
+      let i : ℕ = (chunk-home s c + k) % s .blocks in
+      let y = chunk-at c (chunk-home s c + k) z in
+      let p = level-at c (getD bl i empty) (good-at s v i) y in
+      let e : place-of (s .blocks) (search-from chunk-before (s .blocks) (chunk-home s c) (s .blocks) c bl) ≡ At i =
+      sym (probe-theory (c .label) p (c .nodes) s (s .blocks) (s .blocks) (chunk-home s c) bl v) ∙ found c i (mod-lt (chunk-home s c + k) some) y in
+      go (ended (s .blocks) c bl (s .blocks) (chunk-home s c) i e)
     where
-      go : Ended label-before (s .blocks) c bl (s .blocks) (home s c) ((home s c + k) % s .blocks) → (l : ℕ) → l < k → holds-smaller label-before c (around (s .blocks) bl (home s c + l)) ≡ true
-      go r l w = r .smaller l (omega (arith, steps-same (s .blocks) (home s c) (home-inside s some c) (r .steps) k (r .few) few (r .there)))
+      go : Ended chunk-before (s .blocks) c bl (s .blocks) (chunk-home s c) ((chunk-home s c + k) % s .blocks) → (l : ℕ) → l < k → holds-smaller chunk-before c (around (s .blocks) bl (chunk-home s c + l)) ≡ true
+      go r l w = r .smaller l (omega (arith, steps-same (s .blocks) (chunk-home s c) (home-inside s some (c .label)) (r .steps) k (r .few) few (r .there)))
 
 -- a table, from blocks where each search ends at its block
 module _ (s : Sizes) (good : made s ≡ true) (hd : List ℕ) (head : length hd ≡ 53) (sizes : sizes-in hd ≡ s) (bl : List (Block Chunk)) (v : All-good s bl) (long : length bl ≡ s .blocks) where
@@ -113,24 +106,20 @@ module _ (s : Sizes) (good : made s ≡ true) (hd : List ℕ) (head : length hd 
       go empty g e = absurd (true≢false cc)
       go (holds d) (held q) e = let z : d ≡ c = cc in rw (← z) q
 
-  home-own : (c : Chunk) → home s (labelled (label-of (holds c)) []) ≡ home s c
-  unfolding home label-of
-  home-own c = refl
-
   -- THE BYTES keep the map that is read off the blocks
   pub searched-keeps : ((c : Chunk) → Stands (s .blocks) bl c → c .nodes ≢ [])
-      → ((c : Chunk) (i : ℕ) → i < s .blocks → getD bl i empty ≡ holds c → search-in s (hd ++ all-bytes s bl) (label-of (holds c)) ≡ At i)
+      → ((c : Chunk) (i : ℕ) → i < s .blocks → getD bl i empty ≡ holds c → search-in s (hd ++ all-bytes s bl) (c .label) ≡ At i)
       → Table s (nodes-at bl) (how-many bl) hd (hd ++ all-bytes s bl)
   searched-keeps full found =
       let some = some-blocks s good in
       let rule = found-rule-3 s some bl v
-      (λ c i h z. ap (probe (λ j. label-of (getD bl j empty)) (s .blocks) (label-of (holds c)) (s .blocks)) (sym (home-own c)) ∙ sym (search-blocks s some hd head bl v long (label-of (holds c))) ∙ found c i h z) in
+      (λ c i h z. sym (search-blocks s some hd head bl v long (c .label)) ∙ found c i h z) in
       let map = holds-read s some bl long rule full in
       record {
         good = good;
         head = head;
         sizes = sizes;
-        sound = λ l f i n. stands-holdable (chunk (nodes-at bl) l f i) (map .all (record { level = l; first = f; number = i }) n);
+        sound = λ l f i n. stands-holdable (chunk (nodes-at bl) l f i) (map .all (label l f i) n);
         blocks = bl;
         is = refl;
         keeps = record { long = long; rule-3 = rule; map = map; count = refl };
@@ -149,13 +138,13 @@ module _ (s : Sizes) (good : made s ≡ true) (bs : List ℕ) (long : length bs 
   head : length (take 53 bs) ≡ 53
   head = length-take-le 53 bs (omega arith)
 
-  label-is : (c : Chunk) (i : ℕ) → i < s .blocks → getD (blocks-in s bs) i empty ≡ holds c → label-in (block-long s) bs i ≡ label-of (holds c)
+  label-is : (c : Chunk) (i : ℕ) → i < s .blocks → getD (blocks-in s bs) i empty ≡ holds c → label-in (block-long s) bs i ≡ c .label
   label-is c i h e =
       ap (λ (x : List ℕ). label-in (block-long s) x i) is
       ∙ label-blocks (coding s) (s .blocks) (some-blocks s good) (take 53 bs) head (blocks-in s bs) all (blocks-many s bs long bytes clean) i h ∙ ap label-of e
 
-  level-is : (c : Chunk) (i : ℕ) → getD (blocks-in s bs) i empty ≡ holds c → label-of (holds c) .level ≢ 0
-  level-is c i e z = omega (arith, level-of s (some-blocks s good) (blocks-in s bs) all c (level-at s (some-blocks s good) (blocks-in s bs) all c (getD (blocks-in s bs) i empty) (good-at s all i) e))
+  level-is : (c : Chunk) (i : ℕ) → getD (blocks-in s bs) i empty ≡ holds c → c .label .level ≢ 0
+  level-is c i e z = omega (arith, level-at s (some-blocks s good) (blocks-in s bs) all c (getD (blocks-in s bs) i empty) (good-at s all i) e)
 
   pub checked-keeps : Table s (nodes-at (blocks-in s bs)) (how-many (blocks-in s bs)) (take 53 bs) bs
   checked-keeps =
@@ -163,5 +152,5 @@ module _ (s : Sizes) (good : made s ≡ true) (bs : List ℕ) (long : length bs 
       (searched-keeps s good (take 53 bs) head sizes (blocks-in s bs) all (blocks-many s bs long bytes clean)
       (λ c t. blocks-full s bs long bytes clean (t .at % s .blocks) c (chunk-at s (some-blocks s good) (blocks-in s bs) all c (t .at) (t .is)))
       (λ c i h e.
-      subst (λ (x : List ℕ). search-in s x (label-of (holds c)) ≡ At i) is
+      subst (λ (x : List ℕ). search-in s x (c .label) ≡ At i) is
       (subst (λ (w : Label). search-in s bs w ≡ At i) (label-is c i h e) (found i h (λ z. level-is c i e (ap (λ (w : Label). w .level) (sym (label-is c i h e)) ∙ z))))))

@@ -13,16 +13,18 @@ use lib.Seq.{set-set, set-comm, getD-set-same, getD-set-other}
 use borrow.Author.Tests.{eqb-true, eqb-false}
 use Rattle.placement.specs.Blocks.{Block, empty, holds, around, stored, is-free}
 use Rattle.sizes.specs.declared.Sizes.{Sizes}
-use Rattle.placement.specs.Chunks.{Chunk, home, label-before}
+use Rattle.placement.specs.Chunks.{Chunk, chunk-home, chunk-before}
 use Rattle.placement.specs.Place.{settle, free-in}
+use Rattle.placement.specs.Maps.{chunk-kind}
 use Rattle.placement.specs.declared.Label.{Label}
 use Rattle.placement.specs.declared.Found.the-variants.{At, Nothing}
 use Rattle.placement.proofs.Laws.Blocks.{stored-there, stored-elsewhere}
 use Rattle.placement.proofs.Laws.Insertion.{insert-from, Carry, carry-on, carry-swap}
 use Rattle.placement.proofs.Laws.Walks.{insert-stop, insert-on, insert-swap}
-use Rattle.placement.proofs.Laws.Labels.{labels-strict, labels-chain, home-tied, home-inside}
-use Rattle.placement.proofs.Laws.Bridge.{places, before-chunk}
-use Rattle.sizes.specs.Hash.{level}
+use Rattle.placement.proofs.Laws.Labels.{labels-strict, labels-chain}
+use Rattle.placement.proofs.Laws.Kinds.{tied}
+use Rattle.placement.proofs.Laws.Maps.{lawful}
+use Rattle.placement.proofs.Laws.Bridge.{places}
 
 module _ (s : Sizes) (some : 0 < s .blocks) where
   -- c is carried, k steps before the empty block e
@@ -32,13 +34,15 @@ module _ (s : Sizes) (some : 0 < s .blocks) where
     pub free : getD bs e empty ≡ empty
     pub full : (l : ℕ) → l < k → is-free (around (s .blocks) bs (i + l)) ≡ false
 
-  abbrev Carried : (fuel i : ℕ) → Chunk → List (Block Chunk) → Type 0
-  Carried f i c bs = Carry (home s) label-before (s .blocks) labels-strict labels-chain (home-tied s) (home-inside s some) f i c bs
+  abbrev pub Carried : (fuel i : ℕ) → Chunk → List (Block Chunk) → Type 0
+  Carried f i c bs =
+      let law = lawful s some in
+      Carry (chunk-home s) chunk-before (s .blocks) (law .strict) (law .chain) (tied chunk-kind (chunk-home s) chunk-before (s .blocks) law) (law .inside) f i c bs
 
-  code-step : (k e i : ℕ) (x : List (Block Chunk)) (c d : Chunk) (b : Bool) → getD x e empty ≡ holds c → getD x (i % s .blocks) empty ≡ holds d → label-before c d ≡ b
+  code-step : (k e i : ℕ) (x : List (Block Chunk)) (c d : Chunk) (b : Bool) → getD x e empty ≡ holds c → getD x (i % s .blocks) empty ≡ holds d → chunk-before c d ≡ b
       → settle places (s .blocks) (suc k) e i x ≡ settle places (s .blocks) k e (suc i) (cond b (set (set x (i % s .blocks) (holds c)) e (holds d)) x)
   unfolding settle
-  code-step k e i x c d b ze zi eb = rw (ze, zi, before-chunk c d, eb)
+  code-step k e i x c d b ze zi eb = rw (ze, zi, eb)
 
   code-done : (e i : ℕ) (x : List (Block Chunk)) → settle places (s .blocks) zero e i x ≡ x
   unfolding settle
@@ -114,29 +118,29 @@ module _ (s : Sizes) (some : 0 < s .blocks) where
     unfolding stored
     swapped-in i bs c d ne = swapped bs (i % s .blocks) c d ne
 
-    not-both : (c d : Chunk) → label-before d c ≡ true → label-before c d ≡ false
-    not-both c d h = go (label-before c d) refl
+    not-both : (c d : Chunk) → chunk-before d c ≡ true → chunk-before c d ≡ false
+    not-both c d h = go (chunk-before c d) refl
       where
-        go : (b : Bool) → label-before c d ≡ b → label-before c d ≡ false
+        go : (b : Bool) → chunk-before c d ≡ b → chunk-before c d ≡ false
         go false z = z
-        go true z = absurd (true≢false (sym (labels-chain c d c z h) ∙ labels-strict c))
+        go true z = absurd (true≢false (sym (labels-chain (c .label) (d .label) (c .label) z h) ∙ labels-strict (c .label)))
 
     -- the code keeps the carried chunk in the empty block
     pub settle-theory : (k f i : ℕ) (c : Chunk) (bs : List (Block Chunk)) → Carried f i c bs → Ahead k i e bs
-        → settle places (s .blocks) k e i (set bs e (holds c)) ≡ insert-from label-before f i (s .blocks) c bs
+        → settle places (s .blocks) k e i (set bs e (holds c)) ≡ insert-from chunk-before f i (s .blocks) c bs
     settle-theory k zero i c bs y a = absurd (omega (arith, y .near))
     settle-theory zero (suc f) i c bs y a =
-        code-done e i (set bs e (holds c)) ∙ lands-in i bs (holds c) a ∙ sym (insert-stop label-before f i (s .blocks) c bs (lands-free i bs a))
+        code-done e i (set bs e (holds c)) ∙ lands-in i bs (holds c) a ∙ sym (insert-stop chunk-before f i (s .blocks) c bs (lands-free i bs a))
     settle-theory (suc k) (suc f) i c bs y a =
         go (first-full k i bs a) (λ u. settle-theory k f (suc i) c bs u (ahead-on k i bs a))
         (λ d u n. settle-theory k f (suc i) d (stored (s .blocks) bs i (holds c)) u (ahead-swap k i bs c n a))
       where
         go : Full i bs
-            → (Carried f (suc i) c bs → settle places (s .blocks) k e (suc i) (set bs e (holds c)) ≡ insert-from label-before f (suc i) (s .blocks) c bs)
+            → (Carried f (suc i) c bs → settle places (s .blocks) k e (suc i) (set bs e (holds c)) ≡ insert-from chunk-before f (suc i) (s .blocks) c bs)
             → ((d : Chunk) → Carried f (suc i) d (stored (s .blocks) bs i (holds c)) → i % s .blocks ≢ e
-            → settle places (s .blocks) k e (suc i) (set (stored (s .blocks) bs i (holds c)) e (holds d)) ≡ insert-from label-before f (suc i) (s .blocks) d (stored (s .blocks) bs i (holds c)))
-            → settle places (s .blocks) (suc k) e i (set bs e (holds c)) ≡ insert-from label-before (suc f) i (s .blocks) c bs
-        go w on swap = by (label-before (w .chunk) c) refl
+            → settle places (s .blocks) k e (suc i) (set (stored (s .blocks) bs i (holds c)) e (holds d)) ≡ insert-from chunk-before f (suc i) (s .blocks) d (stored (s .blocks) bs i (holds c)))
+            → settle places (s .blocks) (suc k) e i (set bs e (holds c)) ≡ insert-from chunk-before (suc f) i (s .blocks) c bs
+        go w on swap = by (chunk-before (w .chunk) c) refl
           where
             z : getD bs (i % s .blocks) empty ≡ holds (w .chunk)
             z = block-at i bs (w .chunk) (w .is)
@@ -144,16 +148,16 @@ module _ (s : Sizes) (some : 0 < s .blocks) where
             ne : i % s .blocks ≢ e
             ne = not-e bs (i % s .blocks) (w .chunk) (a .free) z
 
-            by : (b : Bool) → label-before (w .chunk) c ≡ b → settle places (s .blocks) (suc k) e i (set bs e (holds c)) ≡ insert-from label-before (suc f) i (s .blocks) c bs
+            by : (b : Bool) → chunk-before (w .chunk) c ≡ b → settle places (s .blocks) (suc k) e i (set bs e (holds c)) ≡ insert-from chunk-before (suc f) i (s .blocks) c bs
             by true h =
                 code-step k e i (set bs e (holds c)) c (w .chunk) false (carried-at bs c (a .long)) (other-at (i % s .blocks) bs c (w .chunk) ne z) (not-both c (w .chunk) h)
-                ∙ on (carry-on (home s) label-before (s .blocks) labels-strict labels-chain (home-tied s) (home-inside s some) f i c (w .chunk) bs y (w .is) h)
-                ∙ sym (insert-on label-before f i (s .blocks) c bs (w .chunk) (w .is) h)
+                ∙ on (carry-on _ _ _ _ _ _ _ f i c (w .chunk) bs y (w .is) h)
+                ∙ sym (insert-on chunk-before f i (s .blocks) c bs (w .chunk) (w .is) h)
             by false h =
                 code-step k e i (set bs e (holds c)) c (w .chunk) true (carried-at bs c (a .long)) (other-at (i % s .blocks) bs c (w .chunk) ne z) (y .other (w .chunk) (record { at = i; is = w .is }) h)
                 ∙ ap (λ (x : List (Block Chunk)). settle places (s .blocks) k e (suc i) x) (swapped-in i bs c (w .chunk) ne)
-                ∙ swap (w .chunk) (carry-swap (home s) label-before (s .blocks) labels-strict labels-chain (home-tied s) (home-inside s some) f i c (w .chunk) bs y (w .is) h) ne
-                ∙ sym (insert-swap label-before f i (s .blocks) c bs (w .chunk) (w .is) h)
+                ∙ swap (w .chunk) (carry-swap _ _ _ _ _ _ _ f i c (w .chunk) bs y (w .is) h) ne
+                ∙ sym (insert-swap chunk-before f i (s .blocks) c bs (w .chunk) (w .is) h)
 
 -- the first empty block from i on, k steps on
 pub record First-free (look : ℕ → Label) (m fuel i e : ℕ) : Type 0 where

@@ -12,30 +12,29 @@ use lib.Seq.{sets, length-sets}
 use Rattle.placement.specs.Blocks.{Block, empty, holds, stored, Stands, how-many}
 use Rattle.sizes.specs.declared.Sizes.{Sizes}
 use Rattle.placement.specs.declared.Order.{Order}
-use Rattle.placement.specs.Chunks.{Chunk, home, label-before, block-bytes, all-bytes, nodes-bytes}
-use Rattle.sizes.specs.Hash.{level}
+use Rattle.placement.specs.Labels.{label, home}
+use Rattle.placement.specs.Chunks.{Chunk, chunk-home, chunk-before, block-bytes, all-bytes, nodes-bytes}
 use Rattle.sizes.specs.Numbers.{big}
 use Rattle.sizes.specs.Header.{sizes-in, block-long}
 use Rattle.sizes.specs.Parts.{put-block}
 use Rattle.placement.specs.Place.{Shaped, label-in, search-in, bytes, pull, found-at, taken-out, free-in, block-with, inserted}
-use Rattle.placement.specs.Maps.{Map, at, chunk, Keeps, Holdable, Sound, labelled, nodes-of, with-nodes, cleared, Table, Finds, is-at, is-none, with-chunk, without-label, is-label}
+use Rattle.placement.specs.Maps.{Map, chunk, Keeps, Holdable, Sound, labelled, nodes-of, with-nodes, cleared, Table, Finds, is-at, is-none, with-chunk, without-label}
 use Rattle.placement.specs.declared.Label.{Label}
 use Rattle.placement.specs.declared.Found.{Found}
 use Rattle.placement.specs.declared.Found.the-variants.{At, Nothing}
-use Rattle.placement.proofs.Laws.Maps.{Label-is, is, isnt, label-is, same-chunk}
+use Rattle.placement.proofs.Laws.Labels.{Label-is, is, isnt, label-is}
 use Rattle.sizes.proofs.Laws.Sizes.{some-blocks, limits}
 use Rattle.placement.proofs.Laws.Blocks.{around-inside}
 use Rattle.placement.proofs.Laws.Keeps.{kept-once, put-in, take-out, change}
 use Rattle.sizes.proofs.Laws.Headers.{sizes-head, sets-left, count-sizes}
-use Rattle.placement.proofs.Laws.Removal.{removed-at, removed}
+use Rattle.placement.proofs.Laws.Removal.{removed-at}
 use Rattle.placement.proofs.Laws.Insertion.{insert-from}
-use Rattle.placement.proofs.Laws.Labels.{labels-strict, labels-chain, home-tied, home-inside}
+use Rattle.placement.proofs.Laws.Placed.{store-count}
 use Rattle.placement.proofs.Laws.Cells.{length-join}
 use Rattle.placement.proofs.Laws.Bridge.{Good, free, held, All-good, good-none, good-more, all-join, even-all}
 use Rattle.placement.proofs.Laws.Finding.{Told, search-told}
-use Rattle.placement.proofs.Laws.Edits.{home-labelled, block-bytes-at, block-put, search-blocks, pull-at, insert-at, block-written}
+use Rattle.placement.proofs.Laws.Edits.{block-bytes-at, block-put, search-blocks, pull-at, insert-at, block-written}
 use Rattle.placement.proofs.Laws.Finding
-use Rattle.placement.specs.Place.{home-of}
 use Rattle.sizes.proofs.Laws.Numbers.{length-big}
 
 -- ---- sound maps
@@ -59,23 +58,25 @@ sound-blocks s F n bl q k = all-good s bl (λ i. go i (getD bl i empty) refl (de
     go i (holds c) z (yes l) =
         let t : Stands (s .blocks) bl c = record { at = i; is = around-inside (s .blocks) bl i l ∙ z } in
         let e = k .map .told c t in
-        let h = q (c .level) (c .first) (c .number) (λ u. k .map .full c t (sym e ∙ u)) in
+        let h = q (c .label .level) (c .label .first) (c .label .number) (λ u. k .map .full c t (sym e ∙ u)) in
         held {c = c} (record { level = h .level; first = h .first; number = h .number; fine = rw (← e) (h .fine); nodes = rw (← e) (h .nodes) })
 
 pub sound-with : (s : Sizes) (F : Map) (c : Chunk) → Sound s F → Holdable s c → Sound s (with-chunk c F)
 unfolding with-chunk
-sound-with s F c q h l f i = go (label-is c l f i)
+sound-with s F c q h l f i = go (label-is (c .label) (label l f i))
   where
-    go : Label-is c l f i → with-chunk c F l f i ≢ [] → Holdable s (chunk (with-chunk c F) l f i)
-    go (is z a b g) w = rw (same-chunk c l f i (with-chunk c F l f i) a b g (rw z)) h
+    go : Label-is (c .label) (label l f i) → with-chunk c F l f i ≢ [] → Holdable s (chunk (with-chunk c F) l f i)
+    go (is z p) w =
+        let n : c .nodes ≡ with-chunk c F l f i = rw z in
+        subst (Holdable s) (λ j. record { label = p j; nodes = n j }) h
     go (isnt z n) w = rw z (q l f i (rw z at w))
 
 pub sound-without : (s : Sizes) (F : Map) (c : Chunk) → Sound s F → Sound s (without-label c F)
 unfolding without-label
-sound-without s F c q l f i = go (label-is c l f i)
+sound-without s F c q l f i = go (label-is (c .label) (label l f i))
   where
-    go : Label-is c l f i → without-label c F l f i ≢ [] → Holdable s (chunk (without-label c F) l f i)
-    go (is z a b g) w = absurd (w (rw z))
+    go : Label-is (c .label) (label l f i) → without-label c F l f i ≢ [] → Holdable s (chunk (without-label c F) l f i)
+    go (is z p) w = absurd (w (rw z))
     go (isnt z n) w = rw z (q l f i (rw z at w))
 
 stored-inside : {A : Type 0} (m : ℕ) (bl : List (Block A)) (i : ℕ) (b : Block A) → i < m → set bl i b ≡ stored m bl i b
@@ -91,7 +92,7 @@ how-many-most (holds c ∷ bl) = omega (arith, how-many-most bl)
 
 -- only the label counts
 cleared-same : (w : Label) (ns : List Order) (F : Map) → without-label (labelled w ns) F ≡ cleared w F
-unfolding without-label is-label
+unfolding without-label
 cleared-same w ns F = refl
 
 -- ---- the promises
@@ -141,8 +142,7 @@ module _ (s : Sizes) (F : Map) (n : ℕ) (hd bs : List ℕ) (t : Table s F n hd 
   pub count-some : (w : Label) → nodes-of F w ≢ [] → 0 < n
   count-some w full =
       let z = t .keeps .map .all w full in
-      let j = removed (home s) label-before (s .blocks) labels-strict labels-chain (home-tied s) (home-inside s some) (z .at) (labelled w (nodes-of F w)) (t .blocks) (t .keeps .long) (t .keeps .rule-3) (z .is) in
-      omega (arith, j .count, t .keeps .count)
+      omega (arith, store-count (s .blocks) (t .blocks) (z .at) (holds (labelled w (nodes-of F w))) empty (t .keeps .long) some (z .is), t .keeps .count)
 
   -- a block that is found has the label's chunk
   found-there : (w : Label) (i : ℕ) → 0 < w .level → search-in s bs w ≡ At i → Told s F w (t .blocks) (At i)
@@ -157,17 +157,16 @@ module _ (s : Sizes) (F : Map) (n : ℕ) (hd bs : List ℕ) (t : Table s F n hd 
 
   -- REMOVAL of the chunk in a block that was found
   pub pull-keeps : (w : Label) (i : ℕ) → 0 < w .level → search-in s bs w ≡ At i
-      → Table s (cleared w F) (n - 1) hd (pull (bytes (block-long s)) (home-of s) (s .blocks) (s .blocks - 1) i (i + 1) bs)
+      → Table s (cleared w F) (n - 1) hd (pull (bytes (block-long s)) (home s) (s .blocks) (s .blocks - 1) i (i + 1) bs)
   pull-keeps w i pos e = go (found-there w i pos e)
     where
-      go : Told s F w (t .blocks) (At i) → Table s (cleared w F) (n - 1) hd (pull (bytes (block-long s)) (home-of s) (s .blocks) (s .blocks - 1) i (i + 1) bs)
+      go : Told s F w (t .blocks) (At i) → Table s (cleared w F) (n - 1) hd (pull (bytes (block-long s)) (home s) (s .blocks) (s .blocks - 1) i (i + 1) bs)
       go (Finding.is-at h z q) =
-          let j = removed (home s) label-before (s .blocks) labels-strict labels-chain (home-tied s) (home-inside s some) i (labelled w (nodes-of F w)) (t .blocks) (t .keeps .long) (t .keeps .rule-3) z in
-          let c : n ≡ suc (n - 1) = omega (arith, j .count, t .keeps .count) in
-          now-keeps (cleared w F) (n - 1) (removed-at (home s) (s .blocks) i (t .blocks)) _
-          (ap (λ (x : List ℕ). pull (bytes (block-long s)) (home-of s) (s .blocks) (s .blocks - 1) i (i + 1) x) (t .is) ∙ pull-at s some hd (t .head) (t .blocks) all (t .keeps .long) i h)
+          let c : n ≡ suc (n - 1) = omega (arith, count-some w q) in
+          now-keeps (cleared w F) (n - 1) (removed-at (chunk-home s) (s .blocks) i (t .blocks)) _
+          (ap (λ (x : List ℕ). pull (bytes (block-long s)) (home s) (s .blocks) (s .blocks - 1) i (i + 1) x) (t .is) ∙ pull-at s some hd (t .head) (t .blocks) all (t .keeps .long) i h)
           (sound-without s F (labelled w []) (t .sound))
-          (subst (λ (G : Map). Keeps s (removed-at (home s) (s .blocks) i (t .blocks)) G (n - 1)) (cleared-same w (nodes-of F w) F)
+          (subst (λ (G : Map). Keeps s (removed-at (chunk-home s) (s .blocks) i (t .blocks)) G (n - 1)) (cleared-same w (nodes-of F w) F)
           (take-out s some (t .blocks) F (n - 1) (labelled w (nodes-of F w)) i (subst (λ (x : ℕ). Keeps s (t .blocks) F x) c (t .keeps)) z))
 
   -- as `remove` has it: the label is cleared where it is there, and nothing changes where it is not
@@ -191,19 +190,14 @@ module _ (s : Sizes) (F : Map) (n : ℕ) (hd bs : List ℕ) (t : Table s F n hd 
 
   -- INSERTION of a chunk whose label is absent
   pub insert-keeps : (w : Label) (ns : List Order) → Holdable s (labelled w ns) → nodes-of F w ≡ [] → ns ≢ [] → n < s .blocks
-      → (r : Found) (bs′ : List ℕ) → r ≡ free-in (label-in (block-long s) bs) (s .blocks) (s .blocks) (home-of s w)
+      → (r : Found) (bs′ : List ℕ) → r ≡ free-in (label-in (block-long s) bs) (s .blocks) (s .blocks) (home s w)
       → bs′ ≡ inserted s r w (length ns) (nodes-bytes ns) bs → Table s (with-nodes w ns F) (suc n) hd bs′
   insert-keeps w ns q gone full room r bs′ er eb =
-      now-keeps (with-nodes w ns F) (suc n) (insert-from label-before (s .blocks) (home s (labelled w ns)) (s .blocks) (labelled w ns) (t .blocks)) bs′
+      now-keeps (with-nodes w ns F) (suc n) (insert-from chunk-before (s .blocks) (home s w) (s .blocks) (labelled w ns) (t .blocks)) bs′
       (eb ∙ ap (inserted s r w (length ns) (nodes-bytes ns)) (t .is)
-      ∙ insert-at s some hd (t .head) (t .blocks) all (t .keeps .long) F n (t .keeps) w ns q gone room r (er ∙ moved))
+      ∙ insert-at s some hd (t .head) (t .blocks) all (t .keeps .long) F n (t .keeps) w ns q gone room r
+      (er ∙ ap (λ (x : List ℕ). free-in (label-in (block-long s) x) (s .blocks) (s .blocks) (home s w)) (t .is)))
       (sound-with s F (labelled w ns) (t .sound) q) (put-in s some (t .blocks) F n (labelled w ns) (t .keeps) gone full room)
-    where
-      moved : free-in (label-in (block-long s) bs) (s .blocks) (s .blocks) (home-of s w)
-          ≡ free-in (label-in (block-long s) (hd ++ all-bytes s (t .blocks))) (s .blocks) (s .blocks) (home s (labelled w ns))
-      moved =
-          ap (λ (x : List ℕ). free-in (label-in (block-long s) x) (s .blocks) (s .blocks) (home-of s w)) (t .is)
-          ∙ ap (λ (x : ℕ). free-in (label-in (block-long s) (hd ++ all-bytes s (t .blocks))) (s .blocks) (s .blocks) x) (home-labelled s w ns)
 
   -- CHANGE of the nodes in a block that was found
   pub write-keeps : (w : Label) (i : ℕ) (ns : List Order) → 0 < w .level → search-in s bs w ≡ At i → Holdable s (labelled w ns) → ns ≢ []

@@ -10,10 +10,10 @@ use Rattle.sizes.specs.Sizes.{beta}
 use Rattle.sizes.specs.Header.{header, block-long}
 use Rattle.placement.specs.Decode.{node-in, nodes-from}
 use Rattle.placement.specs.Place.{search-in}
+use Rattle.placement.specs.Labels.{label}
 use Rattle.placement.specs.Maps.{Map, map-of, Table, Finds, is-at, is-none}
 use Rattle.sizes.specs.declared.Sizes.{Sizes}
 use Rattle.placement.specs.declared.Order.{Order}
-use Rattle.placement.specs.declared.Label.{Label}
 use Rattle.placement.specs.declared.Found.{Found}
 use Rattle.placement.specs.declared.Found.the-variants.{At, Nothing}
 use Rattle.sizes.proofs.Laws.Sizes.{limits}
@@ -56,9 +56,6 @@ pub record Read (s : Sizes) (bs : List ℕ) (l b : ℕ) (own : List Order) : Typ
 
 abbrev told-by : Sizes → List ℕ → Map
 told-by s bs = map-of (chunks s (orders-in bs))
-
-abbrev label : (l f i : ℕ) → Label
-label l f i = record { level = l; first = f; number = i }
 
 -- piece i of the partition that f heads
 abbrev pub piece : Sizes → List ℕ → (l f i : ℕ) → List Order

@@ -11,7 +11,7 @@ use lib.ListN.{length, take, drop, length-drop, length-map}
 use lib.Seq.{take-nil, drop-nil, drop-drop}
 use Rattle.sizes.specs.Sizes.{beta}
 use Rattle.placement.specs.Chunks.{Chunk}
-use Rattle.placement.specs.Maps.{is-label}
+use Rattle.placement.specs.Labels.{label, same-label}
 use Rattle.sizes.specs.declared.Sizes.{Sizes}
 use Rattle.placement.specs.declared.Order.{Order}
 use Rattle.skiplist.specs.Lists.{list-at, partitions, first-key, masked, chunks-of, all-chunks, chunks-from, chunks}
@@ -22,7 +22,7 @@ use Rattle.skiplist.proofs.Laws.Masks.{map-take, map-drop}
 -- the nodes of every chunk with a label
 unfoldable pub content : (l f i : ℕ) → List Chunk → List Order
 content l f i [] = []
-content l f i (c ∷ cs) = cond (is-label c l f i) (c .nodes) [] ++ content l f i cs
+content l f i (c ∷ cs) = cond (same-label (c .label) (label l f i)) (c .nodes) [] ++ content l f i cs
 
 module _ (l f i : ℕ) where
   pub content-append : (cs ds : List Chunk) → content l f i (cs ++ ds) ≡ content l f i cs ++ content l f i ds
@@ -33,14 +33,14 @@ module _ (l f i : ℕ) where
   -- a label that no number from j on has
   pub content-none : (k b l′ f′ j : ℕ) (p : List Order) →
       ((n : ℕ) → j ≤ n → (eqb l′ l && (eqb f′ f && eqb n i)) ≡ false) → content l f i (chunks-of k b l′ f′ j p) ≡ []
-  unfolding content chunks-of is-label
+  unfolding content chunks-of same-label
   content-none zero b l′ f′ j p h = refl
   content-none (suc k) b l′ f′ j [] h = refl
   content-none (suc k) b l′ f′ j (o ∷ os) h = rw (h j (omega arith)) (content-none k b l′ f′ (suc j) (drop b (o ∷ os)) (λ n g. h n (omega arith)))
 
 module _ (l f : ℕ) where
   pub content-of : (n k b j : ℕ) (p : List Order) → 0 < b → length p ≤ k → content l f (j + n) (chunks-of k b l f j p) ≡ take b (drop (n * b) p)
-  unfolding content chunks-of is-label
+  unfolding content chunks-of same-label
   content-of n zero b j [] h g = rw (drop-nil (n * b), take-nil b)
   content-of n zero b j (o ∷ os) h g = absurd (omega arith)
   content-of n (suc k) b j [] h g = rw (drop-nil (n * b), take-nil b)

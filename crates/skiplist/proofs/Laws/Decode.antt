@@ -14,11 +14,10 @@ use Rattle.placement.specs.Decode.{node-in, nodes-from, chunk-of, block-of, cut
 use Rattle.placement.specs.Maps.{Fine, Fines, Holdable}
 use Rattle.sizes.specs.declared.Sizes.{Sizes}
 use Rattle.placement.specs.declared.Order.{Order}
-use Rattle.placement.specs.declared.Label.{Label}
 use Rattle.sizes.proofs.Laws.Numbers.{field-big}
 use Rattle.placement.proofs.Laws.Rows.{rows-back}
-use Rattle.placement.proofs.Laws.Cells.{join, head-label, cut-join}
-use Rattle.placement.proofs.Laws.Bridge.{label-of, Good, free, held, All-good, good-none, good-more, node-long, head-of, all-join, even-all}
+use Rattle.placement.proofs.Laws.Cells.{join, cut-join}
+use Rattle.placement.proofs.Laws.Bridge.{Good, free, held, All-good, good-none, good-more, node-long, head-of, all-join, even-all}
 
 -- one order, and a row of orders, read back
 node-back : (o : Order) (r : List ℕ) → Fine o → node-in (node-bytes o ++ r) ≡ o
@@ -37,18 +36,18 @@ unfolding block-bytes big
 nodes-past s c = refl
 
 chunk-back : (s : Sizes) (c : Chunk) → Holdable s c → chunk-of (block-bytes s (holds c)) ≡ c
-unfolding chunk-of block-bytes head-label label-of
+unfolding chunk-of block-bytes
 chunk-back s c k =
     let e = head-of s (held k) in
     let n = nodes-past s c ∙ nodes-back (c .nodes) (replicate (12 * (s .nodes - length (c .nodes))) 0) (k .fine) in
-    λ i. record { level = c .level; first = ap (λ (w : Label). w .first) e i; number = ap (λ (w : Label). w .number) e i; nodes = n i }
+    λ i. record { label = e i; nodes = n i }
 
 block-back : (s : Sizes) {b : Block Chunk} → Good s b → block-of (block-bytes s b) ≡ b
 unfolding block-of block-bytes block-long
 block-back s free =
     let e : 8 + 12 * s .nodes ≡ suc (7 + 12 * s .nodes) = omega arith in
     rw e
-block-back s (held {c = c} k) = rw (ne-eqb (c .level) 0 (omega (arith, k .level))) (ap holds (chunk-back s c k))
+block-back s (held {c = c} k) = rw (ne-eqb (c .label .level) 0 (omega (arith, k .level))) (ap holds (chunk-back s c k))
 
 map-back : (s : Sizes) {bl : List (Block Chunk)} → All-good s bl → map block-of (map (block-bytes s) bl) ≡ bl
 map-back s good-none = refl

@@ -10,7 +10,7 @@ use borrow.Author.Tests.{lt-ltb}
 use lib.Dec.{eqb}
 use lib.ListN.{length, getD, set, replicate, length-replicate}
 use Rattle.placement.specs.Blocks.{Block, empty, holds, around, stored, Stands, placed, how-many}
-use Rattle.placement.specs.Chunks.{Chunk, label-before, home}
+use Rattle.placement.specs.Chunks.{Chunk, chunk-before, chunk-home}
 use Rattle.sizes.specs.declared.Sizes.{Sizes}
 use Rattle.placement.specs.declared.Order.{Order}
 use Rattle.sizes.proofs.Laws.Round.{steps-to}
@@ -18,6 +18,7 @@ use Rattle.placement.proofs.Laws.Blocks.{around-inside, stored-long}
 use Rattle.placement.proofs.Laws.Store.{after-store}
 use Rattle.placement.proofs.Laws.Placed.{how-many-empty, gap, store-count, First, first-free, nothing}
 use Rattle.placement.proofs.Laws.Labels.{home-inside}
+use Rattle.placement.proofs.Laws.Maps.{lawful}
 use Rattle.skiplist.specs.Lists.{front, chunks, blocks}
 use Rattle.skiplist.specs.Image.{all-into, gathered}
 use Rattle.skiplist.proofs.Laws.Parts.{Up, up-front, below}
@@ -26,11 +27,11 @@ use Rattle.skiplist.proofs.Laws.Nodes.{all-nodes, nodes-one, all-into-a
 
 -- a chunk's nodes, if it is of level 1
 unfoldable ones : Chunk → List Order
-ones c = cond (eqb (c .level) 1) (c .nodes) []
+ones c = cond (eqb (c .label .level) 1) (c .nodes) []
 
 gathered-more : (c : Chunk) (bs : List (Block Chunk)) (acc : List Order) → gathered (holds c ∷ bs) acc ≡ gathered bs (all-into (ones c) acc)
 unfolding gathered ones all-into
-gathered-more c bs acc = go (eqb (c .level) 1)
+gathered-more c bs acc = go (eqb (c .label .level) 1)
   where
     go : (t : Bool) → gathered bs (cond t (all-into (c .nodes) acc) acc) ≡ gathered bs (all-into (cond t (c .nodes) []) acc)
     go true = refl
@@ -76,23 +77,23 @@ bound a (n ∷ ns) rs u =
     record { at = w .at; from = omega (arith, u .0, w .from); under = rw (lt-ltb (n .key) (w .at) (omega (arith, w .from))) (w .under); above = w .above }
 
 module _ (s : Sizes) (some : zero < s .blocks) where
-  lands : (c : Chunk) (bs : List (Block Chunk)) → length bs ≡ s .blocks → how-many bs < s .blocks → First (s .blocks) c bs (s .blocks) (home s c)
+  lands : (c : Chunk) (bs : List (Block Chunk)) → length bs ≡ s .blocks → how-many bs < s .blocks → First (s .blocks) c bs (s .blocks) (chunk-home s c)
   unfolding around
   lands c bs q h =
       let z = gap bs (omega arith) in
-      let t = steps-to (s .blocks) (home s c) (home-inside s some c) (z .at) (omega (arith, z .inside)) in
-      first-free (s .blocks) c bs (s .blocks) (home s c) (t .steps) (t .few) (rw (t .there) (z .is))
+      let t = steps-to (s .blocks) (chunk-home s c) (home-inside s some (c .label)) (z .at) (omega (arith, z .inside)) in
+      first-free (s .blocks) c bs (s .blocks) (chunk-home s c) (t .steps) (t .few) (rw (t .there) (z .is))
 
   -- CHUNKS BY RISING NODES, placed one after the other
   placed-gathers : (cs : List Chunk) (bs : List (Block Chunk)) (a : ℕ) → Up a (all-nodes 1 cs) → ((x : Chunk) → Stands (s .blocks) bs x → below a (ones x) ≡ true) → length bs ≡ s .blocks →
-      how-many bs + length cs ≤ s .blocks → gathered (placed (home s) (s .blocks) cs bs) [] ≡ all-into (all-nodes 1 cs) (gathered bs [])
+      how-many bs + length cs ≤ s .blocks → gathered (placed (chunk-home s) (s .blocks) cs bs) [] ≡ all-into (all-nodes 1 cs) (gathered bs [])
   unfolding placed all-nodes all-into ones around stored
   placed-gathers [] bs a u w q h = refl
   placed-gathers (c ∷ cs) bs a u w q h =
       let f = lands c bs q (omega arith) in
-      let i = home s c + f .steps in
+      let i = chunk-home s c + f .steps in
       let k = bound a (ones c) (all-nodes 1 cs) u in
-      ap (λ (z : List (Block Chunk)). gathered (placed (home s) (s .blocks) cs z) []) (f .is)
+      ap (λ (z : List (Block Chunk)). gathered (placed (chunk-home s) (s .blocks) cs z) []) (f .is)
       ∙ placed-gathers cs (stored (s .blocks) bs i (holds c)) (k .at) (k .above) (λ x t. go k x (after-store (s .blocks) bs i q some c x t))
       (stored-long (s .blocks) bs i (holds c) q) (omega (arith, store-count (s .blocks) bs i empty (holds c) q some (f .free)))
       ∙ ap (all-into (all-nodes 1 cs)) (gathered-set a bs (i % s .blocks) c [] (omega (arith, mod-lt i some)) (f .free) (up-front (ones c) (all-nodes 1 cs) a u)
@@ -113,6 +114,6 @@ pub blocks-gather : (s : Sizes) (os : List Order) → 0 < s .nodes → 0 < s .bl
 unfolding blocks all-into front
 blocks-gather s os b some u h =
     let e = nodes-one s os b (omega (arith, beta-least s)) in
-    placed-gathers s some (chunks s os) (replicate (s .blocks) empty) 0 (rw e (omega arith, u)) (λ x t. absurd (nothing (home s) label-before (s .blocks) (home-inside s some) x t))
+    placed-gathers s some (chunks s os) (replicate (s .blocks) empty) 0 (rw e (omega arith, u)) (λ x t. absurd (nothing (chunk-home s) chunk-before (s .blocks) (lawful s some .inside) x t))
     (length-replicate (s .blocks) empty) (omega (arith, how-many-empty Chunk (s .blocks)))
     ∙ rw (e, gathered-none (s .blocks)) (all-rising [] os u)

@@ -22,7 +22,7 @@ use Rattle.skiplist.proofs.Laws.Masks.{masked-one}
 
 unfoldable pub all-nodes : (l : ℕ) → List Chunk → List Order
 all-nodes l [] = []
-all-nodes l (c ∷ cs) = cond (eqb (c .level) l) (c .nodes) [] ++ all-nodes l cs
+all-nodes l (c ∷ cs) = cond (eqb (c .label .level) l) (c .nodes) [] ++ all-nodes l cs
 
 module _ (l : ℕ) where
   pub nodes-append : (cs ds : List Chunk) → all-nodes l (cs ++ ds) ≡ all-nodes l cs ++ all-nodes l ds

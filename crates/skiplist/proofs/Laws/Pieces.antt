@@ -40,9 +40,9 @@ among-right c (d ∷ cs) ds h = inr (among-right c cs ds h)
 
 record Cut (b l f i : ℕ) (os : List Order) (c : Chunk) : Type 0 where
   pub past : ℕ
-  pub level-is : c .level ≡ l
-  pub first-is : c .first ≡ f
-  pub number-is : c .number ≡ i + past
+  pub level-is : c .label .level ≡ l
+  pub first-is : c .label .first ≡ f
+  pub number-is : c .label .number ≡ i + past
   pub inside : past * b < length os
   pub nodes-are : c .nodes ≡ take b (drop (past * b) os)
 
@@ -53,9 +53,9 @@ of-cut (suc k) b l f i [] c h = absurd h
 of-cut (suc k) b l f i (o ∷ os) c (inl e) =
     record {
       past = 0;
-      level-is = ap (λ (z : Chunk). z .level) e;
-      first-is = ap (λ (z : Chunk). z .first) e;
-      number-is = ap (λ (z : Chunk). z .number) e ∙ sym (add-zero i);
+      level-is = ap (λ (z : Chunk). z .label .level) e;
+      first-is = ap (λ (z : Chunk). z .label .first) e;
+      number-is = ap (λ (z : Chunk). z .label .number) e ∙ sym (add-zero i);
       inside = rw (zero-mul b) (omega arith);
       nodes-are = rw (zero-mul b) (ap (λ (z : Chunk). z .nodes) e);
     }
@@ -73,15 +73,15 @@ of-cut (suc k) b l f i (o ∷ os) c (inr h) =
       nodes-are = w .nodes-are ∙ ap (take b) (drop-drop (j * b) b (o ∷ os)) ∙ ap (λ (z : ℕ). take b (drop z (o ∷ os))) (sym e);
     }
 
-cut-of : (k b l f i : ℕ) (os : List Order) (c : Chunk) (j : ℕ) → 0 < b → length os ≤ k → c .level ≡ l → c .first ≡ f → c .number ≡ i + j → j * b < length os → c .nodes ≡ take b (drop (j * b) os) →
+cut-of : (k b l f i : ℕ) (os : List Order) (c : Chunk) (j : ℕ) → 0 < b → length os ≤ k → c .label .level ≡ l → c .label .first ≡ f → c .label .number ≡ i + j → j * b < length os → c .nodes ≡ take b (drop (j * b) os) →
     Among c (chunks-of k b l f i os)
 unfolding chunks-of
 cut-of zero b l f i os c j p q el ef en h w = absurd (omega arith)
 cut-of (suc k) b l f i [] c j p q el ef en h w = absurd (omega arith)
 cut-of (suc k) b l f i (o ∷ os) c zero p q el ef en h w =
     let e : c .nodes ≡ take b (o ∷ os) = w ∙ ap (λ (z : ℕ). take b (drop z (o ∷ os))) (zero-mul b) in
-    let n : c .number ≡ i = en ∙ add-zero i in
-    inl (λ q. record { level = el q; first = ef q; number = n q; nodes = e q })
+    let n : c .label .number ≡ i = en ∙ add-zero i in
+    inl (λ q. record { label = record { level = el q; first = ef q; number = n q }; nodes = e q })
 cut-of (suc k) b l f i (o ∷ os) c (suc j) p q el ef en h w =
     let e : suc j * b ≡ b + j * b = suc-mul j b ∙ add-comm (j * b) b in
     let n : length (drop b (o ∷ os)) ≡ length (o ∷ os) - b = length-drop b (o ∷ os) in
@@ -102,8 +102,8 @@ all-of s l (p ∷ ps) c h = go (among-append c (chunks-of (length p) (s .nodes) 
     go (inl w) ih = record { part = p; among = inl refl; cut = of-cut (length p) (s .nodes) l (first-key p) 0 (map (masked l) p) c w }
     go (inr w) ih = let v = ih w in record { part = v .part; among = inr (v .among); cut = v .cut }
 
-of-all : (s : Sizes) (l : ℕ) (ps : List (List Order)) (c : Chunk) (p : List Order) → 0 < s .nodes → Among p ps → c .level ≡ l → c .first ≡ first-key p → c .number * s .nodes < length p →
-    c .nodes ≡ map (masked l) (take (s .nodes) (drop (c .number * s .nodes) p)) → Among c (all-chunks s l ps)
+of-all : (s : Sizes) (l : ℕ) (ps : List (List Order)) (c : Chunk) (p : List Order) → 0 < s .nodes → Among p ps → c .label .level ≡ l → c .label .first ≡ first-key p → c .label .number * s .nodes < length p →
+    c .nodes ≡ map (masked l) (take (s .nodes) (drop (c .label .number * s .nodes) p)) → Among c (all-chunks s l ps)
 unfolding all-chunks
 of-all s l [] c p b h el ef i w = absurd h
 of-all s l (q ∷ ps) c p b (inl e) el ef i w =
@@ -111,14 +111,14 @@ of-all s l (q ∷ ps) c p b (inl e) el ef i w =
     let n : length m ≡ length p = length-map p (masked l) in
     among-left c (chunks-of (length q) (s .nodes) l (first-key q) 0 (map (masked l) q)) (all-chunks s l ps)
     (subst (λ (z : List Order). Among c (chunks-of (length z) (s .nodes) l (first-key z) 0 (map (masked l) z))) e
-    (cut-of (length p) (s .nodes) l (first-key p) 0 m c (c .number) b (omega (arith, n)) el ef (sym (zero-add (c .number))) (omega (arith, i, n))
-    (w ∙ map-take (masked l) (s .nodes) (drop (c .number * s .nodes) p) ∙ ap (take (s .nodes)) (map-drop (masked l) (c .number * s .nodes) p))))
+    (cut-of (length p) (s .nodes) l (first-key p) 0 m c (c .label .number) b (omega (arith, n)) el ef (sym (zero-add (c .label .number))) (omega (arith, i, n))
+    (w ∙ map-take (masked l) (s .nodes) (drop (c .label .number * s .nodes) p) ∙ ap (take (s .nodes)) (map-drop (masked l) (c .label .number * s .nodes) p))))
 of-all s l (q ∷ ps) c p b (inr h) el ef i w = among-right c (chunks-of (length q) (s .nodes) l (first-key q) 0 (map (masked l) q)) (all-chunks s l ps) (of-all s l ps c p b h el ef i w)
 
 record From (k l : ℕ) (s : Sizes) (os : List Order) (c : Chunk) : Type 0 where
-  pub low : l ≤ c .level
-  pub high : c .level < l + k
-  pub it : Of s (c .level) (partitions s (c .level) (list-at s (c .level) os)) c
+  pub low : l ≤ c .label .level
+  pub high : c .label .level < l + k
+  pub it : Of s (c .label .level) (partitions s (c .label .level) (list-at s (c .label .level) os)) c
 
 from-of : (k l : ℕ) (s : Sizes) (os : List Order) (c : Chunk) → Among c (chunks-from k l s os) → From k l s os c
 unfolding chunks-from
@@ -132,14 +132,14 @@ from-of (suc k) l s os c h = go (among-append c (all-chunks s l (partitions s l 
         record { low = omega (arith, e); high = omega (arith, e); it = subst (λ (z : ℕ). Of s z (partitions s z (list-at s z os)) c) (sym e) v }
     go (inr w) ih = let v = ih w in record { low = omega (arith, v .low); high = omega (arith, v .high); it = v .it }
 
-of-from : (k l : ℕ) (s : Sizes) (os : List Order) (c : Chunk) → l ≤ c .level → c .level < l + k → Among c (all-chunks s (c .level) (partitions s (c .level) (list-at s (c .level) os))) → Among c (chunks-from k l s os)
+of-from : (k l : ℕ) (s : Sizes) (os : List Order) (c : Chunk) → l ≤ c .label .level → c .label .level < l + k → Among c (all-chunks s (c .label .level) (partitions s (c .label .level) (list-at s (c .label .level) os))) → Among c (chunks-from k l s os)
 unfolding chunks-from
 of-from zero l s os c a b h = absurd (omega arith)
-of-from (suc k) l s os c a b h = go (λ z. of-from k (suc l) s os c z (omega arith) h) (eqb (c .level) l) refl
+of-from (suc k) l s os c a b h = go (λ z. of-from k (suc l) s os c z (omega arith) h) (eqb (c .label .level) l) refl
   where
-    go : (suc l ≤ c .level → Among c (chunks-from k (suc l) s os)) → (t : Bool) → eqb (c .level) l ≡ t → Among c (all-chunks s l (partitions s l (list-at s l os)) ++ chunks-from k (suc l) s os)
-    go ih true e = among-left c (all-chunks s l (partitions s l (list-at s l os))) (chunks-from k (suc l) s os) (subst (λ (z : ℕ). Among c (all-chunks s z (partitions s z (list-at s z os)))) (eqb-true (c .level) l e) h)
-    go ih false e = among-right c (all-chunks s l (partitions s l (list-at s l os))) (chunks-from k (suc l) s os) (ih (omega (arith, eqb-false (c .level) l e)))
+    go : (suc l ≤ c .label .level → Among c (chunks-from k (suc l) s os)) → (t : Bool) → eqb (c .label .level) l ≡ t → Among c (all-chunks s l (partitions s l (list-at s l os)) ++ chunks-from k (suc l) s os)
+    go ih true e = among-left c (all-chunks s l (partitions s l (list-at s l os))) (chunks-from k (suc l) s os) (subst (λ (z : ℕ). Among c (all-chunks s z (partitions s z (list-at s z os)))) (eqb-true (c .label .level) l e) h)
+    go ih false e = among-right c (all-chunks s l (partitions s l (list-at s l os))) (chunks-from k (suc l) s os) (ih (omega (arith, eqb-false (c .label .level) l e)))
 
 pub chunks-are : Chunks-are
 unfolding Chunks-are chunks
@@ -147,7 +147,7 @@ chunks-are s os c m = (
   λ h.
       let w = from-of (beta s) 1 s os c h in
       let v = w .it .cut in
-      let n : c .number ≡ v .past = v .number-is ∙ zero-add (v .past) in
+      let n : c .label .number ≡ v .past = v .number-is ∙ zero-add (v .past) in
       record {
         part = w .it .part;
         low = w .low;
@@ -156,10 +156,10 @@ chunks-are s os c m = (
         first-is = v .first-is;
         inside = subst (λ (z : ℕ). z * s .nodes < length (w .it .part)) (sym n) (rw length-map at (v .inside));
         nodes-are =
-            v .nodes-are ∙ ap (λ (z : ℕ). take (s .nodes) (drop (z * s .nodes) (map (masked (c .level)) (w .it .part)))) (sym n)
-            ∙ sym (map-take (masked (c .level)) (s .nodes) (drop (c .number * s .nodes) (w .it .part)) ∙ ap (take (s .nodes)) (map-drop (masked (c .level)) (c .number * s .nodes) (w .it .part)));
+            v .nodes-are ∙ ap (λ (z : ℕ). take (s .nodes) (drop (z * s .nodes) (map (masked (c .label .level)) (w .it .part)))) (sym n)
+            ∙ sym (map-take (masked (c .label .level)) (s .nodes) (drop (c .label .number * s .nodes) (w .it .part)) ∙ ap (take (s .nodes)) (map-drop (masked (c .label .level)) (c .label .number * s .nodes) (w .it .part)));
       },
   λ w.
       of-from (beta s) 1 s os c (w .low) (omega (arith, w .high))
-      (of-all s (c .level) (partitions s (c .level) (list-at s (c .level) os)) c (w .part) (limits s m .nodes-some) (w .of-level) refl (w .first-is) (w .inside) (w .nodes-are)),
+      (of-all s (c .label .level) (partitions s (c .label .level) (list-at s (c .label .level) os)) c (w .part) (limits s m .nodes-some) (w .of-level) refl (w .first-is) (w .inside) (w .nodes-are)),
 )

@@ -10,15 +10,15 @@ use lib.ListN.{length, getD, replicate}
 use Rattle.sizes.specs.Sizes.{made}
 use Rattle.sizes.specs.Header.{header, sizes-in}
 use Rattle.placement.specs.Blocks.{Among, Block, empty, holds, around, stored, holds-smaller, Stands, Rule-3, how-many}
-use Rattle.placement.specs.Chunks.{Chunk, label-before, home, all-bytes}
+use Rattle.placement.specs.Chunks.{Chunk, chunk-before, chunk-home, all-bytes}
 use Rattle.sizes.specs.declared.Sizes.{Sizes}
 use Rattle.placement.specs.declared.Order.{Order}
 use Rattle.sizes.proofs.Laws.Round.{Which, less, same, more, which, steps-apart}
 use Rattle.placement.proofs.Laws.Blocks.{around-inside, stored-long, Far, far}
 use Rattle.placement.proofs.Laws.Store.{before-store}
 use Rattle.placement.proofs.Laws.Placed.{Rising, store-count, nothing, one-placement}
-use Rattle.placement.proofs.Laws.Labels.{labels-chain, labels-strict, home-inside}
-use Rattle.placement.proofs.Laws.Maps.{one-place}
+use Rattle.placement.proofs.Laws.Labels.{labels-strict}
+use Rattle.placement.proofs.Laws.Maps.{lawful, one-place}
 use Rattle.placement.proofs.Laws.Tables.{how-many-most}
 use Rattle.sizes.proofs.Laws.Sizes.{some-blocks}
 use Rattle.skiplist.specs.Lists.{chunks, blocks}
@@ -37,7 +37,7 @@ inside (b ∷ bs) zero c e = omega arith
 inside (b ∷ bs) (suc j) c e = omega (arith, inside bs j c e)
 
 -- chunks by rising labels that all stand are no more than the full blocks
-pub fewer : (m : ℕ) → zero < m → (cs : List Chunk) (bs : List (Block Chunk)) → length bs ≡ m → Rising label-before cs → ((c : Chunk) → Among c cs → Stands m bs c) → length cs ≤ how-many bs
+pub fewer : (m : ℕ) → zero < m → (cs : List Chunk) (bs : List (Block Chunk)) → length bs ≡ m → Rising chunk-before cs → ((c : Chunk) → Among c cs → Stands m bs c) → length cs ≤ how-many bs
 fewer m some [] bs p u all = omega arith
 fewer m some (c ∷ cs) bs p u all =
     let t = all c (inl refl) in
@@ -48,7 +48,7 @@ fewer m some (c ∷ cs) bs p u all =
     )
   where
     other : (d : Chunk) → Among d cs → (around m bs (all c (inl refl) .at) ≡ holds d) ⊎ Stands m (stored m bs (all c (inl refl) .at) empty) d → Stands m (stored m bs (all c (inl refl) .at) empty) d
-    other d a (inl e) = absurd (true≢false (cc (u .0 d a, labels-strict c, all c (inl refl) .is)))
+    other d a (inl e) = absurd (true≢false (cc (u .0 d a, labels-strict (c .label), all c (inl refl) .is)))
     other d a (inr w) = w
 
 -- WHAT THE RULES GIVE
@@ -59,9 +59,9 @@ module _ (s : Sizes) (os : List Order) (x : List ℕ) (w : Rules s os x) where
   stands : (c : Chunk) → Among c (chunks s os) → Stands (s .blocks) (w .table) c
   stands c a = let t = w .there c a in record { at = t .0; is = around-inside (s .blocks) (w .table) (t .0) (omega (arith, t .1, w .number)) ∙ t .2 }
 
-  ruled : Rule-3 (home s) label-before (s .blocks) (w .table)
+  ruled : Rule-3 (chunk-home s) chunk-before (s .blocks) (w .table)
   unfolding around
-  ruled c k h e l g = w .smaller ((home s c + k) % s .blocks) c e l (λ u le q. omega (arith, steps-apart (s .blocks) (home s c) u k (omega arith) h q))
+  ruled c k h e l g = w .smaller ((chunk-home s c + k) % s .blocks) c e l (λ u le q. omega (arith, steps-apart (s .blocks) (chunk-home s c) u k (omega arith) h q))
 
   room : length (chunks s os) ≤ s .blocks
   room = omega (arith, fewer (s .blocks) some (chunks s os) (w .table) (w .number) (chunks-rising s os (w .good)) stands, how-many-most (w .table), w .number)
@@ -73,7 +73,7 @@ module _ (s : Sizes) (os : List Order) (x : List ℕ) (w : Rules s os x) where
   unfolding image blocks around
   rules-image =
       w .bytes ∙ ap (λ (z : List (Block Chunk)). header s (length os) ++ all-bytes s z)
-      (one-placement (home s) label-before (s .blocks) labels-strict labels-chain (home-inside s some) (chunks s os) (w .table) (chunks-rising s os (w .good)) room (w .number) ruled stands
+      (one-placement (chunk-home s) chunk-before (s .blocks) (lawful s some .strict) (lawful s some .chain) (lawful s some .inside) (chunks s os) (w .table) (chunks-rising s os (w .good)) room (w .number) ruled stands
       (λ c t. w .only (t .at % s .blocks) c (t .is)))
 
 -- AN IMAGE obeys the rules
@@ -84,7 +84,7 @@ module _ (s : Sizes) (os : List Order) (m : made s ≡ true) (g : orders-good 1 
   long : length (blocks s os) ≡ s .blocks
   long = blocks-placing s os m g f .long
 
-  ruled-blocks : Rule-3 (home s) label-before (s .blocks) (blocks s os)
+  ruled-blocks : Rule-3 (chunk-home s) chunk-before (s .blocks) (blocks s os)
   ruled-blocks = blocks-placing s os m g f .rule-3
 
   below : (j : ℕ) (c : Chunk) → getD (blocks s os) j empty ≡ holds c → j < s .blocks
@@ -95,19 +95,19 @@ module _ (s : Sizes) (os : List Order) (m : made s ≡ true) (g : orders-good 1 
 
   placed-only : (c : Chunk) → Among c (chunks s os) ⊎ Stands (s .blocks) (replicate (s .blocks) empty) c → Among c (chunks s os)
   placed-only c (inl a) = a
-  placed-only c (inr t) = absurd (nothing (home s) label-before (s .blocks) (home-inside s some-block) c t)
+  placed-only c (inr t) = absurd (nothing (chunk-home s) chunk-before (s .blocks) (lawful s some-block .inside) c t)
 
-  passed : (j : ℕ) (c : Chunk) → getD (blocks s os) j empty ≡ holds c → (t : ℕ) → ((u : ℕ) → u ≤ t → (home s c + u) % s .blocks ≡ j → ⊥) →
-      holds-smaller label-before c (getD (blocks s os) ((home s c + t) % s .blocks) empty) ≡ true
+  passed : (j : ℕ) (c : Chunk) → getD (blocks s os) j empty ≡ holds c → (t : ℕ) → ((u : ℕ) → u ≤ t → (chunk-home s c + u) % s .blocks ≡ j → ⊥) →
+      holds-smaller chunk-before c (getD (blocks s os) ((chunk-home s c + t) % s .blocks) empty) ≡ true
   unfolding around
-  passed j c e t never = go (far (home s) (s .blocks) (home-inside s some-block) (blocks s os) c j (here j c e))
+  passed j c e t never = go (far (chunk-home s) (s .blocks) (lawful s some-block .inside) (blocks s os) c j (here j c e))
     where
-      before : (y : Far (home s) (s .blocks) (blocks s os) c j) → Which t (y .steps) → t < y .steps
+      before : (y : Far (chunk-home s) (s .blocks) (blocks s os) c j) → Which t (y .steps) → t < y .steps
       before y (less h) = h
       before y (same h) = absurd (never (y .steps) (omega arith) (y .there ∙ mod-eq-of-lt (below j c e)))
       before y (more h) = absurd (never (y .steps) (omega arith) (y .there ∙ mod-eq-of-lt (below j c e)))
 
-      go : Far (home s) (s .blocks) (blocks s os) c j → holds-smaller label-before c (getD (blocks s os) ((home s c + t) % s .blocks) empty) ≡ true
+      go : Far (chunk-home s) (s .blocks) (blocks s os) c j → holds-smaller chunk-before c (getD (blocks s os) ((chunk-home s c + t) % s .blocks) empty) ≡ true
       go y = ruled-blocks c (y .steps) (y .few) (y .is) t (before y (which t (y .steps)))
 
   pub image-rules : Rules s os (image s os)
@@ -122,7 +122,7 @@ module _ (s : Sizes) (os : List Order) (m : made s ≡ true) (g : orders-good 1 
     there = λ c a. let t = blocks-placing s os m g f .comes c a in (t .at % s .blocks, omega (arith, mod-lt (t .at) some-block, long), t .is);
     only = λ j c e. placed-only c (blocks-placing s os m g f .only c (record { at = j; is = here j c e }));
     once = λ i j c e h.
-        sym (mod-eq-of-lt (below i c e)) ∙ sym (one-place s some-block (blocks s os) ruled-blocks c c i j (here i c e) (here j c h) refl refl refl) ∙ mod-eq-of-lt (below j c h);
+        sym (mod-eq-of-lt (below i c e)) ∙ sym (one-place s some-block (blocks s os) ruled-blocks c c i j (here i c e) (here j c h) refl) ∙ mod-eq-of-lt (below j c h);
     smaller = passed;
   }
 

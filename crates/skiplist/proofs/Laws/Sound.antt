@@ -102,17 +102,17 @@ piece-full s os c b w = rw (w .nodes-are) (simp (length-map, length-take, length
 piece-holdable : (s : Sizes) (os : List Order) (c : Chunk) → made s ≡ true → orders-good 1 os ≡ true → fits s os ≡ true → Piece s os c → Holdable s c
 unfolding front
 piece-holdable s os c m g f w =
-    let x = part-some (w .part) (partitions s (c .level) (list-at s (c .level) os)) (w .of-level) in
-    let e = nodes-list (c .level) s os in
-    let y = list-some s (c .level) os in
+    let x = part-some (w .part) (partitions s (c .label .level) (list-at s (c .label .level) os)) (w .of-level) in
+    let e = nodes-list (c .label .level) s os in
+    let y = list-some s (c .label .level) os in
     let d = limits s m in
     let fine : Fines (w .part) = x .fine (rw e (y .fine (record { key = omega arith; total = omega arith; displayed = omega arith }, good-fines 1 os g))) in
     let few : length (w .part) ≤ suc (length os) = omega (arith, x .few, ap length e, y .few) in
     record {
       level = w .low;
       first = rw (w .first-is) (first-fine (w .part) fine);
-      number = omega (arith, le-mul-of-pos-right (c .number) (d .nodes-some), w .inside, fits-parts s os f .few, d .orders-most);
-      fine = rw (w .nodes-are) (fines-masked (c .level) (take (s .nodes) (drop (c .number * s .nodes) (w .part))) (fines-piece (s .nodes) (c .number * s .nodes) (w .part) fine));
+      number = omega (arith, le-mul-of-pos-right (c .label .number) (d .nodes-some), w .inside, fits-parts s os f .few, d .orders-most);
+      fine = rw (w .nodes-are) (fines-masked (c .label .level) (take (s .nodes) (drop (c .label .number * s .nodes) (w .part))) (fines-piece (s .nodes) (c .label .number * s .nodes) (w .part) fine));
       nodes = rw (w .nodes-are) (simp (length-map, length-take) (omega arith));
     }
 

@@ -141,7 +141,7 @@ module _ (s : Sizes) (os : List Order) (m : made s ≡ true) (g : orders-good 1 
 
 -- ---- THE PASS over an image
 
-head-long : (s : Sizes) (c : Chunk) → length ((c .level ∷ length (c .nodes) ∷ []) ++ big 2 (c .number) ++ big 4 (c .first) ++ nodes-bytes (c .nodes)) ≡ 8 + 12 * length (c .nodes)
+head-long : (s : Sizes) (c : Chunk) → length ((c .label .level ∷ length (c .nodes) ∷ []) ++ big 2 (c .label .number) ++ big 4 (c .label .first) ++ nodes-bytes (c .nodes)) ≡ 8 + 12 * length (c .nodes)
 unfolding big
 head-long s c = omega (arith, nodes-long (c .nodes))
 
@@ -150,7 +150,7 @@ unfolding block-bytes block-long
 bytes-clean s empty free full = zeros (getD-replicate (8 + 12 * s .nodes) 0 0 0 (omega arith)) refl
 bytes-clean s (holds c) (held k) full =
     filled (k .level) (some-length (c .nodes) (full c refl)) (k .nodes)
-    (drop-at ((c .level ∷ length (c .nodes) ∷ []) ++ big 2 (c .number) ++ big 4 (c .first) ++ nodes-bytes (c .nodes)) (replicate (12 * (s .nodes - length (c .nodes))) 0) (8 + 12 * length (c .nodes)) (head-long s c))
+    (drop-at ((c .label .level ∷ length (c .nodes) ∷ []) ++ big 2 (c .label .number) ++ big 4 (c .label .first) ++ nodes-bytes (c .nodes)) (replicate (12 * (s .nodes - length (c .nodes))) 0) (8 + 12 * length (c .nodes)) (head-long s c))
   where
     some-length : (ns : List Order) → ns ≢ [] → 0 < length ns
     some-length [] h = absurd (h refl)

@@ -11,8 +11,9 @@ use lib.ListN.{length, take, drop, replicate}
 use Rattle.sizes.specs.Numbers.{big, rows}
 use Rattle.sizes.specs.Header.{block-long}
 use Rattle.placement.specs.Chunks.{node-bytes, nodes-bytes}
-use Rattle.placement.specs.Place.{Shaped, label-in, free-in, home-of, inserted}
-use Rattle.placement.specs.Maps.{Map, with-nodes, with-chunk, is-label, map-of, nodes-of, labelled, Holdable, Table}
+use Rattle.placement.specs.Labels.{label, same-label, home}
+use Rattle.placement.specs.Place.{Shaped, label-in, free-in, inserted}
+use Rattle.placement.specs.Maps.{Map, with-nodes, with-chunk, map-of, nodes-of, labelled, Holdable, Table}
 use Rattle.sizes.specs.declared.Sizes.{Sizes}
 use Rattle.placement.specs.declared.Label.{Label}
 use Rattle.placement.specs.declared.Found.{Found}
@@ -22,11 +23,11 @@ use Rattle.skiplist.specs.Lists.{front}
 use Rattle.table.specs.Make.{fronts-map, Fronts}
 
 abbrev front-label : ℕ → Label
-front-label l = record { level = l; first = 0; number = 0 }
+front-label l = label l 0 0
 
 -- one level more
 front-more : (n l f i : ℕ) → with-nodes (front-label (suc n)) (front ∷ []) (fronts-map n) l f i ≡ fronts-map (suc n) l f i
-unfolding with-chunk is-label fronts-map
+unfolding with-chunk same-label fronts-map
 front-more n l f i = go (eqb (suc n) l) refl (leb l n) refl
   where
     go : (t : Bool) → eqb (suc n) l ≡ t → (u : Bool) → leb l n ≡ u
@@ -94,8 +95,8 @@ module _ (s : Sizes) (top : ℕ) (x : List ℕ) where
 
   module _ (l : ℕ) (z : List ℕ) (q : Fronting s top x l z) where
     pub fronting-more : l ≤ top → 1 ≤ s .nodes → (r : Found) (z′ : List ℕ) → length z′ ≡ length z
-        → r ≡ free-in (label-in (block-long s) z) (s .blocks) (s .blocks) (home-of s (record { level = l; first = 0; number = 0 }))
-        → z′ ≡ inserted s r (record { level = l; first = 0; number = 0 }) 1 (take 12 (drop 0 (replicate 12 0))) z → Fronting s top x (l + 1) z′
+        → r ≡ free-in (label-in (block-long s) z) (s .blocks) (s .blocks) (home s (front-label l))
+        → z′ ≡ inserted s r (front-label l) 1 (take 12 (drop 0 (replicate 12 0))) z → Fronting s top x (l + 1) z′
     fronting-more h b r z′ same er ez = record {
       done = suc (q .done);
       next = omega (arith, q .next);

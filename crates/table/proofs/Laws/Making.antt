@@ -15,7 +15,8 @@ use Rattle.sizes.specs.Header.{block-long, table-long, header}
 use Rattle.placement.specs.Blocks.{empty, placed}
 use Rattle.placement.specs.Chunks.{Chunk, block-bytes, all-bytes}
 use Rattle.placement.specs.Place.{Shaped}
-use Rattle.placement.specs.Maps.{Keeps, is-label, map-of, Table}
+use Rattle.placement.specs.Labels.{label, same-label}
+use Rattle.placement.specs.Maps.{Keeps, map-of, Table}
 use Rattle.sizes.specs.declared.Sizes.{Sizes}
 use Rattle.placement.specs.declared.Order.{Order}
 use Rattle.sizes.proofs.Laws.Sizes.{limits, some-blocks}
@@ -89,7 +90,7 @@ module _ (s : Sizes) (m : made s ≡ true) (x x₁ x₂ : List ℕ) (long : leng
 
 -- THE CHUNKS OF NO ORDERS
 abbrev front-chunk : ℕ → Chunk
-front-chunk l = record { level = l; first = 0; number = 0; nodes = front ∷ [] }
+front-chunk l = record { label = label l 0 0; nodes = front ∷ [] }
 
 masked-front : (l : ℕ) → masked l front ≡ front
 unfolding masked front
@@ -103,7 +104,7 @@ front-alone : (s : Sizes) (l : ℕ) → 1 ≤ s .nodes → all-chunks s l (parti
 unfolding list-at at-least partitions rest run starts-one all-chunks chunks-of first-key front
 front-alone s l h =
     let e : take (s .nodes) (masked l front ∷ []) ≡ front ∷ [] = rw (masked-front l) (take-all (s .nodes) (front ∷ []) h) in
-    ap (λ (ns : List Order). record { level = l; first = 0; number = 0; nodes = ns } ∷ []) e
+    ap (λ (ns : List Order). record { label = label l 0 0; nodes = ns } ∷ []) e
 
 chunks-more : (s : Sizes) (k l : ℕ) → 1 ≤ s .nodes → chunks-from (suc k) l s [] ≡ front-chunk l ∷ chunks-from k (suc l) s []
 unfolding chunks-from
@@ -116,7 +117,7 @@ chunks-count s (suc k) l h = ap length (chunks-more s k l h) ∙ ap suc (chunks-
 
 chunks-map : (s : Sizes) (k l top : ℕ) → 1 ≤ s .nodes → l + k ≡ suc top → (x f i : ℕ)
     → map-of (chunks-from k l s []) x f i ≡ cond ((leb l x && leb x top) && (eqb 0 f && eqb 0 i)) (front ∷ []) []
-unfolding chunks-from map-of is-label
+unfolding chunks-from map-of same-label
 chunks-map s zero l top h e x f i = go (leb l x) refl (leb x top) refl
   where
     go : (t : Bool) → leb l x ≡ t → (u : Bool) → leb x top ≡ u → [] ≡ cond ((t && u) && (eqb 0 f && eqb 0 i)) (front ∷ []) []

@@ -11,7 +11,7 @@ use lib.Seq.{length-take-le}
 use Rattle.sizes.specs.Sizes.{made}
 use Rattle.sizes.specs.Header.{block-long, table-long, header, sizes-in}
 use Rattle.placement.specs.Blocks.{Among, Block, empty, holds, Stands, how-many}
-use Rattle.placement.specs.Chunks.{Chunk, label-before}
+use Rattle.placement.specs.Chunks.{Chunk, chunk-before}
 use Rattle.sizes.specs.Parts.{block-in}
 use Rattle.placement.specs.Decode.{chunk-of, block-of, cut, blocks-in}
 use Rattle.placement.specs.Place.{label-in, search-in}
@@ -26,8 +26,7 @@ use Rattle.placement.proofs.Laws.Placed.{counted}
 use Rattle.placement.proofs.Laws.Labels.{labels-strict}
 use Rattle.placement.proofs.Laws.Maps.{nodes-at}
 use Rattle.sizes.proofs.Laws.Headers.{sizes-head}
-use Rattle.placement.proofs.Laws.Cells.{cut-length, head-label, label-cell}
-use Rattle.placement.proofs.Laws.Bridge.{label-of}
+use Rattle.placement.proofs.Laws.Cells.{cut-length, label-cell}
 use Rattle.placement.proofs.Laws.Decoding.{Clean, nodes-count}
 use Rattle.placement.proofs.Laws.Tables.{sound-blocks, how-many-most}
 use Rattle.placement.proofs.Laws.Searched.{checked-keeps}
@@ -93,31 +92,31 @@ module _ (bs : List ℕ) (u : Bytes bs) (a : Accepted bs) where
   fit = fits-make s os (omega (arith, a .held, a .rule .held)) (omega (arith, count, how-many-most (blocks-in s bs), blocks-many))
 
   -- EVERY CHUNK of the orders stands where the search for it ends
-  found-at-level : (j : ℕ) (c : Chunk) → c .level ≡ suc j → Piece s os c → Standing s bs c
+  found-at-level : (j : ℕ) (c : Chunk) → c .label .level ≡ suc j → Piece s os c → Standing s bs c
   found-at-level j c el w =
-      let l = c .level in
-      let f = c .first in
+      let l = c .label .level in
+      let f = c .label .first in
       let e : part s os l f ≡ w .part = ap (part s os l) (w .first-is) ∙ among-part s os l (w .part) (a .up) (w .of-level) in
       let some-part : 0 < length (part s os l f) = rw e (omega (arith, w .inside)) in
       let h = head-of s os (a .up) l f some-part in
       let r : part-sound s bs l f ≡ map (masked l) (part s os l f) = reads (h .node) (h .key) (h .heads) in
       let n : length (part-sound s bs l f) ≡ length (w .part) = ap length r ∙ length-map (part s os l f) (masked l) ∙ ap length e in
-      let p = piece-read s bs l f (c .number) (omega (arith, n, w .inside)) in
-      let q : take (s .nodes) (drop (c .number * s .nodes) (part-sound s bs l f)) ≡ c .nodes =
-      ap (λ (z : List Order). take (s .nodes) (drop (c .number * s .nodes) z)) (r ∙ ap (map (masked l)) e) ∙ piece-masked l (s .nodes) (c .number * s .nodes) (w .part) ∙ sym (w .nodes-are) in
-      standing s bs some l f (c .number) (c .nodes) (omega arith) (p .found) (p .most) (p .nodes ∙ q)
+      let p = piece-read s bs l f (c .label .number) (omega (arith, n, w .inside)) in
+      let q : take (s .nodes) (drop (c .label .number * s .nodes) (part-sound s bs l f)) ≡ c .nodes =
+      ap (λ (z : List Order). take (s .nodes) (drop (c .label .number * s .nodes) z)) (r ∙ ap (map (masked l)) e) ∙ piece-masked l (s .nodes) (c .label .number * s .nodes) (w .part) ∙ sym (w .nodes-are) in
+      standing s bs some l f (c .label .number) (c .nodes) (omega arith) (p .found) (p .most) (p .nodes ∙ q)
     where
-      reads : (x : Order) → x .key ≡ c .first → Heading s os (c .level) x → part-sound s bs (c .level) (c .first) ≡ map (masked (c .level)) (part s os (c .level) (c .first))
+      reads : (x : Order) → x .key ≡ c .label .first → Heading s os (c .label .level) x → part-sound s bs (c .label .level) (c .label .first) ≡ map (masked (c .label .level)) (part s os (c .label .level) (c .label .first))
       reads x k h =
-          subst (λ (z : ℕ). part-sound s bs (c .level) z ≡ map (masked (c .level)) (part s os (c .level) z)) k
+          subst (λ (z : ℕ). part-sound s bs (c .label .level) z ≡ map (masked (c .label .level)) (part s os (c .label .level) z)) k
           (subst (λ (l : ℕ). part-sound s bs l (x .key) ≡ map (masked l) (part s os l (x .key))) (sym el)
           (reads-masked s bs os (a .walk) (a .up) j x (omega (arith, w .high)) (subst (λ (l : ℕ). Heading s os l x) el h)))
 
   found-chunk : (c : Chunk) → Among c (chunks s os) → Standing s bs c
   unfolding Chunks-are
-  found-chunk c h = go (c .level) refl (chunks-are s os c good .0 h)
+  found-chunk c h = go (c .label .level) refl (chunks-are s os c good .0 h)
     where
-      go : (l : ℕ) → c .level ≡ l → Piece s os c → Standing s bs c
+      go : (l : ℕ) → c .label .level ≡ l → Piece s os c → Standing s bs c
       go zero e w = absurd (omega (arith, w .low))
       go (suc j) e w = found-at-level j c e w
 
@@ -127,7 +126,7 @@ module _ (bs : List ℕ) (u : Bytes bs) (a : Accepted bs) where
   -- AND NOTHING ELSE does
   only : (i : ℕ) (c : Chunk) → i < s .blocks → getD (blocks-in s bs) i empty ≡ holds c → Among c (chunks s os)
   only i c h e =
-      counted label-before (s .blocks) some labels-strict (chunks s os) (blocks-in s bs) blocks-many (chunks-rising s os (a .good)) stands count c
+      counted chunk-before (s .blocks) some (λ c. labels-strict (c .label)) (chunks s os) (blocks-in s bs) blocks-many (chunks-rising s os (a .good)) stands count c
       (record { at = i; is = around-inside (s .blocks) (blocks-in s bs) i h ∙ e })
 
   full-block : (i : ℕ) → i < s .blocks → 0 < getD (block-in (block-long s) bs i) 0 0 → getD (blocks-in s bs) i empty ≡ holds (chunk-of (block-in (block-long s) bs i))
@@ -144,8 +143,8 @@ module _ (bs : List ℕ) (u : Bytes bs) (a : Accepted bs) where
       let n = nodes-count (getD x 1 0) (drop 8 x) in
       (omega (arith, n, m .0), omega (arith, n, m .1)))
 
-  label-is : (i : ℕ) → label-in (block-long s) bs i ≡ label-of (holds (chunk-of (block-in (block-long s) bs i)))
-  unfolding chunk-of label-of head-label block-long
+  label-is : (i : ℕ) → label-in (block-long s) bs i ≡ chunk-of (block-in (block-long s) bs i) .label
+  unfolding chunk-of block-long
   label-is i = label-cell (8 + 12 * s .nodes) bs i (omega arith)
 
   found : (i : ℕ) → i < s .blocks → label-in (block-long s) bs i .level ≢ 0 → search-in s bs (label-in (block-long s) bs i) ≡ At i

@@ -1,12 +1,11 @@
 -- Blocks read back from bytes, one at a time: what a search found stands there.
 use mathlib.Core.Path.{_≡_, refl, sym, ap, _∙_, subst}
-use mathlib.Core.Bool.{Bool, true, false, _&&_, cond, true≢false, false≢true}
+use mathlib.Core.Bool.{Bool, true, false, cond, true≢false, false≢true}
 use mathlib.Core.List.{List, [], _∷_}
 use Prim.Native.Nat.{ℕ, zero, suc, _+_, _*_, _%_, _≤_, _<_}
 use native.Mathlib.Nat.{mod-lt, suc-mul, add-comm, zero-mul, add-assoc}
 use native.Mathlib.Omega.{arith}
-use borrow.Author.Tests.{ne-eqb, eqb-true}
-use lib.Dec.{eqb}
+use borrow.Author.Tests.{ne-eqb}
 use lib.ListN.{getD, take, drop, List·getD-map}
 use lib.Seq.{drop-drop}
 use Rattle.sizes.specs.Numbers.{field, rows-in}
@@ -14,18 +13,18 @@ use Rattle.sizes.specs.Header.{block-long}
 use Rattle.placement.specs.Blocks.{empty, holds}
 use Rattle.placement.specs.Chunks.{Chunk}
 use Rattle.sizes.specs.Parts.{block-in}
-use Rattle.placement.specs.Decode.{node-in, nodes-from, chunk-of, block-of, cut, blocks-in}
-use Rattle.placement.specs.Place.{label-in, same-label, passes-label, probe, search-in, home-of, found-at}
+use Rattle.placement.specs.Decode.{node-in, nodes-from, head-label, chunk-of, block-of, cut, blocks-in}
+use Rattle.placement.specs.Labels.{label, same-label, home}
+use Rattle.placement.specs.Place.{label-in, passes-label, probe, search-in, found-at}
 use Rattle.sizes.specs.declared.Sizes.{Sizes}
 use Rattle.placement.specs.declared.Order.{Order}
 use Rattle.placement.specs.declared.Label.{Label}
 use Rattle.placement.specs.declared.Found.{Found}
 use Rattle.placement.specs.declared.Found.the-variants.{At, Nothing}
-use Rattle.sizes.proofs.Laws.Sizes.{and-parts}
 use Rattle.sizes.proofs.Laws.Numbers.{field-drop, field-part}
 use Rattle.sizes.proofs.Laws.Parts.{getD-part}
-use Rattle.placement.proofs.Laws.Cells.{head-label, label-cell}
-use Rattle.placement.proofs.Laws.Bridge.{label-of}
+use Rattle.placement.proofs.Laws.Cells.{label-cell}
+use Rattle.placement.proofs.Laws.Labels.{same-is}
 use Rattle.table.specs.Walk.{spot, chunk-spot, count-in}
 use Rattle.table.proofs.Laws.Came.{chunk-read}
 
@@ -65,8 +64,8 @@ nodes-part (suc n) k w a bs h =
 
 -- a block that says at most B nodes: its chunk is its label and the nodes that the walk reads
 pub chunk-says : (s : Sizes) (bs : List ℕ) (b : ℕ) → count-in (block-long s) bs b ≤ s .nodes → chunk-of (block-in (block-long s) bs b)
-    ≡ record { level = label-in (block-long s) bs b .level; first = label-in (block-long s) bs b .first; number = label-in (block-long s) bs b .number; nodes = chunk-read s bs b }
-unfolding chunk-of chunk-read block-in count-in block-long head-label
+    ≡ record { label = label-in (block-long s) bs b; nodes = chunk-read s bs b }
+unfolding chunk-of chunk-read block-in count-in block-long
 chunk-says s bs b h =
     let w = 8 + 12 * s .nodes in
     let a = 53 + b * w in
@@ -74,7 +73,7 @@ chunk-says s bs b h =
     let c : getD (take w (drop a bs)) 1 0 ≡ getD bs (a + 1) 0 = getD-part w a bs 1 (omega arith) in
     let n : nodes-from (getD (take w (drop a bs)) 1 0) (drop 8 (take w (drop a bs))) ≡ nodes-from (getD bs (a + 1) 0) (drop (a + 8) bs) =
     ap (λ (k : ℕ). nodes-from k (drop 8 (take w (drop a bs)))) c ∙ nodes-part (getD bs (a + 1) 0) 8 w a bs (omega arith) in
-    λ i. record { level = ap (λ (z : Label). z .level) (sym e) i; first = ap (λ (z : Label). z .first) (sym e) i; number = ap (λ (z : Label). z .number) (sym e) i; nodes = n i }
+    λ i. record { label = sym e i; nodes = n i }
 
 pub level-says : (s : Sizes) (bs : List ℕ) (b : ℕ) → getD (block-in (block-long s) bs b) 0 0 ≡ label-in (block-long s) bs b .level
 unfolding head-label block-long
@@ -98,38 +97,25 @@ probe-at look m w pos (suc k) i p e = go (probe-at look m w pos k (suc i) p) (pa
         (subst (λ (z : ℕ). z < m) f (mod-lt i pos), subst (λ (z : ℕ). same-label (look z) w ≡ true) f q)
     go ih false false q h = absurd (true≢false cc)
 
-same-is : (a b : Label) → same-label a b ≡ true → a ≡ b
-unfolding same-label
-same-is a b e =
-    let p = and-parts (eqb (a .level) (b .level)) (eqb (a .first) (b .first) && eqb (a .number) (b .number)) e in
-    let q = and-parts (eqb (a .first) (b .first)) (eqb (a .number) (b .number)) (p .1) in
-    let x = eqb-true (a .level) (b .level) (p .0) in
-    let y = eqb-true (a .first) (b .first) (q .0) in
-    let z = eqb-true (a .number) (b .number) (q .1) in
-    λ i. record { level = x i; first = y i; number = z i }
-
 -- a chunk that stands in a block, where the search for its label ends
 pub record Standing (s : Sizes) (bs : List ℕ) (c : Chunk) : Type 0 where
   pub at : ℕ
   pub inside : at < s .blocks
-  pub search : search-in s bs (label-of (holds c)) ≡ At at
+  pub search : search-in s bs (c .label) ≡ At at
   pub is : getD (blocks-in s bs) at empty ≡ holds c
 
 pub standing : (s : Sizes) (bs : List ℕ) → 0 < s .blocks → (l f i : ℕ) (ns : List Order) → 0 < l → found-at (chunk-spot s bs l f i) ≡ true →
-    count-in (block-long s) bs (spot (chunk-spot s bs l f i)) ≤ s .nodes → chunk-read s bs (spot (chunk-spot s bs l f i)) ≡ ns → Standing s bs (record { level = l; first = f; number = i; nodes = ns })
-unfolding chunk-spot search-in found-at spot label-of block-of
+    count-in (block-long s) bs (spot (chunk-spot s bs l f i)) ≤ s .nodes → chunk-read s bs (spot (chunk-spot s bs l f i)) ≡ ns → Standing s bs (record { label = label l f i; nodes = ns })
+unfolding chunk-spot search-in found-at spot block-of
 standing s bs pos l f i ns h e few nodes = go (chunk-spot s bs l f i) refl e few nodes
   where
-    w : Label
-    w = record { level = l; first = f; number = i }
-
-    go : (r : Found) → chunk-spot s bs l f i ≡ r → found-at r ≡ true → count-in (block-long s) bs (spot r) ≤ s .nodes → chunk-read s bs (spot r) ≡ ns → Standing s bs (record { level = l; first = f; number = i; nodes = ns })
+    go : (r : Found) → chunk-spot s bs l f i ≡ r → found-at r ≡ true → count-in (block-long s) bs (spot r) ≤ s .nodes → chunk-read s bs (spot r) ≡ ns → Standing s bs (record { label = label l f i; nodes = ns })
     go Nothing q t few n = absurd (false≢true t)
     go (At p) q t few n =
-        let v = probe-at (label-in (block-long s) bs) (s .blocks) w pos (s .blocks) (home-of s w) p q in
-        let z = same-is (label-in (block-long s) bs p) w (v .1) in
+        let v = probe-at (label-in (block-long s) bs) (s .blocks) (label l f i) pos (s .blocks) (home s (label l f i)) p q in
+        let z = same-is (label-in (block-long s) bs p) (label l f i) (v .1) in
         let lev : getD (block-in (block-long s) bs p) 0 0 ≡ l = level-says s bs p ∙ ap (λ (x : Label). x .level) z in
         let b : block-of (block-in (block-long s) bs p) ≡ holds (chunk-of (block-in (block-long s) bs p)) = rw (ne-eqb (getD (block-in (block-long s) bs p) 0 0) 0 (λ y. omega (arith, y, lev))) in
-        let c : chunk-of (block-in (block-long s) bs p) ≡ record { level = l; first = f; number = i; nodes = ns } =
-        chunk-says s bs p few ∙ (λ j. record { level = z j .level; first = z j .first; number = z j .number; nodes = n j }) in
+        let c : chunk-of (block-in (block-long s) bs p) ≡ record { label = label l f i; nodes = ns } =
+        chunk-says s bs p few ∙ (λ j. record { label = z j; nodes = n j }) in
         record { at = p; inside = v .0; search = q; is = block-at s bs p (v .0) ∙ b ∙ ap holds c }

@@ -13,7 +13,8 @@ use Rattle.sizes.specs.Sizes.{least-power, beta}
 use Rattle.sizes.specs.Numbers.{field}
 use Rattle.sizes.specs.Hash.{hash-from}
 use Rattle.sizes.specs.Header.{block-long}
-use Rattle.placement.specs.Place.{Shaped, label-in, home-of, search-in, found-at}
+use Rattle.placement.specs.Labels.{home}
+use Rattle.placement.specs.Place.{Shaped, label-in, search-in, found-at}
 use Rattle.sizes.specs.declared.Sizes.{Sizes}
 use Rattle.placement.specs.declared.Order.{Order}
 use Rattle.placement.specs.declared.Found.{Found}
@@ -208,7 +209,7 @@ higher-nodes s bs l f n a o y y′ v z e ev ey = e ∙ ev ∙ ap (nodes-by (open
 
 -- a partition whose search starts at an empty block has no chunk
 opens-empty : (s : Sizes) (bs : List ℕ) (l f : ℕ) (x : Seen) → Shaped s bs → 1 ≤ l → (t : Bool)
-    → t ≡ eqb (label-in (block-long s) bs (home-of s (record { level = l; first = f; number = 0 })) .level) 0 → t ≡ true → opens-of s bs l f x ≡ wrong-seen
+    → t ≡ eqb (label-in (block-long s) bs (home s (record { level = l; first = f; number = 0 })) .level) 0 → t ≡ true → opens-of s bs l f x ≡ wrong-seen
 unfolding chunk-spot ended-seen
 opens-empty s bs l f x h lo t et e =
     let none = search-none s bs (record { level = l; first = f; number = 0 }) h lo (sym et ∙ e) in
@@ -216,7 +217,7 @@ opens-empty s bs l f x h lo t et e =
 
 -- .. so the walk that comes to it ends wrong; k is the key of the node that opens it
 pub ahead : (s : Sizes) (bs : List ℕ) (l a : ℕ) (x : Seen) → Shaped s bs → 1 ≤ l → (k : ℕ) → k ≡ field a 4 bs → (t : Bool)
-    → t ≡ eqb (label-in (block-long s) bs (home-of s (record { level = l; first = k; number = 0 })) .level) 0 → t ≡ true → opens-of s bs l (node-of bs a .key) x ≡ wrong-seen
+    → t ≡ eqb (label-in (block-long s) bs (home s (record { level = l; first = k; number = 0 })) .level) 0 → t ≡ true → opens-of s bs l (node-of bs a .key) x ≡ wrong-seen
 ahead s bs l a x h lo k ek t et e = ap (λ (i : ℕ). opens-of s bs l i x) (sym (node-key bs a k ek)) ∙ opens-empty s bs l k x h lo t et e
 
 -- THE HASH of the next node's key, which the loop over nodes has at hand

@@ -12,8 +12,9 @@ use Rattle.sizes.specs.Sizes.{least-power, beta, sizes-good, seed-good, made}
 use Rattle.sizes.specs.Hash.{hash-from, h, g, divides-from, level}
 use Rattle.sizes.specs.Header.{block-long, table-long, header, sizes-in, held-in, rule-1}
 use Rattle.placement.specs.Blocks.{around, stored, place-from, placed}
-use Rattle.placement.specs.Chunks.{home, node-bytes, block-bytes}
-use Rattle.placement.specs.Decode.{node-in, chunk-of, block-of, blocks-in}
+use Rattle.placement.specs.Labels.{home}
+use Rattle.placement.specs.Chunks.{node-bytes, block-bytes}
+use Rattle.placement.specs.Decode.{node-in, head-label, chunk-of, block-of, blocks-in}
 use Rattle.sizes.specs.declared.Sizes.{Sizes}
 use Rattle.placement.specs.declared.Order.{Order}
 use Rattle.sizes.proofs.Laws.Sizes.{and-parts, limits}
@@ -194,7 +195,7 @@ record Computed : Type 0 where
   seeks : refusal (seek 1 9 80) with-both ≡ 0
 
 computed : Computed
-unfolding big value-from field rows rows-in least-power beta sizes-good seed-good made hash-from h g divides-from level block-long table-long header sizes-in held-in rule-1 around stored place-from placed home node-bytes block-bytes node-in chunk-of block-of blocks-in front at-least list-at starts-one run rest partitions first-key masked chunks-of all-chunks chunks-from chunks blocks image into all-into gathered orders-in quantities-good orders-good fits same is-image first-no is-key held without with-order between reserve any-reserve asks-image asks-put asks-key asks-range asks-span asks-seek asks changed refusal done run-seed run-sizes empty-table put-3 put-6 with-6 with-both
+unfolding big value-from field rows rows-in least-power beta sizes-good seed-good made hash-from h g divides-from level block-long table-long header sizes-in held-in rule-1 around stored place-from placed home node-bytes block-bytes node-in head-label chunk-of block-of blocks-in front at-least list-at starts-one run rest partitions first-key masked chunks-of all-chunks chunks-from chunks blocks image into all-into gathered orders-in quantities-good orders-good fits same is-image first-no is-key held without with-order between reserve any-reserve asks-image asks-put asks-key asks-range asks-span asks-seek asks changed refusal done run-seed run-sizes empty-table put-3 put-6 with-6 with-both
 computed = record { six = refl; three = refl; not-yet = refl; cancels = refl; allowed = refl; spans = refl; finds = refl; seeks = refl }
 
 -- a put that edits properly once and later only returns 0, or returns whatever it likes

@@ -1,6 +1,6 @@
 -- `placement::before` meets its contract: each need follows from the laws listed.
 use borrow.Author.Needs.{needs}
-use Rattle.placement.proofs.Laws.Order.{before-level, before-first, before-number}
+use Rattle.placement.proofs.Laws.Labels.{before-level, before-first, before-number}
 use Rattle.placement.proofs.labels.before.Statement.{statement}
 use Rattle.placement.proofs.labels.before.Tie as tie
 

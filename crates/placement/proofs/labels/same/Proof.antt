@@ -1,5 +1,5 @@
 use borrow.Author.Tests.{eq-eqb, ne-eqb}
-use Rattle.placement.specs.Place.{same-label}
+use Rattle.placement.specs.Labels.{same-label}
 use Rattle.placement.proofs.labels.same.Statement.{statement}
 use Rattle.placement.proofs.labels.same.Tie as tie
 
