@@ -103,7 +103,7 @@ PEER_FLAGS = -O3 -march=native
 PEERS = build/peers/release/libpeers.a
 BENCH_C = $(addprefix bench/,bench.c timing.c scene.c report.c archive.c plain.c sqlite.c lmdb.c)
 BENCH_H = $(wildcard bench/*.h bench/peers/*.h bench/rust/*.h) include/balluchaw.h
-.PHONY: bench-need bench-build bench-smoke bench-count
+.PHONY: bench-need bench-build bench-smoke bench-count bench-worst
 
 # With what the other tests need, so that whatever is missing is said at once.
 bench-need:
@@ -112,7 +112,7 @@ bench-need:
 bench-build: bench-need archive
 	@mkdir -p build bench/results
 	@CARGO_TARGET_DIR=build/peers cargo build --quiet --release --offline --manifest-path bench/rust/Cargo.toml
-	@$(MAKE) --no-print-directory build/bench build/stack
+	@$(MAKE) --no-print-directory build/bench build/stack build/worst
 
 build/check.o: bench/peers/check.c $(BENCH_H)
 	$(PEER_CC) $(PEER_FLAGS) -c $< -o $@
@@ -143,10 +143,22 @@ bench-count: bench-build
 	@valgrind --quiet --tool=callgrind --instr-atstart=no --callgrind-out-file=build/dumps/out build/count
 	@python3 bench/count.py build/dumps | tee bench/results/instructions.txt
 
-# One small table, three rounds: are all answers right, and the bytes as before after a cancel and a put?
+# The calls on tables that were made to be slow; one call each, some two minutes in all.
+build/worst: bench/worst.c bench/peers/common.h include/balluchaw.h $(ARCHIVE)
+	@mkdir -p build
+	$(CC) $(CFLAGS) -Iinclude -Ibench bench/worst.c $(ARCHIVE) -o $@
+
+bench-worst: need archive
+	@$(MAKE) --no-print-directory build/worst
+	@build/worst > build/worst.out && cat build/worst.out && cp build/worst.out bench/results/worst.txt
+
+# One small table, three rounds: are all answers right, and the bytes as before after a cancel and a put? Are the slow tables tables, and are README's figures
+# those of the results?
 bench-smoke: bench-build
 	@$(IN_SCRATCH) && { build/bench $$scratch > build/bench-smoke.out || { cat build/bench-smoke.out; exit 1; }; }
 	@tail -n 1 build/bench-smoke.out
+	@build/worst 4096 > build/worst-smoke.out && echo "slow tables: $$(tail -n +3 build/worst-smoke.out | wc -l) are tables, and a put into each gives its bytes"
+	@python3 bench/table.py bench/results README.md
 	@bench/undefined $(ARCHIVE)
 
 # The kit: what a gateway's programmer needs. uninstall takes away exactly what install puts in place.

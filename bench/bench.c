@@ -4,7 +4,7 @@
  *     bench SCRATCH              one small configuration, few rounds, more questions about the answers; writes nothing
  *
  * Checks are in ns for each order held, other calls in µs; medians of the rounds and the best. A put of the archive leaves canonical bytes and checks the
- * table first. The others' puts are followed by what makes their bytes canonical; where they check first, it is said. */
+ * table first. The others' puts are followed by what makes their bytes canonical, unless they are said to be alone; where they check first, it is said. */
 #include "balluchaw.h"
 #include "report.h"
 #include "rust/peers.h"
@@ -78,6 +78,8 @@ static const variant other_calls[] = {
     {"put", "SQLite integrity_check + VACUUM INTO", sqlite_put_checked, sqlite_away, sqlite_back, 1, 1, {0}},
     {"put", "SQLite WITHOUT ROWID integrity_check + VACUUM INTO", clustered_put_checked, sqlite_away, sqlite_back, 1, 1, {0}},
     {"put", "LMDB + sorted copy", lmdb_put, lmdb_away, 0, 1, 1, {0}},
+    {"put", "SQLite alone", sqlite_put_alone, sqlite_away, sqlite_back, 1, FEW, {0}},
+    {"put", "LMDB alone", lmdb_put_alone, lmdb_away, 0, 1, FEW, {0}},
 };
 
 static int often(int wanted, uint32_t held) {
@@ -103,7 +105,7 @@ static void measure_checks(scene *s, int rounds) {
     report_keep(variants, count, take_turns(variants, count, s, CHECK_SECONDS, rounds), 0);
 }
 
-/* What each call takes beyond the check: the two of them alone, in turns, in many more rounds; so nothing else comes between and throws them out of the cache. */
+/* What each call takes beyond the check: the two of them alone, in turns, in many more rounds; so nothing else comes between and fills the cache. */
 static void measure_beyond(const variant *check, scene *s, int rounds) {
     for (const variant *v = check + 1; strcmp(v->who, check->who) == 0; v++) {
         variant pair[2] = {*check, *v};

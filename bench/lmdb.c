@@ -140,6 +140,9 @@ int lmdb_put(void *p) {
     return rebuild() != s->of.held;
 }
 
+/* A put that fails ends the program. */
+int lmdb_put_alone(void *p) { return put_picked(p), 0; }
+
 int lmdb_cancel(void *p) {
     const scene *s = p;
     cancel_picked(s);

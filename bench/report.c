@@ -8,7 +8,7 @@
 enum { MOST_ROWS = 1000, MOST_SCENES = 40 };
 
 typedef struct {
-    int scene, rounds, is_beyond;
+    int scene, rounds, is_beyond, beyond_rounds;
     const char *operation, *who, *unit;
     double median, best;  /* in the unit */
     double ours;          /* the archive's time for each of its own, the median of the rounds */
@@ -38,6 +38,7 @@ void report_keep(const variant *variants, int count, int rounds, int beyond) {
         rows[row_count++] = (row){.scene = scene_count - 1,
                                   .rounds = rounds,
                                   .is_beyond = beyond && v == first,
+                                  .beyond_rounds = rounds,
                                   .operation = v->operation,
                                   .who = v->who,
                                   .unit = beyond ? "us" : "ns/order",
@@ -55,6 +56,7 @@ void report_beyond(const variant *pair, int rounds) {
         if (r->scene != scene_count - 1 || !r->is_beyond || strcmp(r->operation, pair[1].operation) != 0) continue;
         r->beyond = difference(pair + 1, pair, rounds) / 1000;
         r->noise = noise(pair + 1, pair, rounds) / 1000;
+        r->beyond_rounds = rounds;
     }
 }
 
@@ -65,7 +67,7 @@ static void print_scene(FILE *to, const scene *s) {
 
 static void print_row(FILE *to, const row *r) {
     fprintf(to, "    %-50s %12.2f %12.2f %10.3f", r->who, r->median, r->best, r->ours);
-    if (r->is_beyond) fprintf(to, "   %.2f us beyond the check, +- %.2f", r->beyond, r->noise);
+    if (r->is_beyond) fprintf(to, "   %.2f us beyond the check, +- %.2f, %d rounds", r->beyond, r->noise, r->beyond_rounds);
     fprintf(to, "\n");
 }
 
@@ -146,6 +148,8 @@ static void print_all_times(FILE *to) {
         print_times(to, operation, "SQLite WITHOUT ROWID + VACUUM INTO", "");
         print_times(to, operation, "SQLite + VACUUM INTO", "");
         print_times(to, operation, "LMDB + sorted copy", "");
+        if (k == 0) print_times(to, operation, "SQLite alone", "");
+        if (k == 0) print_times(to, operation, "LMDB alone", "");
         print_times(to, operation, "BTreeMap + all its bytes", "");
         print_times(to, operation, "reference", "");
     }
@@ -163,11 +167,12 @@ static void print_csv_row(FILE *to, const row *r) {
     const scene *s = &scenes[r->scene];
     fprintf(to, "%s,%u,%u,%u,%u,%u,%zu,%s,%s,%s,%d,%.4f,%.4f,%.4f,", s->of.title, s->of.gamma, s->of.nodes, s->of.held, s->blocks, s->full, s->length,
             r->operation, r->who, r->unit, r->rounds, r->median, r->best, r->ours);
-    if (r->is_beyond) fprintf(to, "%.4f,%.4f\n", r->beyond, r->noise);
-    else fprintf(to, ",\n");
+    if (r->is_beyond) fprintf(to, "%.4f,%.4f,%d\n", r->beyond, r->noise, r->beyond_rounds);
+    else fprintf(to, ",,\n");
 }
 
 void report_csv(FILE *to) {
-    fprintf(to, "configuration,gamma,nodes,orders,blocks,chunks,bytes,operation,who,unit,rounds,median,best,ours_over_it,us_beyond_check,noise_us\n");
+    fprintf(to, "configuration,gamma,nodes,orders,blocks,chunks,bytes,operation,who,unit,rounds,median,best,ours_over_it,");
+    fprintf(to, "us_beyond_check,noise_us,beyond_rounds\n");
     for (int i = 0; i < row_count; i++) print_csv_row(to, rows + i);
 }

@@ -107,6 +107,7 @@ static int delete_and_vacuum(const base *b, const scene *s) { return take_out(b,
 
 int sqlite_check(void *p) { return (void)p, check(&bases[ORDINARY]); }
 int sqlite_put(void *p) { return put_and_vacuum(&bases[ORDINARY], p); }
+int sqlite_put_alone(void *p) { return put(&bases[ORDINARY], p); }
 int sqlite_cancel(void *p) { return delete_and_vacuum(&bases[ORDINARY], p); }
 int sqlite_put_checked(void *p) { return sqlite_check(p) | sqlite_put(p); }
 int sqlite_cancel_checked(void *p) { return sqlite_check(p) | sqlite_cancel(p); }

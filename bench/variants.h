@@ -14,15 +14,15 @@ int plain_check(void *p), plain_lookup(void *p), plain_span(void *p), plain_put(
 int map_lookup(void *p), map_span(void *p), map_put(void *p), map_cancel(void *p);
 void map_open(const scene *s), map_close(void), map_away(void *p), map_back(void *p);
 
-/* sqlite.c: a change is followed by VACUUM INTO; *_checked has an integrity_check before it; clustered_*: a table WITHOUT ROWID */
+/* sqlite.c: a change is followed by VACUUM INTO, but for *_alone; *_checked has an integrity_check before it; clustered_*: a table WITHOUT ROWID */
 int sqlite_check(void *p), sqlite_lookup(void *p), sqlite_span(void *p), sqlite_put(void *p), sqlite_cancel(void *p);
 int sqlite_put_checked(void *p), sqlite_cancel_checked(void *p), clustered_check(void *p), clustered_put(void *p), clustered_cancel(void *p);
-int clustered_put_checked(void *p), clustered_cancel_checked(void *p);
+int clustered_put_checked(void *p), clustered_cancel_checked(void *p), sqlite_put_alone(void *p);
 void sqlite_open(const scene *s), sqlite_close_all(void), sqlite_away(void *p), sqlite_back(void *p), sqlite_pick(void *p);
 const char *sqlite_name(void);
 
-/* lmdb.c: a change is followed by a copy of all orders, rising, into a new file */
-int lmdb_lookup(void *p), lmdb_span(void *p), lmdb_put(void *p), lmdb_cancel(void *p);
+/* lmdb.c: a change is followed by a copy of all orders, rising, into a new file, but for *_alone */
+int lmdb_lookup(void *p), lmdb_span(void *p), lmdb_put(void *p), lmdb_cancel(void *p), lmdb_put_alone(void *p);
 void lmdb_open(const scene *s), lmdb_close(void), lmdb_away(void *p), lmdb_back(void *p), lmdb_pick(void *p);
 const char *lmdb_name(void);
 

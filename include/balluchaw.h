@@ -4,6 +4,10 @@
  * buffers that it is lent. A pointer may be NULL where its length is 0. A buffer that a call writes must not overlap another buffer of the
  * same call, and nobody else may write a buffer while a call runs. Keys are order numbers.
  *
+ * Every call but make first reads the whole table, for question 4. Under a random seed that those who choose keys do not know, and with blocks to
+ * spare, that takes time in proportion to the table's length. Whoever sends a table can choose seed and keys to make it slow: M blocks are then
+ * looked at up to about M * M times, which is seconds for 65,535. balluchaw(3), NOTES, says what a receiver can do.
+ *
  * Each call answers the number of the first question that turns it down, or 0. On a refusal no lent byte changes and all other parts of the
  * answer are 0.
  *
