@@ -18,11 +18,19 @@ unfoldable pub zeros-from : List ℕ → (left at : ℕ) → Bool
 zeros-from bs zero a = true
 zeros-from bs (suc k) a = eqb (getD bs a 0) 0 && zeros-from bs k (suc a)
 
--- which bytes of a block are looked at: from place 392 - u on it leaves out u bytes and has the others
+-- .. of a block at a place, from its byte j up to w: those that come after the u used ones
+unfoldable pub zeros-past : List ℕ → (at w u j : ℕ) → Bool
+zeros-past bs at w u j = zeros-from bs (w - (j + (u - j))) (at + (j + (u - j)))
+
+-- the bytes of the longest block: a head and 32 nodes
+abbrev pub longest : ℕ
+longest = 392
+
+-- which bytes of a block are looked at: with u of the zeros in front it leaves out u bytes and has the others
 pub record Mask (ms : List ℕ) : Type 0 where
-  pub long : length ms ≡ 784
-  pub leaves : (k : ℕ) → k < 392 → getD ms k 0 ≡ 0
-  pub has : (k : ℕ) → 392 ≤ k → k < 784 → getD ms k 0 ≡ 255
+  pub long : length ms ≡ 2 * longest
+  pub leaves : (k : ℕ) → k < longest → getD ms k 0 ≡ 0
+  pub has : (k : ℕ) → longest ≤ k → k < 2 * longest → getD ms k 0 ≡ 255
 
 -- where the unused bytes of a block start: at once in an empty one
 unfoldable pub used-of : (level n : ℕ) → ℕ

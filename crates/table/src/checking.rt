@@ -7,10 +7,10 @@ use crate::Tally;
 use crate::sweep::finished;
 use crate::sweep::sweep;
 use crate::walk::walk_partition;
-use sizes::hash::highest;
+use sizes::hash::hash;
+use sizes::hash::reckon;
 use sizes::header::Header;
 use sizes::header::rule_one;
-use sizes::numbers::over;
 
 // Do the bytes pass rule 1, the pass over the blocks and the walk? Where they do, how many blocks are full.
 fn passes(table: &[u8]) -> Tally
@@ -23,29 +23,18 @@ fn passes(table: &[u8]) -> Tally
         };
     }
     let h = Header::read(table);
-    let s = h.sizes;
-    let t = sweep(table, s);
+    let q = reckon(h.sizes);
+    let t = sweep(table, q.sizes);
     if !t.clean {
         return t;
     }
-    let top = highest(s);
     let x = Seen {
         ok: true,
         low: 0,
         orders: h.held + 1,
         chunks: t.full,
     };
-    let clean = finished(walk_partition(
-        table,
-        s,
-        over(s.gamma),
-        over(s.blocks),
-        top,
-        top,
-        0,
-        sizes::hash::hash(s, 5, 0),
-        x,
-    ));
+    let clean = finished(walk_partition(table, q, q.top, 0, hash(q.sizes, 5, 0), x));
     Tally {
         clean: clean,
         full: t.full,

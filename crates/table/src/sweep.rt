@@ -4,15 +4,24 @@ ghost use mathlib.Core.Bool.{Bool, cond};
 ghost use Prim.Native.Nat.{ℕ, _+_, _-_, _<_, _≤_};
 ghost use lib.ListN.{length};
 ghost use Rattle.placement.specs.Place.{Shaped};
-ghost use Rattle.table.specs.Check.{Mask, zeros-from, used-of, more-of, swept, ended};
+ghost use Rattle.table.specs.Check.{longest, Mask, zeros-past, used-of, more-of, swept, ended};
 use crate::Seen;
 use crate::Tally;
 use sizes::Sizes;
 
+// The bytes of the longest block: a head and 32 nodes.
+const LONGEST: usize = 392;
+
+// The bytes of the mask: twice as many.
+const MASK: usize = 2 * LONGEST;
+
+// The bytes of a piece of a block: a head and sixteen nodes. Their number is known when this is compiled, so a piece is looked at without a loop.
+const PIECE: usize = 200;
+
 // Where the unused bytes of a block start: at once in an empty one.
 fn used(level: u32, n: u32) -> usize
     requires { ⌜ n < 256 ⌝ }
-    ensures { λ r. ⌜ (r ≡ used-of level n) × (r ≤ 3068) ⌝ }
+    ensures { λ r. ⌜ r ≡ used-of level n ⌝ }
 {
     if level == 0 {
         return 0;
@@ -31,39 +40,39 @@ fn more(full: u32, level: u32) -> u32
     full + 1
 }
 
-// For each place whether it is looked at: 392 zeros, as many as a block has bytes at most, then 392 times 255.
-fn mask() -> [u8; 784]
+// For each place whether it is looked at: zeros, as many as a block has bytes at most, then as many times 255.
+fn mask() -> [u8; MASK]
     ensures { λ r. ⌜ Mask r ⌝ }
 {
-    let mut m = [0u8; 784];
-    let mut j: usize = 392;
-    while j < 784 {
+    let mut m = [0u8; MASK];
+    let mut j: usize = LONGEST;
+    while j < MASK {
         m[j] = 255;
         j += 1;
     }
     m
 }
 
-// Whether the bytes of a block are zero but for so many that are used. The mask leaves those out: the same steps are taken for every block, so that
-// many bytes are looked at at once and no jump depends on how many are used.
-fn zeros(table: &[u8], at: usize, long: usize, used: usize, mask: &[u8]) -> bool
-    requires { ⌜ (at + long ≤ length (now table)) × (long ≤ 392) × Mask (now mask) ⌝ }
-    ensures { λ r. ⌜ r ≡ zeros-from (now (table .entry)) (long - used) (at + used) ⌝ }
+// Whether the bytes of a block, from one on and up to an end, are zero but for the used ones. The mask leaves those out: the same steps are taken wherever
+// some are unused, so that many bytes are looked at at once and no jump depends on how many.
+fn zeros(table: &[u8], at: usize, from: usize, end: usize, used: usize, mask: &[u8]) -> bool
+    requires { ⌜ (at + end ≤ length (now table)) × (end ≤ longest) × Mask (now mask) ⌝ }
+    ensures { λ r. ⌜ r ≡ zeros-past (now (table .entry)) at end used from ⌝ }
 {
-    if long <= used {
+    if end <= used {
         return true;
     }
-    let off = 392 - used;
+    let off = LONGEST - used;
     let mut any: u8 = 0;
-    let mut j: usize = 0;
-    while j < long {
+    let mut j = from;
+    while j < end {
         any = any | (table[at + j] & mask[off + j]);
         j += 1;
     }
     any == 0
 }
 
-// Whether all unused bytes are zero, and how many blocks are not empty.
+// Whether all unused bytes are zero, and how many blocks are not empty. A block is looked at piece by piece; what is left behind the last comes after them.
 pub fn sweep(table: &[u8], s: Sizes) -> Tally
     requires { ⌜ Shaped s (now table) ⌝ }
     ensures { λ r. ⌜ r ≡ swept s (now (table .entry)) ⌝ }
@@ -74,11 +83,20 @@ pub fn sweep(table: &[u8], s: Sizes) -> Tally
     let mut clean = true;
     let mut full: u32 = 0;
     let mut i: u32 = 0;
-    while i < m {
+    'blocks: while i < m {
         let at = placement::labels::offset(s, i);
         let level = sizes::numbers::wide(table[at]);
         let n = sizes::numbers::wide(table[at + 1]);
-        if !zeros(table, at, long, used(level, n), &looked) {
+        let u = used(level, n);
+        let mut j: usize = 0;
+        while j + PIECE <= long {
+            if !zeros(table, at, j, j + PIECE, u, &looked) {
+                clean = false;
+                break 'blocks;
+            }
+            j += PIECE;
+        }
+        if !zeros(table, at, j, long, u, &looked) {
             clean = false;
             break;
         }

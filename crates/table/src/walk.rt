@@ -3,15 +3,18 @@ ghost use mathlib.Core.Path.{_≡_};
 ghost use mathlib.Core.Bool.{true};
 ghost use Prim.Native.Nat.{_+_, _*_, _-_, _<_, _≤_};
 ghost use lib.ListN.{length};
-ghost use Rattle.sizes.specs.Sizes.{beta, seed-good};
+ghost use Rattle.sizes.specs.Sizes.{seed-good};
 ghost use Rattle.sizes.specs.Hash.{hash-from};
-ghost use Rattle.sizes.specs.Numbers.{over};
-ghost use Rattle.table.specs.Walk.{Walkable, node-of, wrong-seen, nothing-in, quantities-ok, belongs-in, enters-ok, entered-seen, ended-seen, stops-at, nodes-by, heads-ok, follows-ok, orders-by, passed-by, Lowest, chunk-spot, opens-of};
+ghost use Rattle.sizes.specs.Geometry.{Reckoned};
+ghost use Rattle.table.specs.Walk.{Walkable, node-of, wrong-seen, nothing-in, quantities-ok, node-good, enters-ok, entered-seen, ended-seen, stops-at, nodes-by, heads-ok, follows-ok, orders-by, passed-by, Lowest, chunk-spot, empty-home, opens-of};
 use crate::Seen;
 use placement::Found;
 use placement::Label;
 use placement::Order;
-use sizes::Sizes;
+use sizes::Geometry;
+
+// p: keys are below it.
+const PRIME: u32 = 2147483647;
 
 // The walk of a table that is no image.
 fn wrong() -> Seen
@@ -65,18 +68,24 @@ fn quantities(level: u32, n: Order) -> bool
     n.displayed <= n.total
 }
 
-// A node's key: the first of a partition is known, any other has exactly the level of its list. `ratio` is 2^32 over gamma, rounded up.
-fn belongs(s: Sizes, ratio: u64, top: u32, level: u32, first: u32, opens: bool, key: u32) -> bool
-    requires { ⌜ (seed-good (s .seed) ≡ true) × (0 < s .gamma) × (ratio ≡ over (s .gamma)) × (top ≡ beta s) × (1 ≤ level) × (level ≤ top) ⌝ }
-    ensures { λ r. ⌜ r ≡ belongs-in s level first opens key ⌝ }
+// May a node come by? The first key of a partition is known, any other has exactly the level of its list.
+fn comes_by(q: Geometry, level: u32, first: u32, opens: bool, n: Order, x: Seen) -> bool
+    requires { ⌜ (seed-good (q .sizes .seed) ≡ true) × (0 < q .sizes .gamma) × Reckoned q × (1 ≤ level) × (level ≤ q .top) ⌝ }
+    ensures { λ r. ⌜ r ≡ node-good (q .sizes) level first opens n x ⌝ }
 {
-    if opens {
-        return key == first;
-    }
-    if key == 0 {
+    if !x.ok {
         return false;
     }
-    sizes::hash::has_level(s, ratio, top, level, key)
+    if !quantities(level, n) {
+        return false;
+    }
+    if opens {
+        return n.key == first;
+    }
+    if n.key == 0 {
+        return false;
+    }
+    sizes::hash::has_level(q.sizes, q.ratio, q.top, level, n.key)
 }
 
 // A chunk of so many nodes may come next.
@@ -138,24 +147,24 @@ fn heads(first: u32, low: u32, n: Order) -> bool
     if n.key < low {
         return false;
     }
-    if 2147483647 <= n.key {
+    if PRIME <= n.key {
         return false;
     }
     quantities(1, n)
 }
 
 // May another node come by, an order of level 1?
-fn follows(s: Sizes, ratio: u64, low: u32, n: Order) -> bool
-    requires { ⌜ (seed-good (s .seed) ≡ true) × (0 < s .gamma) × (ratio ≡ over (s .gamma)) × (1 ≤ low) ⌝ }
-    ensures { λ r. ⌜ r ≡ follows-ok s low n ⌝ }
+fn follows(q: Geometry, low: u32, n: Order) -> bool
+    requires { ⌜ (seed-good (q .sizes .seed) ≡ true) × (0 < q .sizes .gamma) × Reckoned q × (1 ≤ low) ⌝ }
+    ensures { λ r. ⌜ r ≡ follows-ok (q .sizes) low n ⌝ }
 {
     if n.key < low {
         return false;
     }
-    if 2147483647 <= n.key {
+    if PRIME <= n.key {
         return false;
     }
-    if !sizes::hash::is_lowest(s, ratio, n.key) {
+    if !sizes::hash::is_lowest(q.sizes, q.ratio, n.key) {
         return false;
     }
     if n.total < 1 {
@@ -165,16 +174,16 @@ fn follows(s: Sizes, ratio: u64, low: u32, n: Order) -> bool
 }
 
 // The nodes of a level 1 chunk but the first of its partition: what the next key is at least, or 0 if one may not come by.
-fn walk_orders(table: &[u8], s: Sizes, ratio: u64, at: usize, left: u32, low: u32) -> u32
-    requires { ⌜ Walkable s (now table) × (ratio ≡ over (s .gamma)) × (at + 12 * left ≤ length (now table)) × (1 ≤ low) ⌝ }
-    ensures { λ r. ⌜ r ≡ orders-by s (now (table .entry)) left at low ⌝ }
+fn walk_orders(table: &[u8], q: Geometry, at: usize, left: u32, low: u32) -> u32
+    requires { ⌜ Walkable (q .sizes) (now table) × Reckoned q × (at + 12 * left ≤ length (now table)) × (1 ≤ low) ⌝ }
+    ensures { λ r. ⌜ r ≡ orders-by (q .sizes) (now (table .entry)) left at low ⌝ }
 {
     let mut y = low;
     let mut place = at;
     let mut k = left;
     while 0 < k {
         let n = node_of(table, place);
-        if !follows(s, ratio, y, n) {
+        if !follows(q, y, n) {
             return 0;
         }
         y = n.key + 1;
@@ -187,16 +196,15 @@ fn walk_orders(table: &[u8], s: Sizes, ratio: u64, at: usize, left: u32, low: u3
 // The nodes of a level 1 chunk, likewise.
 fn walk_lowest(
     table: &[u8],
-    s: Sizes,
-    ratio: u64,
+    q: Geometry,
     first: u32,
     opens: bool,
     at: usize,
     left: u32,
     x: Seen,
 ) -> u32
-    requires { ⌜ Walkable s (now table) × (ratio ≡ over (s .gamma)) × (at + 12 * left ≤ length (now table)) × (1 ≤ left) × (x .ok ≡ true) ⌝ }
-    ensures { λ r. ⌜ Lowest s (now (table .entry)) first left at opens x r ⌝ }
+    requires { ⌜ Walkable (q .sizes) (now table) × Reckoned q × (at + 12 * left ≤ length (now table)) × (1 ≤ left) × (x .ok ≡ true) ⌝ }
+    ensures { λ r. ⌜ Lowest (q .sizes) (now (table .entry)) first left at opens x r ⌝ }
 {
     if x.orders < left {
         return 0;
@@ -216,7 +224,7 @@ fn walk_lowest(
     if low == 0 {
         low = 1;
     }
-    walk_orders(table, s, ratio, place, k, low)
+    walk_orders(table, q, place, k, low)
 }
 
 // A level 1 chunk has come by.
@@ -233,14 +241,14 @@ fn passed(n: u32, low: u32, x: Seen) -> Seen
 }
 
 // The block of a chunk; `g` is the hash g of its first key.
-fn chunk(table: &[u8], s: Sizes, round: u64, level: u32, first: u32, g: u32, number: u32) -> Found
-    requires { ⌜ Walkable s (now table) × (round ≡ over (s .blocks)) × (level ≤ 19) × (g ≡ hash-from 5 5 (s .seed) first) × (number ≤ 65535) ⌝ }
-    ensures { λ r. ⌜ r ≡ chunk-spot s (now (table .entry)) level first number ⌝ }
+fn chunk(table: &[u8], q: Geometry, level: u32, first: u32, g: u32, number: u32) -> Found
+    requires { ⌜ Walkable (q .sizes) (now table) × Reckoned q × (level ≤ 19) × (g ≡ hash-from 5 5 (q .sizes .seed) first) × (number ≤ 65535) ⌝ }
+    ensures { λ r. ⌜ r ≡ chunk-spot (q .sizes) (now (table .entry)) level first number ⌝ }
 {
     placement::search::find_over(
         table,
-        s,
-        round,
+        q.sizes,
+        q.round,
         g,
         Label {
             level: level,
@@ -250,54 +258,51 @@ fn chunk(table: &[u8], s: Sizes, round: u64, level: u32, first: u32, g: u32, num
     )
 }
 
+// Does the search for a partition's first chunk start at an empty block, so that it has none? `g` is the hash g of its first key.
+fn absent(table: &[u8], q: Geometry, level: u32, first: u32, g: u32) -> bool
+    requires { ⌜ Walkable (q .sizes) (now table) × Reckoned q × (level ≤ 19) × (g ≡ hash-from 5 5 (q .sizes .seed) first) ⌝ }
+    ensures { λ r. ⌜ r ≡ empty-home (q .sizes) (now (table .entry)) level first ⌝ }
+{
+    placement::search::ends_at_once(
+        table,
+        q.sizes,
+        q.round,
+        g,
+        Label {
+            level: level,
+            first: first,
+            number: 0,
+        },
+    )
+}
+
 // A partition: its chunks, one after the other, a next one only behind a full one. `g` is the hash g of its first key.
-pub fn walk_partition(
-    table: &[u8],
-    s: Sizes,
-    ratio: u64,
-    round: u64,
-    top: u32,
-    level: u32,
-    first: u32,
-    g: u32,
-    x: Seen,
-) -> Seen
-    requires { ⌜ Walkable s (now table) × (ratio ≡ over (s .gamma)) × (round ≡ over (s .blocks)) × (top ≡ beta s) × (1 ≤ level) × (level ≤ top) × (g ≡ hash-from 5 5 (s .seed) first) ⌝ }
-    ensures { λ r. ⌜ r ≡ opens-of s (now (table .entry)) level first x ⌝ }
+pub fn walk_partition(table: &[u8], q: Geometry, level: u32, first: u32, g: u32, x: Seen) -> Seen
+    requires { ⌜ Walkable (q .sizes) (now table) × Reckoned q × (1 ≤ level) × (level ≤ q .top) × (g ≡ hash-from 5 5 (q .sizes .seed) first) ⌝ }
+    ensures { λ r. ⌜ r ≡ opens-of (q .sizes) (now (table .entry)) level first x ⌝ }
 {
     let mut seen = x;
     let mut number: u32 = 0;
-    while number < s.blocks {
-        let Found::At(i) = chunk(table, s, round, level, first, g, number) else {
+    while number < q.sizes.blocks {
+        let Found::At(i) = chunk(table, q, level, first, g, number) else {
             return ended(number, seen);
         };
-        let at = placement::labels::offset(s, i);
+        let at = placement::labels::offset(q.sizes, i);
         let n = sizes::numbers::wide(table[at + 1]);
-        if !enters(s.nodes, n, seen) {
+        if !enters(q.sizes.nodes, n, seen) {
             return wrong();
         }
+        let opens = number == 0;
         if level == 1 {
-            let low = walk_lowest(table, s, ratio, first, number == 0, at + 8, n, seen);
+            let low = walk_lowest(table, q, first, opens, at + 8, n, seen);
             if low == 0 {
                 return wrong();
             }
             seen = passed(n, low, seen);
         } else {
-            seen = walk_nodes(
-                table,
-                s,
-                ratio,
-                round,
-                top,
-                level,
-                first,
-                number == 0,
-                at + 8,
-                n,
-                entered(seen),
-            );
+            seen = walk_nodes(table, q, level, first, opens, at + 8, n, entered(seen));
         }
-        if stops(s.nodes, n, seen) {
+        if stops(q.sizes.nodes, n, seen) {
             return seen;
         }
         number += 1;
@@ -309,10 +314,7 @@ pub fn walk_partition(
 // work to do: it comes from afar.
 pub fn walk_nodes(
     table: &[u8],
-    s: Sizes,
-    ratio: u64,
-    round: u64,
-    top: u32,
+    q: Geometry,
     level: u32,
     first: u32,
     opens: bool,
@@ -320,44 +322,28 @@ pub fn walk_nodes(
     left: u32,
     x: Seen,
 ) -> Seen
-    requires { ⌜ Walkable s (now table) × (ratio ≡ over (s .gamma)) × (round ≡ over (s .blocks)) × (top ≡ beta s) × (2 ≤ level) × (level ≤ top) × (1 ≤ left) × (at + 12 * left ≤ length (now table)) ⌝ }
-    ensures { λ r. ⌜ r ≡ nodes-by (opens-of s (now (table .entry)) (level - 1)) s (now (table .entry)) level first left at opens x ⌝ }
+    requires { ⌜ Walkable (q .sizes) (now table) × Reckoned q × (2 ≤ level) × (level ≤ q .top) × (1 ≤ left) × (at + 12 * left ≤ length (now table)) ⌝ }
+    ensures { λ r. ⌜ r ≡ nodes-by (opens-of (q .sizes) (now (table .entry)) (level - 1)) (q .sizes) (now (table .entry)) level first left at opens x ⌝ }
 {
     let mut y = x;
     let mut o = opens;
     let mut place = at;
     let mut k = left;
-    let mut g = sizes::hash::hash(s, 5, sizes::numbers::be4(table, at));
+    let mut g = sizes::hash::hash(q.sizes, 5, sizes::numbers::be4(table, at));
     while 0 < k {
-        if !y.ok {
-            return wrong();
-        }
         let n = node_of(table, place);
-        if !belongs(s, ratio, top, level, first, o, n.key) {
-            return wrong();
-        }
-        if !quantities(level, n) {
+        if !comes_by(q, level, first, o, n, y) {
             return wrong();
         }
         let mut next: u32 = 0;
         if 1 < k {
             let key = sizes::numbers::be4(table, place + 12);
-            next = sizes::hash::hash(s, 5, key);
-            if placement::search::ends_at_once(
-                table,
-                s,
-                round,
-                next,
-                Label {
-                    level: level - 1,
-                    first: key,
-                    number: 0,
-                },
-            ) {
+            next = sizes::hash::hash(q.sizes, 5, key);
+            if absent(table, q, level - 1, key, next) {
                 return wrong();
             }
         }
-        y = walk_partition(table, s, ratio, round, top, level - 1, n.key, g, y);
+        y = walk_partition(table, q, level - 1, n.key, g, y);
         g = next;
         o = false;
         place += 12;

@@ -30,6 +30,10 @@ walkable s bs m e =
     let l = limits s m in
     record { shaped = made-shaped s bs m e; base = l .gamma-least; base-most = l .gamma-most; orders-most = l .orders-most }
 
+-- what follows from the header's sizes
+pub reckoned-in : (bs : List ℕ) (r s : Sizes) → r ≡ s → s ≡ sizes-in bs → r ≡ sizes-in bs
+reckoned-in bs r s e es = e ∙ es
+
 module _ (bs : List ℕ) (t : Bool) (et : t ≡ rule-1 bs) where
   pub passes-unruled : t ≡ false → Passed bs (record { clean = false; full = 0 })
   unfolding check-passes

@@ -6,8 +6,9 @@ use Prim.Native.Nat.{ℕ, zero, suc, _+_, _*_, _-_, _≤_, _<_}
 use lib.Dec.{eqb}
 use lib.Bits.{bitAnd, bitOr, or-add-and, and-le-l, and-le-r, and-zero-r, and-mask, or-zero-l}
 use borrow.Author.Tests.{eq-eqb, ne-eqb, eqb-true, eqb-false}
+use native.Mathlib.Decide.{decLt}
 use native.Mathlib.Omega.{arith}
-use native.Mathlib.Nat.{sub-zero, mod-eq-of-lt}
+use native.Mathlib.Nat.{sub-zero, add-zero, zero-add, mod-eq-of-lt}
 use native.Mathlib.Numerals.{add-one}
 use lib.ListN.{length, set, getD, replicate, length-set, length-replicate, getD-replicate}
 use lib.Seq.{getD-set-same, getD-set-other}
@@ -16,7 +17,7 @@ use Rattle.sizes.specs.declared.Sizes.{Sizes}
 use Rattle.sizes.proofs.Laws.Round.{Which, which, less, same, more}
 use Rattle.table.specs.declared.Seen.{Seen}
 use Rattle.table.specs.declared.Tally.{Tally}
-use Rattle.table.specs.Check.{Mask, zeros-from, used-of, more-of, unused, block-clean, sweep-from, swept, ended}
+use Rattle.table.specs.Check.{longest, Mask, zeros-from, zeros-past, used-of, more-of, unused, block-clean, sweep-from, swept, ended}
 
 -- small ones
 pub used-none : (l n : ℕ) → l ≡ 0 → 0 ≡ used-of l n
@@ -48,18 +49,6 @@ module _ (x : Seen) where
   unfolding ended
   finished-last e f = rw (e, eq-eqb _ _ f)
 
--- THE PASS
-pub record Blocked (w : ℕ) (bs : List ℕ) (i at level u : ℕ) : Type 0 where
-  pub level-is : level ≡ getD bs (53 + i * w) 0
-  pub clean-is : block-clean w bs i ≡ zeros-from bs (w - u) (at + u)
-
-pub blocked-made : (s : Sizes) (w : ℕ) (bs : List ℕ) (i at l n u : ℕ) → w ≡ block-long s → at ≡ 53 + i * block-long s → l ≡ getD bs at 0 → n ≡ getD bs (at + 1) 0 → u ≡ used-of l n
-    → Blocked w bs i at l u
-unfolding block-clean unused
-blocked-made s w bs i at l n u ew ea el en eu =
-    let h : at ≡ 53 + i * w = ea ∙ rw ew in
-    record { level-is = el ∙ rw h; clean-is = rw (← h, ← el, ← en, ← eu) }
-
 -- a number made of two by `or` is 0 when both are
 or-zero : (a b : ℕ) → eqb (bitOr a b) 0 ≡ (eqb a 0 && eqb b 0)
 or-zero a b = go (eqb a 0) (eqb b 0) refl refl
@@ -69,39 +58,18 @@ or-zero a b = go (eqb a 0) (eqb b 0) refl refl
     go true false p q = ne-eqb (bitOr a b) 0 (λ e. eqb-false b 0 q (omega (arith, or-add-and a b, and-le-l a b, eqb-true a 0 p)))
     go false u p q = ne-eqb (bitOr a b) 0 (λ e. eqb-false a 0 p (omega (arith, or-add-and a b, and-le-r a b)))
 
--- what the loop of `zeros` keeps: the bytes so far are 0 when their `or` is
-pub record Zeroing (bs : List ℕ) (from end j any : ℕ) : Type 0 where
-  pub rest : zeros-from bs (end - from) from ≡ (eqb any 0 && zeros-from bs (end - j) j)
-
-module _ (bs : List ℕ) (from end : ℕ) where
-  pub zeroing-start : Zeroing bs from end from 0
-  zeroing-start = record { rest = refl }
-
-  module _ (j any : ℕ) (z : Zeroing bs from end j any) where
-    pub zeroing-more : j < end → (b : ℕ) → b ≡ getD bs j 0 → Zeroing bs from end (j + 1) (bitOr any b)
-    unfolding zeros-from
-    zeroing-more h b eb =
-        let e : end - j ≡ suc (end - (j + 1)) = omega arith in
-        record { rest = z .rest ∙ rw (e, ← eb, add-one, or-zero any b, and-assoc) }
-
-    pub zeroing-end : end ≤ j → eqb any 0 ≡ zeros-from bs (end - from) from
-    unfolding zeros-from
-    zeroing-end h =
-        let e : end - j ≡ 0 = omega arith in
-        sym (z .rest ∙ rw (e, and-true))
-
--- what the loop of `mask` keeps: it has all places from 392 up to j
+-- what the loop of `mask` keeps: it has all places from longest up to j
 pub record Marking (ms : List ℕ) (j : ℕ) : Type 0 where
-  pub long : length ms ≡ 784
-  pub leaves : (k : ℕ) → k < 392 → getD ms k 0 ≡ 0
-  pub has : (k : ℕ) → 392 ≤ k → k < j → getD ms k 0 ≡ 255
-  pub from : 392 ≤ j
+  pub long : length ms ≡ 2 * longest
+  pub leaves : (k : ℕ) → k < longest → getD ms k 0 ≡ 0
+  pub has : (k : ℕ) → longest ≤ k → k < j → getD ms k 0 ≡ 255
+  pub from : longest ≤ j
 
-pub marking-start : Marking (replicate 784 0) 392
-marking-start = record { long = length-replicate {A = ℕ} 784 0; leaves = λ k h. getD-replicate {A = ℕ} 784 k 0 0 (omega arith); has = λ k l h. absurd (omega arith); from = omega arith }
+pub marking-start : Marking (replicate (2 * longest) 0) longest
+marking-start = record { long = length-replicate {A = ℕ} (2 * longest) 0; leaves = λ k h. getD-replicate {A = ℕ} (2 * longest) k 0 0 (omega arith); has = λ k l h. absurd (omega arith); from = omega arith }
 
 module _ (ms : List ℕ) (j : ℕ) (z : Marking ms j) where
-  pub marking-more : j < 784 → Marking (set ms j 255) (j + 1)
+  pub marking-more : j < 2 * longest → Marking (set ms j 255) (j + 1)
   marking-more h =
       record {
         long = length-set ms j 255 ∙ z .long;
@@ -110,61 +78,109 @@ module _ (ms : List ℕ) (j : ℕ) (z : Marking ms j) where
         from = omega (arith, z .from);
       }
     where
-      go : (k : ℕ) → 392 ≤ k → Which k j → k < j + 1 → getD (set ms j 255) k 0 ≡ 255
+      go : (k : ℕ) → longest ≤ k → Which k j → k < j + 1 → getD (set ms j 255) k 0 ≡ 255
       go k l (less f) r = getD-set-other ms j k 255 0 (λ e. omega arith) ∙ z .has k l f
       go k l (same f) r = rw f (getD-set-same ms j 255 0 (omega (arith, z .long)))
       go k l (more f) r = absurd (omega arith)
 
-  pub marking-end : 784 ≤ j → Mask ms
+  pub marking-end : 2 * longest ≤ j → Mask ms
   marking-end h = record { long = z .long; leaves = z .leaves; has = λ k l r. z .has k l (omega arith) }
 
--- a byte under the mask
-module _ (ms : List ℕ) (k : Mask ms) (u j x y : ℕ) (few : u ≤ 392) (in-block : j < 392) (ey : y ≡ getD ms (392 - u + j) 0) where
-  left-out : j < u → bitAnd x y ≡ 0
-  left-out h = rw (ey, k .leaves (392 - u + j) (omega arith)) (and-zero-r x)
-
-  looked-at : u ≤ j → x < 256 → bitAnd x y ≡ x
-  looked-at h b = rw (ey, k .has (392 - u + j) (omega arith) (omega arith)) (and-mask x 8 ∙ mod-eq-of-lt b)
-
--- what the loop of `zeros` over a block keeps: none is looked at yet, or all of the unused ones up to a place
-pub data Masking (bs : List ℕ) (at w u j any : ℕ) : Type 0 where
-  not-yet : j ≤ u → any ≡ 0 → Masking bs at w u j any
-  under-way : u ≤ j → Zeroing bs (at + u) (at + w) (at + j) any → Masking bs at w u j any
-
-pub masking-start : (bs : List ℕ) (at w u : ℕ) → Masking bs at w u 0 0
-masking-start bs at w u = not-yet (omega arith) refl
-
-module _ (bs : List ℕ) (at w u : ℕ) (few : u < w) (most : w ≤ 392) (ms : List ℕ) (k : Mask ms) where
-  module _ (j any : ℕ) (z : Masking bs at w u j any) where
-    pub masking-more : j < w → (x y : ℕ) → x ≡ getD bs (at + j) 0 → x < 256 → y ≡ getD ms (392 - u + j) 0 → Masking bs at w u (j + 1) (bitOr any (bitAnd x y))
-    masking-more h x y ex bx ey = go z (which j u)
-      where
-        on : u ≤ j → Zeroing bs (at + u) (at + w) (at + j) any → Masking bs at w u (j + 1) (bitOr any (bitAnd x y))
-        on l q =
-            let e : at + (j + 1) ≡ at + j + 1 = omega arith in
-            under-way (omega arith) (rw (e, looked-at ms k u j x y (omega arith) (omega arith) ey l bx) (zeroing-more bs (at + u) (at + w) (at + j) any q (omega arith) x ex))
-
-        go : Masking bs at w u j any → Which j u → Masking bs at w u (j + 1) (bitOr any (bitAnd x y))
-        go (not-yet l e) (less f) = not-yet (omega arith) (rw (e, left-out ms k u j x y (omega arith) (omega arith) ey f) (or-zero-l 0))
-        go (not-yet l e) (same f) = on (omega arith) (rw (e, f) (zeroing-start bs (at + u) (at + w)))
-        go (not-yet l e) (more f) = absurd (omega arith)
-        go (under-way l q) s = on l q
-
-    pub masking-end : w ≤ j → eqb any 0 ≡ zeros-from bs (w - u) (at + u)
-    masking-end h = go z
-      where
-        go : Masking bs at w u j any → eqb any 0 ≡ zeros-from bs (w - u) (at + u)
-        go (not-yet l e) = absurd (omega arith)
-        go (under-way l q) =
-            let e : at + w - (at + u) ≡ w - u = omega arith in
-            rw e at (zeroing-end bs (at + u) (at + w) (at + j) any q (omega arith))
-
-pub none-unused : (bs : List ℕ) (at w u : ℕ) → w ≤ u → true ≡ zeros-from bs (w - u) (at + u)
+-- bytes from a place on, some of them first
+zeros-split : (bs : List ℕ) (a b x : ℕ) → zeros-from bs (a + b) x ≡ (zeros-from bs a x && zeros-from bs b (x + a))
 unfolding zeros-from
-none-unused bs at w u h =
-    let e : w - u ≡ 0 = omega arith in
-    rw e
+zeros-split bs zero b x = rw (add-zero, zero-add)
+zeros-split bs (suc a) b x =
+    let d : suc a + b ≡ suc (a + b) = omega arith in
+    let e : x + suc a ≡ suc x + a = omega arith in
+    rw (d, zeros-split bs a b (suc x), e, and-assoc)
 
+module _ (bs : List ℕ) (at u j : ℕ) where
+  past-none : (w : ℕ) → w ≤ j + (u - j) → zeros-past bs at w u j ≡ true
+  unfolding zeros-past zeros-from
+  past-none w h =
+      let e : w - (j + (u - j)) ≡ 0 = omega arith in
+      rw e
+
+  pub none-unused : (w : ℕ) → w ≤ u → true ≡ zeros-past bs at w u j
+  none-unused w h = sym (past-none w (omega arith))
+
+  -- some bytes of a block first
+  past-split : (w e : ℕ) → j ≤ e → e ≤ w → zeros-past bs at w u j ≡ (zeros-past bs at e u j && zeros-past bs at w u e)
+  unfolding zeros-past zeros-from
+  past-split w e l h = go (decLt e u)
+    where
+      go : Dec (e < u) → zeros-past bs at w u j ≡ (zeros-past bs at e u j && zeros-past bs at w u e)
+      go (yes f) =
+          let p : j + (u - j) ≡ e + (u - e) = omega arith in
+          let q : e - (e + (u - e)) ≡ 0 = omega arith in
+          rw (p, q)
+      go (no f) =
+          let p = j + (u - j) in
+          let q : e + (u - e) ≡ e = omega arith in
+          let a : w - p ≡ e - p + (w - e) = omega arith in
+          let b : at + p + (e - p) ≡ at + e = omega arith in
+          rw (q, a, zeros-split bs (e - p) (w - e) (at + p), b)
+
+  -- one byte under the mask
+  past-byte : (ms : List ℕ) → Mask ms → u < longest → j < longest → (x y : ℕ) → x ≡ getD bs (at + j) 0 → x < 256 → y ≡ getD ms (longest - u + j) 0
+      → zeros-past bs at (j + 1) u j ≡ eqb (bitAnd x y) 0
+  unfolding zeros-past zeros-from
+  past-byte ms k few h x y ex b ey = go (decLt j u)
+    where
+      go : Dec (j < u) → zeros-past bs at (j + 1) u j ≡ eqb (bitAnd x y) 0
+      go (yes f) =
+          let e : j + 1 - (j + (u - j)) ≡ 0 = omega arith in
+          rw (e, ey, k .leaves (longest - u + j) (omega arith), and-zero-r x)
+      go (no f) =
+          let e : j + (u - j) ≡ j = omega arith in
+          let d : j + 1 - j ≡ suc zero = omega arith in
+          rw (e, d, ← ex, ey, k .has (longest - u + j) (omega arith) (omega arith), and-mask x 8, mod-eq-of-lt b, and-true)
+
+-- what the loop of `zeros` keeps: the unused bytes so far are 0 when their `or` is
+pub record Masking (bs : List ℕ) (at w u from j any : ℕ) : Type 0 where
+  pub rest : zeros-past bs at w u from ≡ (eqb any 0 && zeros-past bs at w u j)
+
+module _ (bs : List ℕ) (at w u from : ℕ) where
+  pub masking-start : Masking bs at w u from from 0
+  masking-start = record { rest = refl }
+
+  module _ (j any : ℕ) (z : Masking bs at w u from j any) where
+    pub masking-more : w ≤ longest → u < w → (ms : List ℕ) → Mask ms → j < w → (x y : ℕ) → x ≡ getD bs (at + j) 0 → x < 256 → y ≡ getD ms (longest - u + j) 0
+        → Masking bs at w u from (j + 1) (bitOr any (bitAnd x y))
+    masking-more most few ms k h x y ex bx ey =
+        let e = past-split bs at u j w (j + 1) (omega arith) (omega arith) in
+        let f = past-byte bs at u j ms k (omega arith) (omega arith) x y ex bx ey in
+        record { rest = z .rest ∙ rw (e, f, or-zero any (bitAnd x y), and-assoc) }
+
+    pub masking-end : w ≤ j → eqb any 0 ≡ zeros-past bs at w u from
+    masking-end h = sym (z .rest ∙ rw (past-none bs at u j w (omega arith), and-true))
+
+-- THE PASS: what the loop over the pieces of a block keeps
+pub record Piecing (w : ℕ) (bs : List ℕ) (i at u j : ℕ) : Type 0 where
+  pub within : j ≤ w
+  pub rest : block-clean w bs i ≡ zeros-past bs at w u j
+
+pub piecing-start : (s : Sizes) (w : ℕ) (bs : List ℕ) (i at l n u : ℕ) → w ≡ block-long s → at ≡ 53 + i * block-long s → l ≡ getD bs at 0 → n ≡ getD bs (at + 1) 0 → u ≡ used-of l n
+    → Piecing w bs i at u 0
+unfolding block-clean unused zeros-past
+piecing-start s w bs i at l n u ew ea el en eu =
+    let h : at ≡ 53 + i * w = ea ∙ rw ew in
+    let e : 0 + (u - 0) ≡ u = omega arith in
+    record { within = omega arith; rest = rw (e, ← h, ← el, ← en, ← eu) }
+
+module _ (w : ℕ) (bs : List ℕ) (i at u j : ℕ) (z : Piecing w bs i at u j) where
+  pub piecing-end : w ≤ j → block-clean w bs i ≡ true
+  piecing-end h = z .rest ∙ past-none bs at u j w (omega arith)
+
+  module _ (e : ℕ) (late : j ≤ e) (in-block : e ≤ w) (t : Bool) (et : t ≡ zeros-past bs at e u j) where
+    pub piecing-stop : t ≡ false → block-clean w bs i ≡ false
+    piecing-stop q = z .rest ∙ past-split bs at u j w e late in-block ∙ rw (← et, q)
+
+    pub piecing-more : t ≡ true → Piecing w bs i at u e
+    piecing-more q = record { within = in-block; rest = z .rest ∙ past-split bs at u j w e late in-block ∙ rw (← et, q) }
+
+-- .. and the loop over the blocks
 pub record Sweeping (s : Sizes) (w m : ℕ) (bs : List ℕ) (i full : ℕ) : Type 0 where
   pub within : i ≤ m
   pub few : full ≤ i
@@ -182,15 +198,18 @@ module _ (s : Sizes) (w m : ℕ) (bs : List ℕ) where
         let e : m - i ≡ 0 = omega arith in
         sym (h .rest ∙ rw (e, q))
 
-    module _ (lt : i < m) (at l u : ℕ) (b : Blocked w bs i at l u) (t : Bool) (et : t ≡ zeros-from bs (w - u) (at + u)) where
-      sweeping-turn : swept s bs ≡ cond t (sweep-from w bs (m - (i + 1)) (i + 1) (more-of full l)) (record { clean = false; full = full })
+    module _ (lt : i < m) (t : Bool) (et : block-clean w bs i ≡ t) where
+      sweeping-turn : swept s bs ≡ cond t (sweep-from w bs (m - (i + 1)) (i + 1) (more-of full (getD bs (53 + i * w) 0))) (record { clean = false; full = full })
       unfolding sweep-from
       sweeping-turn =
           let e : m - i ≡ suc (m - (i + 1)) = omega arith in
-          h .rest ∙ rw (e, b .clean-is, ← et, add-one, b .level-is)
+          h .rest ∙ rw (e, et, add-one)
 
-      pub sweeping-stop : t ≡ false → _≡_ {A = Tally} (record { clean = false; full = full }) (swept s bs)
-      sweeping-stop q = sym (sweeping-turn ∙ rw q)
+    pub sweeping-stop : i < m → block-clean w bs i ≡ false → _≡_ {A = Tally} (record { clean = false; full = full }) (swept s bs)
+    sweeping-stop lt q = sym (sweeping-turn lt false q)
 
-      pub sweeping-more : t ≡ true → (n : ℕ) → n ≡ more-of full l → n ≤ full + 1 → Sweeping s w m bs (i + 1) n
-      sweeping-more q n e f = record { within = omega arith; few = omega (arith, h .few); rest = sweeping-turn ∙ rw (q, e) }
+    pub sweeping-more : i < m → block-clean w bs i ≡ true → w ≡ block-long s → (at l n : ℕ) → at ≡ 53 + i * block-long s → l ≡ getD bs at 0 → n ≡ more-of full l → n ≤ full + 1
+        → Sweeping s w m bs (i + 1) n
+    sweeping-more lt q ew at l n ea el en f =
+        let g : at ≡ 53 + i * w = ea ∙ rw ew in
+        record { within = omega arith; few = omega (arith, h .few); rest = sweeping-turn lt true q ∙ rw (← g, ← el, ← en) }

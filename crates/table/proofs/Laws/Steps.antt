@@ -1,6 +1,6 @@
 -- Laws of what the walk's small functions give.
 use mathlib.Core.Path.{_≡_, refl, _∙_}
-use mathlib.Core.Bool.{Bool, true, false, and-false}
+use mathlib.Core.Bool.{Bool, true, false, and-false, and-true}
 use mathlib.Core.List.{List}
 use Prim.Native.Nat.{ℕ, _+_, _-_, _≤_, _<_}
 use lib.Dec.{ltb, leb, eqb}
@@ -13,7 +13,7 @@ use Rattle.sizes.specs.declared.Sizes.{Sizes}
 use Rattle.placement.specs.declared.Order.{Order}
 use Rattle.sizes.proofs.Laws.Numbers.{field-drop}
 use Rattle.table.specs.declared.Seen.{Seen}
-use Rattle.table.specs.Walk.{node-of, wrong-seen, nothing-in, quantities-ok, belongs-in, enters-ok, entered-seen, ended-seen, stops-at}
+use Rattle.table.specs.Walk.{node-of, wrong-seen, nothing-in, quantities-ok, belongs-in, node-good, enters-ok, entered-seen, ended-seen, stops-at}
 
 pub wrong-made : _≡_ {A = Seen} (record { ok = false; low = 0; orders = 0; chunks = 0 }) wrong-seen
 unfolding wrong-seen
@@ -53,18 +53,28 @@ module _ (l : ℕ) (n : Order) where
   unfolding quantities-ok
   quantities-above q e h = h ∙ rw (ne-eqb _ _ e)
 
-module _ (s : Sizes) (l f : ℕ) (o : Bool) (x : ℕ) where
-  pub belongs-first : o ≡ true → eqb x f ≡ belongs-in s l f o x
-  unfolding belongs-in
-  belongs-first e = rw e
+module _ (s : Sizes) (l f : ℕ) (o : Bool) (n : Order) (x : Seen) where
+  pub good-bad : x .ok ≡ false → false ≡ node-good s l f o n x
+  unfolding node-good
+  good-bad e = rw e
 
-  pub belongs-front : o ≡ false → x ≡ 0 → false ≡ belongs-in s l f o x
-  unfolding belongs-in
-  belongs-front e z = rw (e, eq-eqb _ _ z)
+  module _ (q : Bool) (eq : q ≡ quantities-ok l n) where
+    pub good-unfit : q ≡ false → false ≡ node-good s l f o n x
+    unfolding node-good
+    good-unfit e = rw (← eq, e, and-false, and-false)
 
-  pub belongs-level : (v : Bool) → o ≡ false → (x ≡ 0 → ⊥) → v ≡ eqb (level s x) l → v ≡ belongs-in s l f o x
-  unfolding belongs-in
-  belongs-level v e z q = rw (e, ne-eqb _ _ z) q
+    module _ (k : x .ok ≡ true) (e : q ≡ true) where
+      pub good-first : o ≡ true → eqb (n .key) f ≡ node-good s l f o n x
+      unfolding node-good belongs-in
+      good-first h = rw (k, ← eq, e, and-true, h)
+
+      pub good-front : o ≡ false → n .key ≡ 0 → false ≡ node-good s l f o n x
+      unfolding node-good belongs-in
+      good-front h z = rw (h, eq-eqb _ _ z, and-false)
+
+      pub good-level : (v : Bool) → o ≡ false → (n .key ≡ 0 → ⊥) → v ≡ eqb (level s (n .key)) l → v ≡ node-good s l f o n x
+      unfolding node-good belongs-in
+      good-level v h z ev = rw (k, ← eq, e, and-true, h, ne-eqb _ _ z) ev
 
 module _ (b n : ℕ) (x : Seen) where
   pub enters-last : x .ok ≡ true → 1 ≤ n → n ≤ b → leb 1 (x .chunks) ≡ enters-ok b n x

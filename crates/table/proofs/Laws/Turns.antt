@@ -2,14 +2,13 @@
 use mathlib.Core.Path.{_≡_, refl, ap, sym, _∙_}
 use mathlib.Core.Bool.{Bool, true, false, _&&_, cond, and-false, and-eq-true-iff}
 use mathlib.Core.List.{List}
-use Prim.Native.Nat.{ℕ, zero, suc, _+_, _*_, _-_, _^_, _≤_, _<_}
+use Prim.Native.Nat.{ℕ, zero, suc, _+_, _*_, _-_, _≤_, _<_}
 use lib.Dec.{leb, eqb}
 use borrow.Author.Tests.{leb-true}
 use native.Mathlib.Omega.{arith}
 use native.Mathlib.Nat.{sub-zero}
 use native.Mathlib.Numerals.{add-one}
 use lib.ListN.{length, getD}
-use Rattle.sizes.specs.Sizes.{least-power, beta}
 use Rattle.sizes.specs.Numbers.{field}
 use Rattle.sizes.specs.Hash.{hash-from}
 use Rattle.sizes.specs.Header.{block-long}
@@ -21,7 +20,7 @@ use Rattle.placement.specs.declared.Found.{Found}
 use Rattle.placement.specs.declared.Found.the-variants.{At, Nothing}
 use Rattle.placement.proofs.Laws.Loops.{search-below, search-none}
 use Rattle.table.specs.declared.Seen.{Seen}
-use Rattle.table.specs.Walk.{Walkable, node-of, wrong-seen, quantities-ok, belongs-in, enters-ok, entered-seen, ended-seen, stops-at, node-good, nodes-by, spot, chunk-spot, count-in, chunk-by, chunks-by, opens-of}
+use Rattle.table.specs.Walk.{Walkable, node-of, wrong-seen, enters-ok, entered-seen, ended-seen, stops-at, node-good, nodes-by, spot, chunk-spot, empty-home, count-in, chunk-by, chunks-by, opens-of}
 use Rattle.table.proofs.Laws.Steps.{node-key}
 
 -- NODES: what the loop over the nodes of a chunk keeps
@@ -58,64 +57,26 @@ module _ (d : (key : ℕ) → Seen → Seen) (s : Sizes) (bs : List ℕ) (l f j�
         ∙ ap (λ (k : ℕ). nodes-by d s bs l f k a o x) f′
         ∙ ap (λ (b : Bool). cond b (nodes-by d s bs l f (j - 1) (a + 12) false (d (node-of bs a .key) x)) wrong-seen) e
 
-    pub noding-bad : (w : Seen) → w ≡ wrong-seen → 0 < j → x .ok ≡ false → w ≡ nodes-by d s bs l f j₀ a₀ o₀ x₀
-    unfolding node-good
-    noding-bad w ew p e = ew ∙ sym (step p false (rw e))
+    pub noding-gone : (w : Seen) → w ≡ wrong-seen → 0 < j → d (node-of bs a .key) x ≡ wrong-seen → w ≡ nodes-by d s bs l f j₀ a₀ o₀ x₀
+    noding-gone w ew p e = go (node-good s l f o (node-of bs a) x) refl
+      where
+        go : (t : Bool) → node-good s l f o (node-of bs a) x ≡ t → w ≡ nodes-by d s bs l f j₀ a₀ o₀ x₀
+        go true q = ew ∙ sym (step p true q ∙ ap (nodes-by d s bs l f (j - 1) (a + 12) false) e ∙ nodes-wrong d s bs l f (j - 1) (a + 12) false)
+        go false q = ew ∙ sym (step p false q)
 
-    module _ (n : Order) (en : n ≡ node-of bs a) where
-      pub noding-gone : (w : Seen) → w ≡ wrong-seen → 0 < j → d (n .key) x ≡ wrong-seen → w ≡ nodes-by d s bs l f j₀ a₀ o₀ x₀
-      noding-gone w ew p e = go (node-good s l f o (node-of bs a) x) refl
-        where
-          z : d (node-of bs a .key) x ≡ wrong-seen
-          z = ap (λ (m : Order). d (m .key) x) (sym en) ∙ e
+    module _ (n : Order) (en : n ≡ node-of bs a) (t : Bool) (et : t ≡ node-good s l f o n x) (p : 0 < j) where
+      turned : (u : Bool) → t ≡ u → node-good s l f o (node-of bs a) x ≡ u
+      turned u q = ap (λ (m : Order). node-good s l f o m x) (sym en) ∙ sym et ∙ q
 
-          go : (t : Bool) → node-good s l f o (node-of bs a) x ≡ t → w ≡ nodes-by d s bs l f j₀ a₀ o₀ x₀
-          go true q = ew ∙ sym (step p true q ∙ ap (nodes-by d s bs l f (j - 1) (a + 12) false) z ∙ nodes-wrong d s bs l f (j - 1) (a + 12) false)
-          go false q = ew ∙ sym (step p false q)
+      pub noding-wrong : (w : Seen) → w ≡ wrong-seen → t ≡ false → w ≡ nodes-by d s bs l f j₀ a₀ o₀ x₀
+      noding-wrong w ew q = ew ∙ sym (step p false (turned false q))
 
-      module _ (b : Bool) (eb : b ≡ belongs-in s l f o (n .key)) where
-        pub noding-strange : (w : Seen) → w ≡ wrong-seen → 0 < j → b ≡ false → w ≡ nodes-by d s bs l f j₀ a₀ o₀ x₀
-        unfolding node-good
-        noding-strange w ew p e =
-            let z : belongs-in s l f o (node-of bs a .key) ≡ false = rw (← en, ← eb, e) in
-            ew ∙ sym (step p false (rw (z, and-false)))
-
-        module _ (q : Bool) (eq : q ≡ quantities-ok l n) where
-          pub noding-unfit : (w : Seen) → w ≡ wrong-seen → 0 < j → q ≡ false → w ≡ nodes-by d s bs l f j₀ a₀ o₀ x₀
-          unfolding node-good
-          noding-unfit w ew p e =
-              let z : quantities-ok l (node-of bs a) ≡ false = rw (← en, ← eq, e) in
-              ew ∙ sym (step p false (rw (z, and-false, and-false)))
-
-          pub noding-more : (y : Seen) → 0 < j → x .ok ≡ true → b ≡ true → q ≡ true → y ≡ d (n .key) x
-              → Noding d s bs l f j₀ a₀ o₀ x₀ (j - 1) (a + 12) false y
-          unfolding node-good
-          noding-more y p ex b1 q1 ey =
-              let z₁ : belongs-in s l f o (node-of bs a .key) ≡ true = rw (← en, ← eb, b1) in
-              let z₂ : quantities-ok l (node-of bs a) ≡ true = rw (← en, ← eq, q1) in
-              record {
-                room = omega (arith, i .room);
-                rest =
-                    step p true (rw (ex, z₁, z₂))
-                    ∙ ap (nodes-by d s bs l f (j - 1) (a + 12) false) (sym (ey ∙ ap (λ (m : Order). d (m .key) x) en));
-              }
-
--- A LABEL of the walk: its level is at most β, which is at most 19
-least-most : (k e g n : ℕ) → least-power k e g n ≤ k + e
-unfolding least-power
-least-most zero e g n = omega arith
-least-most (suc k) e g n = go (leb n (g ^ e)) (least-most k (suc e) g n)
-  where
-    go : (t : Bool) → least-power k (suc e) g n ≤ k + suc e → cond t e (least-power k (suc e) g n) ≤ suc k + e
-    go true h = omega arith
-    go false h = omega arith
-
-pub level-most : (s : Sizes) (l top : ℕ) → l ≤ top → top ≡ beta s → l ≤ 19
-unfolding beta
-level-most s l top h e = omega (arith, least-most 17 0 (s .gamma) (s .orders))
-
-pub below-most : (s : Sizes) (l top : ℕ) → l ≤ top → top ≡ beta s → l - 1 ≤ 19
-below-most s l top h e = omega (arith, level-most s l top h e)
+      pub noding-more : t ≡ true → (y : Seen) → y ≡ d (n .key) x → Noding d s bs l f j₀ a₀ o₀ x₀ (j - 1) (a + 12) false y
+      noding-more q y ey =
+          record {
+            room = omega (arith, i .room);
+            rest = step p true (turned true q) ∙ ap (nodes-by d s bs l f (j - 1) (a + 12) false) (sym (ey ∙ ap (λ (m : Order). d (m .key) x) en));
+          }
 
 pub number-most : (i m : ℕ) → i < m → m ≤ 65535 → i ≤ 65535
 number-most i m h k = omega arith
@@ -208,16 +169,15 @@ pub higher-nodes : (s : Sizes) (bs : List ℕ) (l f n a : ℕ) (o : Bool) (y y�
 higher-nodes s bs l f n a o y y′ v z e ev ey = e ∙ ev ∙ ap (nodes-by (opens-of s bs (l - 1)) s bs l f n a o) ey
 
 -- a partition whose search starts at an empty block has no chunk
-opens-empty : (s : Sizes) (bs : List ℕ) (l f : ℕ) (x : Seen) → Shaped s bs → 1 ≤ l → (t : Bool)
-    → t ≡ eqb (label-in (block-long s) bs (home s (record { level = l; first = f; number = 0 })) .level) 0 → t ≡ true → opens-of s bs l f x ≡ wrong-seen
-unfolding chunk-spot ended-seen
+opens-empty : (s : Sizes) (bs : List ℕ) (l f : ℕ) (x : Seen) → Shaped s bs → 1 ≤ l → (t : Bool) → t ≡ empty-home s bs l f → t ≡ true → opens-of s bs l f x ≡ wrong-seen
+unfolding chunk-spot ended-seen empty-home
 opens-empty s bs l f x h lo t et e =
     let none = search-none s bs (record { level = l; first = f; number = 0 }) h lo (sym et ∙ e) in
     sym (chunking-none s bs l f x 0 x (chunking-start s bs l f x lo) (h .some) Nothing (sym none) wrong-seen refl refl)
 
 -- .. so the walk that comes to it ends wrong; k is the key of the node that opens it
 pub ahead : (s : Sizes) (bs : List ℕ) (l a : ℕ) (x : Seen) → Shaped s bs → 1 ≤ l → (k : ℕ) → k ≡ field a 4 bs → (t : Bool)
-    → t ≡ eqb (label-in (block-long s) bs (home s (record { level = l; first = k; number = 0 })) .level) 0 → t ≡ true → opens-of s bs l (node-of bs a .key) x ≡ wrong-seen
+    → t ≡ empty-home s bs l k → t ≡ true → opens-of s bs l (node-of bs a .key) x ≡ wrong-seen
 ahead s bs l a x h lo k ek t et e = ap (λ (i : ℕ). opens-of s bs l i x) (sym (node-key bs a k ek)) ∙ opens-empty s bs l k x h lo t et e
 
 -- THE HASH of the next node's key, which the loop over nodes has at hand
@@ -238,6 +198,10 @@ module _ (s : Sizes) (bs : List ℕ) (j a g : ℕ) where
 pub chunk-found : (s : Sizes) (bs : List ℕ) (l f i : ℕ) (r : Found) → r ≡ search-in s bs (record { level = l; first = f; number = i }) → r ≡ chunk-spot s bs l f i
 unfolding chunk-spot
 chunk-found s bs l f i r e = e
+
+pub home-empty : (s : Sizes) (bs : List ℕ) (l f : ℕ) (r : Bool) → r ≡ eqb (label-in (block-long s) bs (home-of s (record { level = l; first = f; number = 0 })) .level) 0 → r ≡ empty-home s bs l f
+unfolding empty-home
+home-empty s bs l f r e = e
 
 pub chunk-below : (s : Sizes) (bs : List ℕ) (l f i : ℕ) (r : Found) (b : ℕ) → r ≡ At b → r ≡ chunk-spot s bs l f i → Shaped s bs → b < s .blocks
 unfolding chunk-spot

@@ -8,7 +8,7 @@ use mathlib.Core.Logic.{⊎-elim}
 use native.Mathlib.Omega.{arith}
 use native.Mathlib.Nat.{pos-of-ne-zero}
 use Rattle.table.specs.Walk.{opens-of}
-use Rattle.table.proofs.Laws.Turns.{Noding, noding-start, noding-room, noding-end, noding-bad, noding-gone, noding-strange, noding-unfit, noding-more, Keyed, keyed-made, keyed-none, keyed-is, level-most, below-most, number-most, Chunking, chunking-start, chunking-end, chunking-none, chunking-wrong, chunking-gone, chunking-stop, chunking-more, higher-nodes, ahead, chunk-below, enters-good, enters-some, enters-chunks, chunk-room}
+use Rattle.table.proofs.Laws.Turns.{Noding, noding-start, noding-room, noding-end, noding-gone, noding-wrong, noding-more, Keyed, keyed-made, keyed-none, keyed-is, number-most, Chunking, chunking-start, chunking-end, chunking-none, chunking-wrong, chunking-gone, chunking-stop, chunking-more, higher-nodes, ahead, chunk-below, enters-good, enters-some, enters-chunks, chunk-room}
 use Rattle.table.proofs.Laws.Lowest.{lowest-nodes, lowest-none}
 use borrow.Fn.Kinds.{In}
 use borrow.Fn.PlainCycle.{Measures, is, falls, and}
@@ -22,15 +22,14 @@ use Rattle.sizes.proofs.hash.hash.Reads as hash-reads
 use Rattle.placement.proofs.labels.offset.Reads as offset-reads
 use Rattle.sizes.proofs.numbers.be4.Reads as be4-reads
 use Rattle.sizes.proofs.numbers.wide.Reads as wide-reads
-use Rattle.placement.proofs.search.ends_at_once.Reads as ends-at-once-reads
-use Rattle.table.proofs.walk.belongs.Reads as belongs-reads
+use Rattle.table.proofs.walk.absent.Reads as absent-reads
 use Rattle.table.proofs.walk.chunk.Reads as chunk-reads
 use Rattle.table.proofs.walk.ended.Reads as ended-reads
 use Rattle.table.proofs.walk.entered.Reads as entered-reads
 use Rattle.table.proofs.walk.enters.Reads as enters-reads
+use Rattle.table.proofs.walk.comes_by.Reads as comes-by-reads
 use Rattle.table.proofs.walk.node_of.Reads as node-of-reads
 use Rattle.table.proofs.walk.passed.Reads as passed-reads
-use Rattle.table.proofs.walk.quantities.Reads as quantities-reads
 use Rattle.table.proofs.walk.stops.Reads as stops-reads
 use Rattle.table.proofs.walk.walk_lowest.Reads as walk-lowest-reads
 use Rattle.table.proofs.walk.wrong.Reads as wrong-reads
@@ -38,12 +37,12 @@ use Rattle.table.proofs.walk.+walk_nodes+walk_partition.{statement}
 use Rattle.table.proofs.walk.+walk_nodes+walk_partition.Tie.{close}
 
 abbrev μ-walk-nodes : Measures 1 walk-nodes-kinds.ps ℕ
-μ-walk-nodes κs a = 2 * a .1 .1 .1 .1 .1 .0
+μ-walk-nodes κs a = 2 * a .1 .1 .0
 
 abbrev μ-walk-partition : Measures 1 walk-partition-kinds.ps ℕ
-μ-walk-partition κs a = 2 * a .1 .1 .1 .1 .1 .0 + 1
+μ-walk-partition κs a = 2 * a .1 .1 .0 + 1
 
-ruleset laws = (needs, not-true, not-false, noding-start, noding-room, noding-end, keyed-made, level-most, number-most, chunking-start, chunking-end, chunking-none, chunking-wrong, chunk-below)
+ruleset laws = (needs, not-true, not-false, noding-start, noding-room, noding-end, keyed-made, number-most, chunking-start, chunking-end, chunking-none, chunking-wrong, chunk-below)
 
 abbrev walk-nodes-at : ℕ → In 1 walk-nodes-kinds.ps
 walk-nodes-at t = and 1 walk-nodes-kinds.ps (is 1 walk-nodes-kinds.ps μ-walk-nodes t) walk-nodes.Pre
@@ -58,69 +57,53 @@ abbrev walk-partition-below : ℕ → In 1 walk-partition-kinds.ps
 walk-partition-below t = and 1 walk-partition-kinds.ps (falls 1 walk-partition-kinds.ps _<_ μ-walk-partition t) walk-partition.Pre
 
 abbrev walk-nodes-Inv-loop : walk-nodes-lts.InvT-loop
-walk-nodes-Inv-loop table s ratio round top level first opens at left y₀ o₀ place₀ k₀ g₀ y o place k g =
-    Noding (opens-of s table (level - 1)) s table level first left at opens y₀ k place o y × Keyed s table k place g
+walk-nodes-Inv-loop table q level first opens at left y₀ o₀ place₀ k₀ g₀ y o place k g =
+    Noding (opens-of (q .sizes) table (level - 1)) (q .sizes) table level first left at opens y₀ k place o y × Keyed (q .sizes) table k place g
 
 abbrev walk-nodes-μ-loop : walk-nodes-lts.MeasureT-loop
-walk-nodes-μ-loop table s ratio round top level first opens at left y₀ o₀ place₀ k₀ g₀ y o place k g = k
+walk-nodes-μ-loop table q level first opens at left y₀ o₀ place₀ k₀ g₀ y o place k g = k
 
 abbrev walk-partition-Inv-loop : walk-partition-lts.InvT-loop
-walk-partition-Inv-loop table s ratio round top level first g seen₀ number₀ seen number = Chunking s table level first seen₀ number seen
+walk-partition-Inv-loop table q level first g seen₀ number₀ seen number = Chunking (q .sizes) table level first seen₀ number seen
 
 abbrev walk-partition-μ-loop : walk-partition-lts.MeasureT-loop
-walk-partition-μ-loop table s ratio round top level first g seen₀ number₀ seen number = s .blocks - number
+walk-partition-μ-loop table q level first g seen₀ number₀ seen number = q .sizes .blocks - number
 
 pub +walk-nodes+walk-partition-spec : {M : Type 1} → statement M
 +walk-nodes+walk-partition-spec =
     close μ-walk-nodes μ-walk-partition
-    (λ t. walk-nodes-lts.spec (be4-reads.Asked, be4-reads.Learnt, hash-reads.Asked, hash-reads.Learnt, wrong-reads.Asked, wrong-reads.Learnt, node-of-reads.Asked, node-of-reads.Learnt, belongs-reads.Asked, belongs-reads.Learnt, quantities-reads.Asked, quantities-reads.Learnt, ends-at-once-reads.Asked, ends-at-once-reads.Learnt, walk-partition-below t, walk-partition.Post)
+    (λ t. walk-nodes-lts.spec (be4-reads.Asked, be4-reads.Learnt, hash-reads.Asked, hash-reads.Learnt, node-of-reads.Asked, node-of-reads.Learnt, comes-by-reads.Asked, comes-by-reads.Learnt, wrong-reads.Asked, wrong-reads.Learnt, absent-reads.Asked, absent-reads.Learnt, walk-partition-below t, walk-partition.Post)
     (walk-nodes-at t) walk-nodes.Post walk-nodes-Inv-loop walk-nodes-μ-loop
-    (λ c κs. search laws) (λ c κs. search laws) (λ c. search laws) (λ c κs. search laws)
-    (λ c. noding-bad _ _ _ _ _ _ _ _ _ _ _ _ _ (c .before .before .before .before .loop .inv .0) _ (c .wrong .ensures) (c .before .before .before .loop-test .taken)
-    (not-true _ (c .before .if1 .taken)))
-    (λ c κs. search laws) (λ c κs. search laws) (λ c κs. search laws)
+    (λ c κs. search laws) (λ c κs. search laws) (λ c. search laws) (λ c κs. search laws) (λ c κs. search laws) (λ c κs. search laws)
     (λ c.
     let a = c .before .before .before in
-    noding-strange _ _ _ _ _ _ _ _ _ _ _ _ _ (a .before .before .before .before .loop .inv .0) _ (a .node-of .ensures) _ (c .before .before .belongs .ensures) _ (c .wrong2 .ensures)
-    (a .before .before .before .loop-test .taken) (not-true _ (c .before .if2 .taken)))
-    (λ c κs. search laws) (λ c κs. search laws)
-    (λ c.
-    let a = c .before .before .before .before .before in
-    noding-unfit _ _ _ _ _ _ _ _ _ _ _ _ _ (a .before .before .before .before .loop .inv .0) _ (a .node-of .ensures) _ (c .before .before .before .before .belongs .ensures) _
-    (c .before .before .quantities .ensures) _ (c .wrong3 .ensures) (a .before .before .before .loop-test .taken) (not-true _ (c .before .if3 .taken)))
-    (λ c. search laws) (λ c κs. search laws) (λ c κs. search laws) (λ c. search laws)
-    (λ c κs.
-    let p = c .before .before .before .before .before .before .before .before .before .before .before .before .before .before .before .pre .1 in
-    (p .0 .shaped, p .2, c .hash2 .ensures .0, below-most _ _ _ (p .5) (p .3), omega arith))
-    (λ c κs. search laws)
+    noding-wrong _ _ _ _ _ _ _ _ _ _ _ _ _ (a .before .before .loop .inv .0) _ (a .node-of .ensures) _ (c .before .before .comes-by .ensures) (a .before .loop-test .taken) _ (c .wrong .ensures)
+    (not-true _ (c .before .if1 .taken)))
+    (λ c. search laws) (λ c κs. search laws) (λ c κs. search laws) (λ c. search laws) (λ c κs. search laws) (λ c κs. search laws)
     (λ c.
     let b = c .before .before .before .before .before .before in
-    let a = b .before .before .before .before in
-    let p = a .before .before .before .before .before .before .before .before .pre in
+    let a = b .before .before in
+    let p = a .before .before .before .before .before .before .pre .1 in
     noding-gone _ _ _ _ _ _ _ _ _ _ _ _ _
-    (noding-more _ _ _ _ _ _ _ _ _ _ _ _ _ (a .before .before .before .before .loop .inv .0) _ (a .node-of .ensures) _ (b .before .before .before .belongs .ensures) _
-    (b .before .quantities .ensures) _ (a .before .before .before .loop-test .taken) (not-false _ (a .before .if1 .left))
-    (not-false _ (b .before .before .if2 .left)) (not-false _ (b .if3 .left)) refl) _ refl _ (c .wrong4 .ensures) (omega (arith, c .before .before .before .before .before .if4 .taken))
-    (ahead _ _ _ _ _ (p .1 .0 .shaped) (omega (arith, p .1 .4)) _ (c .before .before .before .before .be42 .ensures) _ (c .before .before .ends-at-once .ensures) (c .before .if5 .taken)))
+    (noding-more _ _ _ _ _ _ _ _ _ _ _ _ _ (a .before .before .loop .inv .0) _ (a .node-of .ensures) _ (b .before .comes-by .ensures) (a .before .loop-test .taken) (not-false _ (b .if1 .left)) _ refl)
+    _ (c .wrong2 .ensures) (omega (arith, c .before .before .before .before .before .if2 .taken))
+    (ahead _ _ _ _ _ (p .0 .shaped) (omega (arith, p .2)) _ (c .before .before .before .before .be42 .ensures) _ (c .before .before .absent .ensures) (c .before .if3 .taken)))
     (λ c. search laws)
     (λ c κs.
-    let b = c .before in
-    let a = b .before .before .before .before in
-    let p = a .before .before .before .before .before .before .before .before .pre in (
-      omega (arith, p .0, p .1 .4),
-      (p .1 .0, p .1 .1, p .1 .2, p .1 .3, omega (arith, p .1 .4), omega (arith, p .1 .5), keyed-is _ _ _ _ _ (a .before .before .before .before .loop .inv .1) (a .before .before .before .loop-test .taken) _ (a .node-of .ensures)),
+    let a = c .before .before .before in
+    let p = a .before .before .before .before .before .before .pre in (
+      omega (arith, p .0, p .1 .2),
+      (p .1 .0, p .1 .1, omega (arith, p .1 .2), omega (arith, p .1 .3), keyed-is _ _ _ _ _ (a .before .before .loop .inv .1) (a .before .loop-test .taken) _ (a .node-of .ensures)),
     ))
     (λ c.
-    let a = c .before .before .before .before .before .before in
-    record { fits = omega (arith, a .before .before .before .before .loop .inv .0 .room, a .before .before .before .loop-test .taken, a .before .before .before .before .before .before .before .before .good .0) })
+    let a = c .before .before .before .before in
+    record { fits = omega (arith, a .before .before .loop .inv .0 .room, a .before .loop-test .taken, a .before .before .before .before .before .before .good .0) })
     (λ c. search laws) (λ c. search laws)
     (λ c.
-    let b = c .before .before in
-    let a = b .before .before .before .before in (
-      noding-more _ _ _ _ _ _ _ _ _ _ _ _ _ (a .before .before .before .before .loop .inv .0) _ (a .node-of .ensures) _ (b .before .before .before .belongs .ensures) _
-          (b .before .quantities .ensures) _ (a .before .before .before .loop-test .taken) (not-false _ (a .before .if1 .left))
-          (not-false _ (b .before .before .if2 .left)) (not-false _ (b .if3 .left)) (c .walk-partition .ensures),
-      ⊎-elim (λ w. keyed-made _ _ _ _ _ _ (w .1 .ensures) (w .5 ∙ w .2 .ensures .0)) (λ w. keyed-none _ _ _ _ _ (omega (arith, w .0 .left))) (c .before .if4 .came),
+    let a = c .before .before .before .before in (
+      noding-more _ _ _ _ _ _ _ _ _ _ _ _ _ (a .before .before .loop .inv .0) _ (a .node-of .ensures) _ (c .before .before .before .comes-by .ensures) (a .before .loop-test .taken)
+          (not-false _ (c .before .before .if1 .left)) _ (c .walk-partition .ensures),
+      ⊎-elim (λ w. keyed-made _ _ _ _ _ _ (w .1 .ensures) (w .5 ∙ w .2 .ensures .0)) (λ w. keyed-none _ _ _ _ _ (omega (arith, w .0 .left))) (c .before .if2 .came),
     ))
     (λ c. search laws))
     λ t. walk-partition-lts.spec (chunk-reads.Asked, chunk-reads.Learnt, ended-reads.Asked, ended-reads.Learnt, offset-reads.Asked, offset-reads.Learnt, wide-reads.Asked, wide-reads.Learnt, enters-reads.Asked, enters-reads.Learnt, wrong-reads.Asked, wrong-reads.Learnt, walk-lowest-reads.Asked, walk-lowest-reads.Learnt, passed-reads.Asked, passed-reads.Learnt, entered-reads.Asked, entered-reads.Learnt, walk-nodes-below t, walk-nodes.Post, stops-reads.Asked, stops-reads.Learnt)
@@ -157,7 +140,7 @@ pub +walk-nodes+walk-partition-spec : {M : Type 1} → statement M
     let e = b .before .enters .ensures in
     let h = not-false _ (b .if2 .left) in (
       omega (arith, p .0),
-      (p .1 .0, p .1 .1, p .1 .2, p .1 .3, omega (arith, c .before .if3 .left, p .1 .4), p .1 .5, enters-some _ _ _ _ e h, chunk-room _ _ (p .1 .0) _ _ _ e h _ (o .offset .ensures .1)),
+      (p .1 .0, p .1 .1, omega (arith, c .before .if3 .left, p .1 .2), p .1 .3, enters-some _ _ _ _ e h, chunk-room _ _ (p .1 .0) _ _ _ e h _ (o .offset .ensures .1)),
     ))
     (λ c κs. search laws)
     (λ c.

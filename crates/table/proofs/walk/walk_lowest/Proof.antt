@@ -13,7 +13,7 @@ ruleset laws = (needs, not-true, not-false, heads-fits, lowest-many, lowest-firs
 
 -- where the ways meet, past the first node if that opens
 headed : (c : tie.Joined2) → let a = c .before .before .before .before .args in
-    Headed (a .s) (a .table .now) (a .first) (a .left) (a .at) (a .opens) (a .x) (c .if2 .k) (c .if2 .place) (c .if2 .low)
+    Headed (a .q .sizes) (a .table .now) (a .first) (a .left) (a .at) (a .opens) (a .x) (c .if2 .k) (c .if2 .place) (c .if2 .low)
 headed c =
     let p = c .before .before .before .before .pre in
     ⊎-elim

@@ -8,10 +8,10 @@ use Rattle.table.proofs.walk.walk_orders.Tie as tie
 ruleset laws = (needs, not-true, not-false, follows-fits, ordering-start, ordering-room, ordering-end, ordering-wrong, ordering-more)
 
 abbrev Inv-loop : tie.InvT-loop
-Inv-loop table s ratio at left low y₀ place₀ k₀ y place k = Ordering s table left at low k place y
+Inv-loop table q at left low y₀ place₀ k₀ y place k = Ordering (q .sizes) table left at low k place y
 
 abbrev μ-loop : tie.MeasureT-loop
-μ-loop table s ratio at left low y₀ place₀ k₀ y place k = k
+μ-loop table q at left low y₀ place₀ k₀ y place k = k
 
 pub walk-orders-spec : {M : Type 1} → statement M
 walk-orders-spec =
