@@ -10,7 +10,6 @@ pub mod TurnLoops
 pub mod Swaps
 pub mod Helds
 pub mod EditAnswers
-pub mod ChunkBounds
 pub mod PutAnswers
 pub mod CancelAnswers
 pub mod SweptImage

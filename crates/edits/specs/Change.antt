@@ -6,7 +6,7 @@ use Prim.Native.Nat.{ℕ, _+_, _-_, _≤_, _<_}
 use lib.ListN.{length}
 use lib.Seq.{sets}
 use Rattle.sizes.specs.Numbers.{big}
-use Rattle.sizes.specs.Sizes.{beta, made}
+use Rattle.sizes.specs.Sizes.{made}
 use Rattle.sizes.specs.Hash.{level}
 use Rattle.sizes.specs.Header.{header, sizes-in, held-in}
 use Rattle.placement.specs.Maps.{Map, map-of, Table}
@@ -55,9 +55,9 @@ Cancel-held s f l y bs bs′ =
     sets bs′ 11 (big 2 (length (xs ++ zs))) ≡ image s (xs ++ zs)
 
 -- PUT OF A HELD KEY
-unfoldable pub Put-held : Sizes → (top l : ℕ) → Order → (bs bs′ : List ℕ) → Type 0
-Put-held s top l o bs bs′ =
-    (xs : List Order) (y : Order) (zs : List Order) → Setting s xs y zs → Setting s xs o zs → y .key ≡ o .key → top ≡ beta s → l ≡ level s (o .key) →
+unfoldable pub Put-held : Sizes → (l : ℕ) → Order → (bs bs′ : List ℕ) → Type 0
+Put-held s l o bs bs′ =
+    (xs : List Order) (y : Order) (zs : List Order) → Setting s xs y zs → Setting s xs o zs → y .key ≡ o .key → l ≡ level s (o .key) →
     bs ≡ image s (xs ++ y ∷ zs) → bs′ ≡ image s (xs ++ o ∷ zs)
 
 -- ---- what is known on the way of a put, question by question
@@ -68,10 +68,9 @@ pub record Put-sure (bs : List ℕ) (k t d : ℕ) : Type 0 where
   pub key : is-key k ≡ true
   pub quantities : quantities-good t d ≡ true
 
--- sizes, the top level and a key's level, as the functions read them
-pub record Sized (bs : List ℕ) (s : Sizes) (top l k : ℕ) : Type 0 where
+-- sizes and a key's level, as the functions read them
+pub record Sized (bs : List ℕ) (s : Sizes) (l k : ℕ) : Type 0 where
   pub sizes-are : s ≡ sizes-in bs
-  pub top-is : top ≡ beta s
   pub level-is : l ≡ level s k
 
 -- question 7 has a yes for a key that is not held

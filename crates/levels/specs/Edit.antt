@@ -26,6 +26,14 @@ Elsewhere F G k f = (l g i : ℕ) → (l ≡ k → g ≡ f → ⊥) → G l g i 
 unfoldable pub Elsewhere-both : (old new : Map) → (k f h : ℕ) → Type 0
 Elsewhere-both F G k f h = (l g i : ℕ) → (l ≡ k → g ≡ f → ⊥) → (l ≡ k → g ≡ h → ⊥) → G l g i ≡ F l g i
 
+-- the most nodes of a partition that bytes can say: 255 in each of 65,535 blocks
+abbrev pub most-nodes : ℕ
+most-nodes = 255 * 65535
+
+-- .. and of an image: its orders and the front
+abbrev pub most-listed : ℕ
+most-listed = 65535 + 1
+
 -- WHERE A KEY COMES in a partition of nodes ps below it and qs not below it
 unfoldable pub Scans : Sizes → List ℕ → (k f y : ℕ) → Spot → Type 0
 Scans s bs k f y r =
@@ -43,14 +51,14 @@ pub record Spots (s : Sizes) (bs : List ℕ) (k f y : ℕ) (whole : Bool) (r : S
   pub reaches : Reaches s bs k f y r
   pub scans : whole ≡ true → Scans s bs k f y r
   pub few : r .below ≤ r .size
-  pub most : r .size ≤ 16711425
+  pub most : r .size ≤ most-nodes
 
 -- what an edit needs of a partition and a key at level k: numbers that bytes can hold, and a place in it
 pub record Room (s : Sizes) (k f : ℕ) (ps qs : List Order) (x : Spot) (o : Order) : Type 0 where
   pub level : 0 < k
   pub first : f < 4294967296
   pub fine : Fine o
-  pub few : length (ps ++ qs) ≤ 65536
+  pub few : length (ps ++ qs) ≤ most-listed
   pub below : x .below ≡ length ps
   pub size : x .size ≡ length (ps ++ qs)
 
@@ -96,7 +104,7 @@ Puts-below s k f x o bs bs′ =
 unfoldable pub Cancels-below : Sizes → (k f g : ℕ) → (below size : ℕ) → (bs bs′ : List ℕ) → Type 0
 Cancels-below s k f g m w bs bs′ =
     (F : Map) (n : ℕ) (hd : List ℕ) (ps : List Order) (y : Order) (qs : List Order) → Table s F n hd bs → 0 < k → f < 4294967296 → (f ≡ g → ⊥) →
-    length (ps ++ y ∷ qs) ≤ 65536 → m ≡ length ps → w ≡ suc (length qs) → 0 < length ps →
+    length (ps ++ y ∷ qs) ≤ most-listed → m ≡ length ps → w ≡ suc (length qs) → 0 < length ps →
     Pieces F (s .nodes) k f 0 ps → Pieces F (s .nodes) k g 0 (y ∷ qs) →
     Splits s F n hd bs′ k f g (ps ++ qs) [] (pieces (s .nodes) (length ps) + pieces (s .nodes) (suc (length qs)))
 
@@ -104,7 +112,7 @@ Cancels-below s k f g m w bs bs′ =
 unfoldable pub Replaces : Sizes → (f m : ℕ) → Order → (bs bs′ : List ℕ) → Type 0
 Replaces s f m o bs bs′ =
     (F : Map) (n : ℕ) (hd : List ℕ) (ps : List Order) (y : Order) (qs : List Order) → Table s F n hd bs → Fine o → y .key ≡ o .key → m ≡ length ps →
-    length (ps ++ y ∷ qs) ≤ 65536 → Pieces F (s .nodes) 1 f 0 (ps ++ y ∷ qs) → Comes-in s F n hd bs′ 1 f (ps ++ y ∷ qs) (ps ++ o ∷ qs)
+    length (ps ++ y ∷ qs) ≤ most-listed → Pieces F (s .nodes) 1 f 0 (ps ++ y ∷ qs) → Comes-in s F n hd bs′ 1 f (ps ++ y ∷ qs) (ps ++ o ∷ qs)
 
 -- THE WAY DOWN to a key y in the image of xs, below it, and zs, not below it
 pub record Way (s : Sizes) (bs : List ℕ) (y : ℕ) (xs zs : List Order) : Type 0 where
@@ -117,8 +125,8 @@ pub record Way (s : Sizes) (bs : List ℕ) (y : ℕ) (xs zs : List Order) : Type
   pub pos : 0 < y
 
 -- THE PARTITION OF LEVEL l that has the nodes just below a key: its first key
-unfoldable pub Leads : Sizes → List ℕ → (top l y : ℕ) → ℕ → Type 0
-Leads s bs top l y r = (xs zs : List Order) → Way s bs y xs zs → top ≡ beta s → l ≤ top → r ≡ first-key (head-part s l xs)
+unfoldable pub Leads : Sizes → List ℕ → (l y : ℕ) → ℕ → Type 0
+Leads s bs l y r = (xs zs : List Order) → Way s bs y xs zs → l ≤ beta s → r ≡ first-key (head-part s l xs)
 
 -- HOW MANY CHUNKS MORE the table has once a key of level l that is not held is there; f is what leads to it
 unfoldable pub Grows : Sizes → List ℕ → (f l y : ℕ) → ℕ → Type 0

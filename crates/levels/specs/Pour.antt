@@ -56,11 +56,15 @@ pub data Flushed (s : Sizes) (F : Map) (m : ℕ) (hd : List ℕ) (w : Label) (c 
   writes : s .nodes ≤ length c → r ≡ length (drop (s .nodes) c) → Table s (with-nodes w (take (s .nodes) c) F) (suc m) hd bs → Front cs (drop (s .nodes) c)
       → Flushed s F m hd w c bs cs r
 
+-- so many numbers a chunk can have, in two bytes
+abbrev pub numbers : ℕ
+numbers = 65536
+
 -- a label that bytes can hold
 pub record Writable (w : Label) : Type 0 where
   pub level : 0 < w .level
   pub first : w .first < 4294967296
-  pub number : w .number < 65536
+  pub number : w .number < numbers
 
 unfoldable pub Flushes : Sizes → Label → (n : ℕ) → (bs bs′ cs cs′ : List ℕ) → (r : ℕ) → Type 0
 Flushes s w n bs bs′ cs cs′ r =
@@ -72,7 +76,7 @@ pub record Pourable (s : Sizes) (F : Map) (m : ℕ) (k f j count g q : ℕ) (c r
   pub level : 0 < k
   pub first : g < 4294967296
   pub fine : Fines c
-  pub few : q + pieces (s .nodes) (length (c ++ rest)) ≤ 65536
+  pub few : q + pieces (s .nodes) (length (c ++ rest)) ≤ numbers
   pub some : 0 < s .nodes
   pub short : length c < 2 * s .nodes
   pub chunks : count ≡ pieces (s .nodes) (length rest)

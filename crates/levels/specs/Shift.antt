@@ -1,7 +1,7 @@
 -- Nodes on the move where labels stay, told by the map that a table keeps: a chunk set to some nodes, the first nodes of a carry written over a chunk, and all chunks of a partition from one on.
 use mathlib.Core.Path.{_≡_}
 use mathlib.Core.List.{List, [], _++_}
-use Prim.Native.Nat.{ℕ, suc, _+_, _*_, _≤_, _<_}
+use Prim.Native.Nat.{ℕ, _+_, _≤_, _<_}
 use lib.ListN.{length, take, drop}
 use Rattle.placement.specs.Maps.{Map, Table, Fines, nodes-of, with-nodes}
 use Rattle.sizes.specs.declared.Sizes.{Sizes}
@@ -9,7 +9,7 @@ use Rattle.placement.specs.declared.Order.{Order}
 use Rattle.placement.specs.declared.Label.{Label}
 use Rattle.skiplist.specs.Parts.{pieces}
 use Rattle.levels.specs.Edit.{Pieces}
-use Rattle.levels.specs.Pour.{Front, one, Writable}
+use Rattle.levels.specs.Pour.{Front, one, numbers, Writable}
 
 -- A CHUNK IS SET to some nodes, or cleared where there are none
 pub record Stored (s : Sizes) (F : Map) (m : ℕ) (hd : List ℕ) (w : Label) (ns : List Order) (bs : List ℕ) : Type 0 where
@@ -44,7 +44,7 @@ pub record Shiftable (s : Sizes) (F : Map) (m k f q count : ℕ) (c old new : Li
   pub fine : Fines c
   pub short : length c ≤ s .nodes + 1
   pub two : 2 ≤ s .nodes
-  pub few : q + pieces (s .nodes) (length new) ≤ 65536
+  pub few : q + pieces (s .nodes) (length new) ≤ numbers
   pub chunks : count ≡ pieces (s .nodes) (length (drop (s .nodes) old))
   pub source : Pieces F (s .nodes) k f q old
   pub is : c ++ drop (s .nodes) old ≡ new

@@ -1,6 +1,6 @@
 // One level of an edit. A key comes into its partition at its own level and starts one at each level below; taken out, the same backwards.
 ghost use mathlib.Core.Path.{_≡_};
-ghost use Prim.Native.Nat.{ℕ, _+_, _*_, _≤_, _<_};
+ghost use Prim.Native.Nat.{_+_, _*_, _≤_, _<_};
 ghost use lib.ListN.{length};
 ghost use lib.Seq.{sets};
 ghost use Rattle.placement.specs.Chunks.{node-bytes};

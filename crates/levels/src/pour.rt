@@ -1,7 +1,7 @@
 // Nodes on the move to other labels: chunks are taken out of a partition into a carry, and written again as chunks of another.
 // Every chunk is taken out before one is put in, so a table that is exactly full afterwards is never overfull on the way.
 ghost use mathlib.Core.Path.{_≡_};
-ghost use Prim.Native.Nat.{ℕ, _+_, _*_, _≤_, _<_};
+ghost use Prim.Native.Nat.{_+_, _*_, _≤_, _<_};
 ghost use lib.ListN.{length};
 ghost use Rattle.placement.specs.Place.{Shaped};
 ghost use Rattle.levels.specs.Pour.{at, Kept, Reads, Takes, Flushes, Puts, Pours};

@@ -1,11 +1,13 @@
 // Where a key comes in a partition.
 ghost use mathlib.Core.Path.{_≡_};
-ghost use Prim.Native.Nat.{ℕ, _+_, _*_, _-_, _≤_, _<_};
+ghost use Prim.Native.Nat.{_+_, _*_, _-_, _≤_, _<_};
 ghost use lib.ListN.{length};
-ghost use Rattle.sizes.specs.Numbers.{over};
-ghost use Rattle.placement.specs.Place.{Shaped};
+ghost use Rattle.sizes.specs.Geometry.{Reckoned};
+ghost use Rattle.sizes.specs.Hash.{hash-from};
+ghost use Rattle.placement.specs.Place.{Shaped, search-in};
 ghost use Rattle.skiplist.specs.Parts.{pieces};
-ghost use Rattle.levels.specs.Edit.{Scans, Reaches, Spots};
+ghost use Rattle.levels.specs.Edit.{most-nodes, Scans, Reaches, Spots};
+ghost use Rattle.levels.specs.Pour.{at};
 ghost use Rattle.levels.specs.Scan.{passed, passes};
 use crate::Spot;
 use placement::Found;
@@ -13,13 +15,13 @@ use placement::Label;
 use placement::labels::offset;
 use placement::search::count_at;
 use placement::search::find_high;
-use sizes::Sizes;
+use sizes::Geometry;
 use sizes::hash::hash;
 use sizes::numbers::be4;
 
 // A node comes by: it is counted, and kept if it is below the key.
 fn pass_node(key: u32, y: u32, x: Spot) -> Spot
-    requires { ⌜ (x .below ≤ x .size) × (x .size < 16711425) ⌝ }
+    requires { ⌜ (x .below ≤ x .size) × (x .size < most-nodes) ⌝ }
     ensures { λ r. ⌜ (r ≡ passed key y x) × (r .below ≤ r .size) × (r .size ≡ x .size + 1) ⌝ }
 {
     if key < y {
@@ -38,7 +40,7 @@ fn pass_node(key: u32, y: u32, x: Spot) -> Spot
 
 // The nodes of a chunk come by.
 fn pass_nodes(table: &[u8], at: usize, n: u32, y: u32, x: Spot) -> Spot
-    requires { ⌜ (at + 12 * n ≤ length (now table)) × (x .below ≤ x .size) × (x .size + n ≤ 16711425) ⌝ }
+    requires { ⌜ (at + 12 * n ≤ length (now table)) × (x .below ≤ x .size) × (x .size + n ≤ most-nodes) ⌝ }
     ensures { λ r. ⌜ (r ≡ passes (now (table .entry)) n at y x) × (r .below ≤ r .size) × (r .size ≡ x .size + n) ⌝ }
 {
     let mut spot = x;
@@ -51,12 +53,31 @@ fn pass_nodes(table: &[u8], at: usize, n: u32, y: u32, x: Spot) -> Spot
     spot
 }
 
-// How many nodes of a partition are below a key, the key of the last of them, and how many nodes there are: in the `whole` partition, or only as far as
-// a node that is not below the key, since none behind it is. `round` is 2^32 over the number of blocks, rounded up.
-fn spot_in(table: &[u8], s: Sizes, round: u64, level: u32, first: u32, y: u32, whole: bool) -> Spot
-    requires { ⌜ Shaped s (now table) × (round ≡ over (s .blocks)) × (level ≤ 19) ⌝ }
-    ensures { λ r. ⌜ Spots s (now (table .entry)) level first y whole r ⌝ }
+// A chunk's block, by the hash g of the first key.
+fn chunk(table: &[u8], q: Geometry, g: u32, level: u32, first: u32, number: u32) -> Found
+    requires { ⌜ Shaped (q .sizes) (now table) × Reckoned q × (g ≡ hash-from 5 5 (q .sizes .seed) first) × (level ≤ q .top) × (number ≤ 65535) ⌝ }
+    ensures { λ r. ⌜ r ≡ search-in (q .sizes) (now (table .entry)) (at level first number) ⌝ }
 {
+    find_high(
+        table,
+        q.sizes,
+        q.round,
+        g,
+        Label {
+            level: level,
+            first: first,
+            number: number,
+        },
+    )
+}
+
+// How many nodes of a partition are below a key, the key of the last of them, and how many nodes there are: in the `whole` partition, or only as far as
+// a node that is not below the key, since none behind it is.
+fn spot_in(table: &[u8], q: Geometry, level: u32, first: u32, y: u32, whole: bool) -> Spot
+    requires { ⌜ Shaped (q .sizes) (now table) × Reckoned q × (level ≤ q .top) ⌝ }
+    ensures { λ r. ⌜ Spots (q .sizes) (now (table .entry)) level first y whole r ⌝ }
+{
+    let s = q.sizes;
     let g = hash(s, 5, first);
     let mut spot = Spot {
         below: 0,
@@ -65,17 +86,7 @@ fn spot_in(table: &[u8], s: Sizes, round: u64, level: u32, first: u32, y: u32, w
     };
     let mut number: u32 = 0;
     while number < s.blocks {
-        let Found::At(i) = find_high(
-            table,
-            s,
-            round,
-            g,
-            Label {
-                level: level,
-                first: first,
-                number: number,
-            },
-        ) else {
+        let Found::At(i) = chunk(table, q, g, level, first, number) else {
             return spot;
         };
         let n = count_at(table, s, i);
@@ -100,19 +111,19 @@ fn spot_in(table: &[u8], s: Sizes, round: u64, level: u32, first: u32, y: u32, w
 }
 
 // All nodes of a partition.
-pub fn scan(table: &[u8], s: Sizes, round: u64, level: u32, first: u32, y: u32) -> Spot
-    requires { ⌜ Shaped s (now table) × (round ≡ over (s .blocks)) × (level ≤ 19) ⌝ }
-    ensures { λ r. ⌜ Scans s (now (table .entry)) level first y r × (r .below ≤ r .size) × (r .size ≤ 16711425) ⌝ }
+pub fn scan(table: &[u8], q: Geometry, level: u32, first: u32, y: u32) -> Spot
+    requires { ⌜ Shaped (q .sizes) (now table) × Reckoned q × (level ≤ q .top) ⌝ }
+    ensures { λ r. ⌜ Scans (q .sizes) (now (table .entry)) level first y r × (r .below ≤ r .size) × (r .size ≤ most-nodes) ⌝ }
 {
-    spot_in(table, s, round, level, first, y, true)
+    spot_in(table, q, level, first, y, true)
 }
 
 // As far as a node that is not below the key.
-pub fn reach(table: &[u8], s: Sizes, round: u64, level: u32, first: u32, y: u32) -> Spot
-    requires { ⌜ Shaped s (now table) × (round ≡ over (s .blocks)) × (level ≤ 19) ⌝ }
-    ensures { λ r. ⌜ Reaches s (now (table .entry)) level first y r ⌝ }
+pub fn reach(table: &[u8], q: Geometry, level: u32, first: u32, y: u32) -> Spot
+    requires { ⌜ Shaped (q .sizes) (now table) × Reckoned q × (level ≤ q .top) ⌝ }
+    ensures { λ r. ⌜ Reaches (q .sizes) (now (table .entry)) level first y r ⌝ }
 {
-    spot_in(table, s, round, level, first, y, false)
+    spot_in(table, q, level, first, y, false)
 }
 
 // The chunks of so many nodes.

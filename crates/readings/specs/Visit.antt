@@ -35,9 +35,13 @@ abbrev pub starting : (lo hi least : ℕ) → (writes seeks : Bool) → Visit
 starting lo hi l w k =
     record { lo = lo; hi = hi; least = l; writes = w; seeks = k; found = 0; ended = false; key = 0; total = 0; displayed = 0 }
 
--- one more, up to the most orders that a table can hold
+-- the most orders that a table can hold
+abbrev pub most-orders : ℕ
+most-orders = 65535
+
+-- one more, up to the most
 unfoldable pub next-found : ℕ → ℕ
-next-found n = cond (ltb n 65535) (n + 1) n
+next-found n = cond (ltb n most-orders) (n + 1) n
 
 -- one more order is counted; a seek ends with it
 unfoldable pub more-found : Order → Visit → Visit
@@ -52,6 +56,10 @@ ended-visit v =
 -- is the order one that is looked for? A seek asks for the reserve
 unfoldable pub wanted-by : Visit → Order → Bool
 wanted-by v o = leb (v .lo) (o .key) && cond (v .seeks) (leb (v .least) (reserve o)) true
+
+-- past the last row that a count of 32 bits can have
+abbrev pub most-rows : ℕ
+most-rows = 12 * 4294967295
 
 -- a row of the output, where it has room
 unfoldable pub row-in : (output : List ℕ) → (at : ℕ) → Order → List ℕ
@@ -92,7 +100,7 @@ pub record Whole (bs : List ℕ) (a j : ℕ) (v : Visit) (room : ℕ) : Type 0 w
   pub some : 0 < j
   pub low : v .lo ≤ field a 4 bs
   pub high : field (a + 12 * (j - 1)) 4 bs ≤ v .hi
-  pub few : v .found + j ≤ 65535
+  pub few : v .found + j ≤ most-orders
   pub held : v .writes ≡ true → 12 * (v .found + j) ≤ room
 
 -- the next node of a chunk does not come after the lowest key

@@ -8,6 +8,7 @@ ghost use Rattle.skiplist.specs.Questions.{first-no, is-key, between, asks-imag
 ghost use Rattle.table.specs.Calls.{says, Look-says, Span-says, Seek-says};
 ghost use Rattle.readings.specs.Visit.{scan, starting, steps, first-enough, reply-of};
 use crate::Visit;
+use crate::descent::geometry_of;
 use crate::descent::order_of;
 use crate::visits::visit_partition;
 use placement::Order;
@@ -81,6 +82,9 @@ fn visit_all(
     )
 }
 
+// Keys are below p.
+const P: u32 = 2147483647;
+
 // Is it a key?
 pub fn is_key(k: u32) -> bool
     ensures { λ r. ⌜ r ≡ is-key k ⌝ }
@@ -88,7 +92,7 @@ pub fn is_key(k: u32) -> bool
     if k == 0 {
         return false;
     }
-    k < 2147483647
+    k < P
 }
 
 // The questions of a range, which span and seek share: 4, 5, 10.
@@ -143,7 +147,7 @@ pub fn lookup(table: &[u8], key: u32) -> Reply
     if !is_key(key) {
         return refused(5);
     }
-    let Sought::Is(o) = order_of(table, key) else {
+    let Sought::Is(o) = order_of(table, geometry_of(table), key) else {
         return refused(9);
     };
     answered(o)

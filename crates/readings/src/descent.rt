@@ -3,6 +3,8 @@ ghost use mathlib.Core.Path.{_≡_};
 ghost use mathlib.Core.Bool.{true};
 ghost use Prim.Native.Nat.{_≤_, _<_};
 ghost use lib.ListN.{drop};
+ghost use Rattle.sizes.specs.Header.{sizes-in};
+ghost use Rattle.sizes.specs.Geometry.{Reckoned};
 ghost use Rattle.skiplist.specs.Image.{is-image, orders-in};
 ghost use Rattle.skiplist.specs.Questions.{between};
 ghost use Rattle.skiplist.specs.Parts.{part};
@@ -15,12 +17,21 @@ use placement::Label;
 use placement::labels::offset;
 use placement::search::count_at;
 use placement::search::find;
+use sizes::Geometry;
 use sizes::Sizes;
-use sizes::hash::highest;
 use sizes::hash::level_of;
+use sizes::hash::reckon;
 use sizes::header::Header;
-use sizes::numbers::over;
 use table::walk::node_of;
+
+// The sizes of an image, with what follows from them.
+pub fn geometry_of(table: &[u8]) -> Geometry
+    requires { ⌜ is-image (now table) ≡ true ⌝ }
+    ensures { λ r. ⌜ (r .sizes ≡ sizes-in (now (table .entry))) × Reckoned r ⌝ }
+{
+    let h = Header::read(table);
+    reckon(h.sizes)
+}
 
 // Node `below` of the partition of level 1 that `first` heads, if it has the key.
 fn node_there(table: &[u8], s: Sizes, first: u32, below: u32, key: u32) -> Sought
@@ -50,18 +61,14 @@ fn node_there(table: &[u8], s: Sizes, first: u32, below: u32, key: u32) -> Sough
 }
 
 // The order with a key.
-pub fn order_of(table: &[u8], key: u32) -> Sought
-    requires { ⌜ (is-image (now table) ≡ true) × (1 ≤ key) ⌝ }
+pub fn order_of(table: &[u8], q: Geometry, key: u32) -> Sought
+    requires { ⌜ Known (q .sizes) (now table) × Reckoned q × (1 ≤ key) ⌝ }
     ensures { λ r. ⌜ r ≡ first-enough 0 (between key key (orders-in (now (table .entry)))) ⌝ }
 {
-    let h = Header::read(table);
-    let s = h.sizes;
-    let top = highest(s);
-    if 1 < level_of(s, top, key) {
-        return node_there(table, s, key, 0, key);
+    if 1 < level_of(q.sizes, q.top, key) {
+        return node_there(table, q.sizes, key, 0, key);
     }
-    let round = over(s.blocks);
-    let first = lead(table, s, round, top, 1, key);
-    let x = reach(table, s, round, 1, first, key);
-    node_there(table, s, first, x.below, key)
+    let first = lead(table, q, 1, key);
+    let x = reach(table, q, 1, first, key);
+    node_there(table, q.sizes, first, x.below, key)
 }

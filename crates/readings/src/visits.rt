@@ -6,12 +6,17 @@ ghost use lib.ListN.{length, drop};
 ghost use Rattle.sizes.specs.Sizes.{beta};
 ghost use Rattle.placement.specs.Decode.{nodes-from};
 ghost use Rattle.skiplist.specs.Image.{orders-in};
-ghost use Rattle.readings.specs.Visit.{scan, next-found, more-found, ended-visit, wanted-by, row-in, step-by, steps, Known, Row, Whole, passed-in, passed-front, under, all-under};
+ghost use Rattle.readings.specs.Visit.{most-rows, scan, next-found, more-found, ended-visit, wanted-by, row-in, step-by, steps, Known, Row, Whole, passed-in, passed-front, under, all-under};
 use crate::Visit;
 use placement::Found;
 use placement::Label;
 use placement::Order;
 use sizes::Sizes;
+
+// The most orders that a table can hold.
+const MOST: u32 = 65535;
+// A chunk's number has two bytes.
+const NUMBERS: u32 = 65536;
 
 // Nothing more need come.
 fn ended(v: Visit) -> Visit
@@ -22,11 +27,11 @@ fn ended(v: Visit) -> Visit
     w
 }
 
-// One more, up to the most orders that a table can hold.
+// One more, up to the most.
 fn next(n: u32) -> u32
     ensures { λ r. ⌜ r ≡ next-found n ⌝ }
 {
-    if n < 65535 {
+    if n < MOST {
         return n + 1;
     }
     n
@@ -68,7 +73,7 @@ fn wanted(v: Visit, o: Order) -> bool
 
 // A row of the output, where it has room.
 fn write_row(output: &mut [u8], at: usize, o: Order)
-    requires { ⌜ at ≤ 51539607540 ⌝ }
+    requires { ⌜ at ≤ most-rows ⌝ }
     ensures { λ r. ⌜ now (output .exit) ≡ row-in (now (output .entry)) at o ⌝ }
 {
     if at + 12 <= output.len() {
@@ -118,7 +123,7 @@ fn whole(table: &[u8], at: usize, left: u32, v: Visit, room: usize) -> bool
     if v.hi < sizes::numbers::be4(table, at + 12 * ((left - 1) as usize)) {
         return false;
     }
-    if 65535 < v.found as u64 + left as u64 {
+    if (MOST as u64) < v.found as u64 + left as u64 {
         return false;
     }
     if !v.writes {
@@ -177,7 +182,7 @@ fn visit_orders(table: &[u8], s: Sizes, at: usize, left: u32, v: Visit, output: 
     w
 }
 
-// A partition: its chunks, one after the other, a next one only behind a full one. A chunk's number has two bytes.
+// A partition: its chunks, one after the other, a next one only behind a full one.
 pub fn visit_partition(
     table: &[u8],
     s: Sizes,
@@ -191,7 +196,7 @@ pub fn visit_partition(
 {
     let mut w = v;
     let mut number: u32 = 0;
-    while number < 65536 {
+    while number < NUMBERS {
         if w.ended {
             return w;
         }

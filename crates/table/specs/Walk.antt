@@ -10,7 +10,8 @@ use Rattle.sizes.specs.Sizes.{prime}
 use Rattle.sizes.specs.Hash.{level}
 use Rattle.sizes.specs.Header.{block-long}
 use Rattle.placement.specs.Decode.{node-in}
-use Rattle.placement.specs.Place.{Shaped, label-in, home-of, search-in, found-at}
+use Rattle.placement.specs.Labels.{home}
+use Rattle.placement.specs.Place.{Shaped, label-in, search-in, found-at}
 use Rattle.sizes.specs.declared.Sizes.{Sizes}
 use Rattle.placement.specs.declared.Order.{Order}
 use Rattle.placement.specs.declared.Found.{Found}
@@ -99,7 +100,7 @@ chunk-spot s bs l f i = search-in s bs (record { level = l; first = f; number = 
 
 -- the search for a partition's first chunk starts at an empty block
 unfoldable pub empty-home : Sizes → List ℕ → (level first : ℕ) → Bool
-empty-home s bs l f = eqb (label-in (block-long s) bs (home-of s (record { level = l; first = f; number = 0 })) .level) 0
+empty-home s bs l f = eqb (label-in (block-long s) bs (home s (record { level = l; first = f; number = 0 })) .level) 0
 
 -- how many nodes block b says that it has
 unfoldable pub count-in : (long : ℕ) → List ℕ → (b : ℕ) → ℕ

@@ -59,7 +59,7 @@ module _ (s : Sizes) (xs : List Order) (o : Order) (zs : List Order) (w : Settin
           let e = part-in s (suc j) xs o zs (all-up s xs o zs w) h in
           let v = seen x (o ∷ qs) e (omega arith, behind) sc in
           let c = p (b .map) (b .full) (header s (length (xs ++ o ∷ zs))) (map (masked (suc j)) ps) (masked (suc j) o) (map (masked (suc j)) qs) (b .table)
-          (room s xs o zs w (suc j) (omega arith) (first-key ps) x ps (o ∷ qs) (masked (suc j) o) low (first-low s xs o zs w (suc j)) (fine-masked (suc j) o (order-fine s xs o zs w)) few v)
+          (room s xs o zs w (suc j) (omega arith) (first-key ps) x ps (o ∷ qs) (masked (suc j) o) (first-low s xs o zs w (suc j)) (fine-masked (suc j) o (order-fine s xs o zs w)) few v)
           (rw map-append at (there (first-key ps) (ps ++ o ∷ qs) e)) (rw (length-map ps (masked (suc j))) (head-part-long s (suc j) xs)) in (
             next-first s xs o zs w j x (o ∷ qs) v,
             one-changed s (xs ++ o ∷ zs) (xs ++ zs) (some-nodes s xs o zs w) (all-up s xs o zs w) (less-up s xs o zs w) j low bs b bs′ (first-key ps) (ps ++ o ∷ qs) (ps ++ qs)

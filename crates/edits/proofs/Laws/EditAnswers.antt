@@ -1,5 +1,5 @@
 -- Which number a put or a cancel gives, question by question, and what an image tells of its header.
-use mathlib.Core.Path.{_≡_, sym, ap, _∙_, subst}
+use mathlib.Core.Path.{_≡_, sym, ap, _∙_}
 use mathlib.Core.Bool.{Bool, true, false, _&&_, and-false}
 use mathlib.Core.List.{List, []}
 use Prim.Native.Nat.{ℕ, _+_, _≤_, _<_}
@@ -11,26 +11,22 @@ use mir.Val.{Fits}
 use lib.Dec.{leb}
 use lib.ListN.{length}
 use Rattle.sizes.specs.Numbers.{big, field}
-use Rattle.sizes.specs.Sizes.{beta, made, seed-good}
+use Rattle.sizes.specs.Sizes.{seed-good}
 use Rattle.sizes.specs.Hash.{level}
 use Rattle.sizes.specs.Header.{header, sizes-in, held-in}
 use Rattle.placement.specs.Place.{Shaped}
-use Rattle.placement.specs.Maps.{map-of}
 use Rattle.sizes.specs.declared.Sizes.{Sizes}
 use Rattle.sizes.proofs.Laws.Sizes.{Limits, limits}
 use Rattle.sizes.proofs.Laws.Numbers.{field-big}
-use Rattle.placement.proofs.Laws.Tables.{shaped}
-use Rattle.skiplist.specs.Lists.{chunks}
 use Rattle.skiplist.specs.Image.{image, is-image, orders-in, quantities-good}
 use Rattle.skiplist.specs.Questions.{first-no, asks-image, asks-put, is-key}
 use Rattle.skiplist.specs.Book.{Call, put, asks, changed, refusal, done}
 use Rattle.skiplist.proofs.Laws.Kept.{fits-parts, Kept}
-use Rattle.skiplist.proofs.Laws.Third.{image-parts}
-use Rattle.skiplist.proofs.Laws.Image.{image-keeps}
 use Rattle.table.specs.declared.Tally.{Tally}
 use Rattle.table.specs.Check.{swept, Examined}
 use Rattle.table.specs.Calls.{Edit-says, Put-says}
-use Rattle.readings.proofs.Laws.Answers.{known-long}
+use Rattle.readings.specs.Visit.{Known}
+use Rattle.readings.proofs.Laws.Answers.{known-image, known-at, known-long}
 use Rattle.edits.specs.Change.{Put-sure, Sized}
 
 -- ---- question 4, as `examine` tells
@@ -48,23 +44,13 @@ module _ (bs : List ℕ) (r : Tally) (x : Examined bs r) where
 -- ---- an image's header
 
 module _ (bs : List ℕ) (e : is-image bs ≡ true) where
-  pub image-is : bs ≡ image (sizes-in bs) (orders-in bs)
-  image-is = sym (image-parts bs e .bytes)
-
   pub image-limits : Limits (sizes-in bs)
-  image-limits = limits (sizes-in bs) (image-parts bs e .sizes-made)
+  image-limits = limits (sizes-in bs) (known-image bs e .sizes-made)
 
   pub image-shaped : (s : Sizes) → s ≡ sizes-in bs → Shaped s bs
-  image-shaped s q =
-      let w = image-parts bs e in
-      let os = orders-in bs in
-      let t = image-keeps (sizes-in bs) os (w .sizes-made) (w .orders-kept .good) (w .orders-kept .fit) in
-      rw q (subst (Shaped (sizes-in bs)) (w .bytes) (shaped (sizes-in bs) (map-of (chunks (sizes-in bs) os)) (length (chunks (sizes-in bs) os)) (header (sizes-in bs) (length os)) (image (sizes-in bs) os) t))
+  image-shaped s q = known-at bs s e q .shaped
 
   -- what the functions ask of the sizes
-  pub image-gamma : (s : Sizes) → s ≡ sizes-in bs → s .gamma ≤ 64
-  image-gamma s q = rw q (image-limits .gamma-most)
-
   pub image-gamma-some : (s : Sizes) → s ≡ sizes-in bs → 0 < s .gamma
   image-gamma-some s q = rw q (omega (arith, image-limits .gamma-least))
 
@@ -73,12 +59,6 @@ module _ (bs : List ℕ) (e : is-image bs ≡ true) where
 
   pub image-nodes : (s : Sizes) → s ≡ sizes-in bs → 2 ≤ s .nodes
   image-nodes s q = rw q (image-limits .nodes-least)
-
-  pub image-blocks : (s : Sizes) → s ≡ sizes-in bs → s .blocks ≤ 65535
-  image-blocks s q = rw q (image-limits .blocks-most)
-
-  pub image-blocks-some : (s : Sizes) → s ≡ sizes-in bs → 0 < s .blocks
-  image-blocks-some s q = image-shaped s q .some
 
   pub image-seeds : (s : Sizes) → s ≡ sizes-in bs → seed-good (s .seed) ≡ true
   image-seeds s q = rw q (image-limits .seeds)
@@ -90,8 +70,13 @@ module _ (bs : List ℕ) (e : is-image bs ≡ true) where
   pub image-held : held-in bs ≡ length (orders-in bs)
   unfolding held-in image header big field
   image-held =
-      let n : length (orders-in bs) < 65536 = omega (arith, fits-parts (sizes-in bs) (orders-in bs) (image-parts bs e .orders-kept .fit) .few, image-limits .orders-most) in
-      ap held-in image-is ∙ field-big 2 (length (orders-in bs)) [] n
+      let n : length (orders-in bs) < 65536 = omega (arith, fits-parts (sizes-in bs) (orders-in bs) (known-image bs e .fit) .few, image-limits .orders-most) in
+      ap held-in (sym (known-image bs e .bytes)) ∙ field-big 2 (length (orders-in bs)) [] n
+
+-- .. as a header's field
+pub held-told : (bs : List ℕ) (m : ℕ) → m ≡ field 11 2 bs → m ≡ held-in bs
+unfolding held-in
+held-told bs m e = e
 
 -- one more of them is still small
 pub held-next : (bs : List ℕ) (s : Sizes) (m : ℕ) → m < s .orders → s ≡ sizes-in bs → is-image bs ≡ true → Fits w32 (m + 1)
@@ -141,16 +126,8 @@ module _ (bs : List ℕ) (k t d : ℕ) where
   unfolding quantities-good
   put-sure e q r f h = record { image = e; key = q; quantities = rw (le-leb 1 t (omega (arith, r)), le-leb t 4294967295 (omega arith), le-leb d t f) }
 
--- an image under the sizes that it has
-pub record On-image (bs : List ℕ) (s : Sizes) : Type 0 where
-  pub sizes-made : made s ≡ true
-  pub kept : Kept s (orders-in bs)
-  pub is : bs ≡ image s (orders-in bs)
+pub known-kept : (bs : List ℕ) (s : Sizes) → Known s bs → Kept s (orders-in bs)
+known-kept bs s w = record { good = w .good; fit = w .fit }
 
-pub on-image : (bs : List ℕ) (s : Sizes) → is-image bs ≡ true → s ≡ sizes-in bs → On-image bs s
-on-image bs s e q =
-    let w = image-parts bs e in
-    subst (On-image bs) (sym q) (record { sizes-made = w .sizes-made; kept = w .orders-kept; is = image-is bs e })
-
-pub sized : (bs : List ℕ) (s : Sizes) (top l k : ℕ) → s ≡ sizes-in bs → top ≡ beta s → l ≡ level s k → Sized bs s top l k
-sized bs s top l k q t e = record { sizes-are = q; top-is = t; level-is = e }
+pub sized : (bs : List ℕ) (s : Sizes) (l k : ℕ) → s ≡ sizes-in bs → l ≡ level s k → Sized bs s l k
+sized bs s l k q e = record { sizes-are = q; level-is = e }

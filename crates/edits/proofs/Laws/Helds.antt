@@ -26,10 +26,10 @@ use Rattle.edits.proofs.Laws.Settings.{all-up, behind-up, some-nodes, h
 use Rattle.edits.proofs.Laws.WaySpots.{come-to}
 use Rattle.edits.proofs.Laws.Swaps.{swapped}
 
-module _ (s : Sizes) (top l : ℕ) (o : Order) (bs bs′ : List ℕ) where
-  pub put-held-high : 1 < l → Replaces s (o .key) 0 o bs bs′ → Put-held s top l o bs bs′
+module _ (s : Sizes) (l : ℕ) (o : Order) (bs bs′ : List ℕ) where
+  pub put-held-high : 1 < l → Replaces s (o .key) 0 o bs bs′ → Put-held s l o bs bs′
   unfolding Put-held
-  put-held-high h r xs y zs w v e te le i =
+  put-held-high h r xs y zs w v e le i =
       swapped s xs y o zs e w v (o .key) 0 [] (tail-part s 1 zs) bs bs′ r i refl (omega (arith, tail-most s 1 zs, few-orders s xs o zs v))
       (subst (λ (g : ℕ). part s (xs ++ y ∷ zs) 1 g ≡ y ∷ tail-part s 1 zs) e (part-right s 1 xs y zs (all-up s xs y zs w) up-y))
       (part-right s 1 xs o zs (all-up s xs o zs v) up-o) (λ g n. go g n (eqb (first-key (head-part s 1 xs)) g) refl)
@@ -46,9 +46,9 @@ module _ (s : Sizes) (top l : ℕ) (o : Order) (bs bs′ : List ℕ) where
           part-other s 1 xs y zs (all-up s xs y zs w) g (eqb-false (first-key (head-part s 1 xs)) g z) (λ q. n (sym e ∙ q))
           ∙ sym (part-other s 1 xs o zs (all-up s xs o zs v) g (eqb-false (first-key (head-part s 1 xs)) g z) n)
 
-  pub put-held-low : (f : ℕ) (x : Spot) → l ≤ 1 → Leads s bs top 1 (o .key) f → Reaches s bs 1 f (o .key) x → Replaces s f (x .below) o bs bs′ → Put-held s top l o bs bs′
+  pub put-held-low : (f : ℕ) (x : Spot) → l ≤ 1 → Leads s bs 1 (o .key) f → Reaches s bs 1 f (o .key) x → Replaces s f (x .below) o bs bs′ → Put-held s l o bs bs′
   unfolding Put-held Leads
-  put-held-low f x h b sc r xs y zs w v e te le i =
+  put-held-low f x h b sc r xs y zs w v e le i =
       swapped s xs y o zs e w v (first-key (head-part s 1 xs)) (x .below) (head-part s 1 xs) (tail-part s 1 zs) bs bs′ (rw fe at r) i seen
       (simp length-append (omega (arith, head-most s 1 xs, tail-most s 1 zs, few-orders s xs o zs v))) in-y (part-in s 1 xs o zs (all-up s xs o zs v) at-o)
       (λ g n. part-beside s xs y zs w 1 g at-y n ∙ sym (part-beside s xs o zs v 1 g at-o n))
@@ -66,7 +66,7 @@ module _ (s : Sizes) (top l : ℕ) (o : Order) (bs bs′ : List ℕ) where
       from = omega (arith, e)
 
       fe : f ≡ first-key (head-part s 1 xs)
-      fe = b xs (y ∷ zs) (held-way s xs y zs w bs (o .key) i e) te (omega (arith, te, beta-least s))
+      fe = b xs (y ∷ zs) (held-way s xs y zs w bs (o .key) i e) (omega (arith, beta-least s))
 
       seen : x .below ≡ length (head-part s 1 xs)
       seen =

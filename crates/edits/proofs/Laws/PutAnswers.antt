@@ -2,17 +2,18 @@
 use mathlib.Core.Path.{_≡_, refl, sym, ap, _∙_, subst}
 use mathlib.Core.Bool.{true, false, true≢false, and-false}
 use mathlib.Core.List.{List, _∷_, _++_}
-use Prim.Native.Nat.{ℕ, suc, _+_, _≤_, _<_}
+use Prim.Native.Nat.{ℕ, suc, _+_, _*_, _≤_, _<_}
 use native.Mathlib.Nat.{add-suc}
 use native.Mathlib.Omega.{arith}
 use borrow.Author.Tests.{leb-true, lt-leb, lt-ltb, le-ltb}
+use borrow.Author.Needs.{fits-under}
 use mir.Syntax.{w32}
 use mir.Val.{Fits}
 use lib.Dec.{ltb, leb}
 use lib.ListN.{length, length-append}
 use lib.Seq.{sets}
 use Rattle.sizes.specs.Numbers.{big}
-use Rattle.sizes.specs.Sizes.{prime, beta, made}
+use Rattle.sizes.specs.Sizes.{prime, made}
 use Rattle.sizes.specs.Hash.{level}
 use Rattle.sizes.specs.Header.{sizes-in, held-in}
 use Rattle.sizes.specs.declared.Sizes.{Sizes}
@@ -28,10 +29,10 @@ use Rattle.skiplist.proofs.Laws.Shapes.{Place, there, absent, place, held-there
 use Rattle.skiplist.proofs.Laws.Kept.{fits-parts, fits-make, Kept, kept-put}
 use Rattle.table.specs.Calls.{Put-says}
 use Rattle.levels.specs.Edit.{Way, Leads, Grows}
+use Rattle.readings.proofs.Laws.Answers.{known-at}
 use Rattle.edits.specs.Change.{Put-new, Put-held, Put-sure, Sized, Put-free}
 use Rattle.edits.proofs.Laws.Swaps.{chunks-swap}
-use Rattle.edits.proofs.Laws.ChunkBounds.{chunks-small}
-use Rattle.edits.proofs.Laws.EditAnswers.{refused, accepted, image-held, image-orders, on-image}
+use Rattle.edits.proofs.Laws.EditAnswers.{refused, accepted, image-held, known-kept}
 
 pub put-free : (bs : List ℕ) (s : Sizes) (k m : ℕ) → held k (orders-in bs) ≡ false → m ≡ held-in bs → m < s .orders → Put-free bs s k
 put-free bs s k m h e l = record { absent-is = h; more = omega (arith, e, l) }
@@ -59,7 +60,7 @@ module _ (s : Sizes) (k t d : ℕ) (os : List Order) (m : made s ≡ true) (w : 
     new-length = new-at (λ (z : List Order). length (with-order (order k t d) z) ≡ suc (length z))
         (λ xs zs q f v. rw (put-new (order k t d) xs zs f v, length-append xs (order k t d ∷ zs), length-append xs zs) (add-suc (length xs) (length zs)))
 
-    module _ (bs : List ℕ) (top l f : ℕ) (i : bs ≡ image s os) (te : top ≡ beta s) (le : l ≡ level s k) (ld : Leads s bs top l k f) where
+    module _ (bs : List ℕ) (l f : ℕ) (i : bs ≡ image s os) (le : l ≡ level s k) (ld : Leads s bs l k f) where
       new-way : (xs zs : List Order) → os ≡ xs ++ zs → below k xs ≡ true → Up (suc k) zs → Way s bs k xs zs
       new-way xs zs q b v = record {
         good = m;
@@ -73,7 +74,7 @@ module _ (s : Sizes) (k t d : ℕ) (os : List Order) (m : made s ≡ true) (w : 
 
       new-first : (xs zs : List Order) → os ≡ xs ++ zs → below k xs ≡ true → Up (suc k) zs → f ≡ first-key (head-part s l xs)
       unfolding Leads
-      new-first xs zs q b v = ld xs zs (new-way xs zs q b v) te (omega (arith, te, le, level-most s k))
+      new-first xs zs q b v = ld xs zs (new-way xs zs q b v) (omega (arith, le, level-most s k))
 
       new-count : (g : ℕ) → Grows s bs f l k g → g + length (chunks s os) ≡ length (chunks s (with-order (order k t d) os))
       unfolding Grows
@@ -136,15 +137,15 @@ module _ (s : Sizes) (k t d : ℕ) (os : List Order) (m : made s ≡ true) (w : 
         let f = fits-parts s os (w .fit) in
         rw (key, quant, there-is, fits-make s (with-order (order k t d) os) (rw old-length (f .few)) (rw old-count (f .room)))
 
-    old-image : (bs bs′ : List ℕ) (top l : ℕ) → bs ≡ image s os → top ≡ beta s → l ≡ level s k → Put-held s top l (order k t d) bs bs′ → bs′ ≡ image s (with-order (order k t d) os)
+    old-image : (bs bs′ : List ℕ) (l : ℕ) → bs ≡ image s os → l ≡ level s k → Put-held s l (order k t d) bs bs′ → bs′ ≡ image s (with-order (order k t d) os)
     unfolding Put-held
-    old-image bs bs′ top l i te le h = old-at (λ (z : List Order). bs′ ≡ image s (with-order (order k t d) z))
+    old-image bs bs′ l i le h = old-at (λ (z : List Order). bs′ ≡ image s (with-order (order k t d) z))
         (λ xs y zs q e v.
         let v′ = kept-put s k t d os w old-yes in
         let p = put-old (order k t d) y xs zs 1 e v in
         let r : with-order (order k t d) os ≡ xs ++ order k t d ∷ zs = ap (with-order (order k t d)) q ∙ p in
         rw p
-        (h xs y zs (record { sizes = m; good = rw q at (w .good); fit = rw q at (w .fit) }) (record { sizes = m; good = rw r at (v′ .good); fit = rw r at (v′ .fit) }) e te le (rw q at i)))
+        (h xs y zs (record { sizes = m; good = rw q at (w .good); fit = rw q at (w .fit) }) (record { sizes = m; good = rw r at (v′ .good); fit = rw r at (v′ .fit) }) e le (rw q at i)))
 
 -- ---- the answers
 
@@ -162,22 +163,22 @@ module _ (bs : List ℕ) (s : Sizes) (k t d : ℕ) (p : Put-sure bs k t d) where
   -- question 7
   pub put-no-7 : (m : ℕ) → s ≡ sizes-in bs → held k (orders-in bs) ≡ false → m ≡ held-in bs → s .orders ≤ m → Put-says k t d 7 bs bs
   put-no-7 m q free e h =
-      let w = on-image bs s (p .image) q in
-      put-refused 7 q (new-no-7 s k t d (orders-in bs) (w .sizes-made) (w .kept) (p .key) (p .quantities) free (omega (arith, e, h, image-held bs (p .image)))) (λ z. omega arith)
+      let w = known-at bs s (p .image) q in
+      put-refused 7 q (new-no-7 s k t d (orders-in bs) (w .sizes-made) (known-kept bs s w) (p .key) (p .quantities) free (omega (arith, e, h, image-held bs (p .image)))) (λ z. omega arith)
 
-  module _ (top l : ℕ) (z : Sized bs s top l k) where
+  module _ (l : ℕ) (z : Sized bs s l k) where
     -- a held key
-    pub put-done-held : (bs′ : List ℕ) → held k (orders-in bs) ≡ true → Put-held s top l (order k t d) bs bs′ → Put-says k t d 0 bs bs′
+    pub put-done-held : (bs′ : List ℕ) → held k (orders-in bs) ≡ true → Put-held s l (order k t d) bs bs′ → Put-says k t d 0 bs bs′
     put-done-held bs′ h c =
-        let w = on-image bs s (p .image) (z .sizes-are) in
-        put-accepted bs′ (z .sizes-are) (old-yes s k t d (orders-in bs) (w .sizes-made) (w .kept) (p .key) (p .quantities) h)
-        (old-image s k t d (orders-in bs) (w .sizes-made) (w .kept) (p .key) (p .quantities) h bs bs′ top l (w .is) (z .top-is) (z .level-is) c)
+        let w = known-at bs s (p .image) (z .sizes-are) in
+        put-accepted bs′ (z .sizes-are) (old-yes s k t d (orders-in bs) (w .sizes-made) (known-kept bs s w) (p .key) (p .quantities) h)
+        (old-image s k t d (orders-in bs) (w .sizes-made) (known-kept bs s w) (p .key) (p .quantities) h bs bs′ l (sym (w .bytes)) (z .level-is) c)
 
-    module _ (f : Put-free bs s k) (full first g : ℕ) (n : full ≡ length (chunks s (orders-in bs))) (ld : Leads s bs top l k first) (c : Grows s bs first l k g) where
+    module _ (f : Put-free bs s k) (full first g : ℕ) (n : full ≡ length (chunks s (orders-in bs))) (ld : Leads s bs l k first) (c : Grows s bs first l k g) where
       pub counted : full + g ≡ length (chunks s (with-order (order k t d) (orders-in bs)))
       counted =
-          let w = on-image bs s (p .image) (z .sizes-are) in
-          omega (arith, n, new-count s k t d (orders-in bs) (w .sizes-made) (w .kept) (p .key) (p .quantities) (f .absent-is) bs top l first (w .is) (z .top-is) (z .level-is) ld g c)
+          let w = known-at bs s (p .image) (z .sizes-are) in
+          omega (arith, n, new-count s k t d (orders-in bs) (w .sizes-made) (known-kept bs s w) (p .key) (p .quantities) (f .absent-is) bs l first (sym (w .bytes)) (z .level-is) ld g c)
 
       pub more-orders : length (orders-in bs) < s .orders
       more-orders = omega (arith, f .more, image-held bs (p .image))
@@ -185,28 +186,21 @@ module _ (bs : List ℕ) (s : Sizes) (k t d : ℕ) (p : Put-sure bs k t d) where
       -- question 8
       pub put-no-8 : s .blocks < full + g → Put-says k t d 8 bs bs
       put-no-8 h =
-          let w = on-image bs s (p .image) (z .sizes-are) in
-          put-refused 8 (z .sizes-are) (new-no-8 s k t d (orders-in bs) (w .sizes-made) (w .kept) (p .key) (p .quantities) (f .absent-is) more-orders (omega (arith, h, counted))) (λ y. omega arith)
+          let w = known-at bs s (p .image) (z .sizes-are) in
+          put-refused 8 (z .sizes-are) (new-no-8 s k t d (orders-in bs) (w .sizes-made) (known-kept bs s w) (p .key) (p .quantities) (f .absent-is) more-orders (omega (arith, h, counted))) (λ y. omega arith)
 
       -- a key that was not held
       pub put-done-new : (m : ℕ) (bs₁ bs′ : List ℕ) → full + g ≤ s .blocks → Put-new s first l (order k t d) bs bs₁ → m ≡ held-in bs → bs′ ≡ sets bs₁ 11 (big 2 (m + 1)) → Put-says k t d 0 bs bs′
       put-done-new m bs₁ bs′ h v e i =
-          let w = on-image bs s (p .image) (z .sizes-are) in
-          let r = new-yes s k t d (orders-in bs) (w .sizes-made) (w .kept) (p .key) (p .quantities) (f .absent-is) more-orders (omega (arith, h, counted)) in
+          let w = known-at bs s (p .image) (z .sizes-are) in
+          let r = new-yes s k t d (orders-in bs) (w .sizes-made) (known-kept bs s w) (p .key) (p .quantities) (f .absent-is) more-orders (omega (arith, h, counted)) in
           let q : m + 1 ≡ suc (length (orders-in bs)) = omega (arith, e, image-held bs (p .image)) in
           put-accepted bs′ (z .sizes-are) r
           (i ∙ ap (λ (x : ℕ). sets bs₁ 11 (big 2 x)) q
-          ∙ new-image s k t d (orders-in bs) (w .sizes-made) (w .kept) (p .key) (p .quantities) (f .absent-is) bs top l first (w .is) (z .top-is) (z .level-is) ld bs₁ r v)
+          ∙ new-image s k t d (orders-in bs) (w .sizes-made) (known-kept bs s w) (p .key) (p .quantities) (f .absent-is) bs l first (sym (w .bytes)) (z .level-is) ld bs₁ r v)
 
 -- the sum of question 8 is one that 32 bits hold
-pub put-sum : (bs : List ℕ) (s : Sizes) (top l k full f g : ℕ) → full ≡ length (chunks s (orders-in bs)) → Leads s bs top l k f → Grows s bs f l k g → is-image bs ≡ true → is-key k ≡ true → Sized bs s top l k → Put-free bs s k → top ≤ 19 → Fits w32 (full + g)
-unfolding quantities-good
-put-sum bs s top l k full e g n ld c i key z f h =
-    let p : Put-sure bs k 1 0 = record { image = i; key = key; quantities = refl } in
-    let w = on-image bs s i (z .sizes-are) in
-    let len = new-length s k 1 0 (orders-in bs) (w .sizes-made) (w .kept) key (p .quantities) (f .absent-is) in
-    record {
-      fits = rw (counted bs s k 1 0 p top l z f full e g n ld c)
-          (chunks-small s (with-order (order k 1 0) (orders-in bs)) (some-nodes s (w .sizes-made)) (omega (arith, h, z .top-is))
-          (omega (arith, len, more-orders bs s k 1 0 p top l z f full e g n ld c, image-orders bs i s (z .sizes-are))));
-    }
+pub put-sum : (bs : List ℕ) (s : Sizes) (l top full g : ℕ) → full ≡ length (chunks s (orders-in bs)) → is-image bs ≡ true → s ≡ sizes-in bs → g ≤ 2 * l → l ≤ top → top ≤ 19 → Fits w32 (full + g)
+put-sum bs s l top full g n i q h lt most =
+    let w = known-at bs s i q in
+    fits-under w32 (full + g) 65574 (omega (arith, n, fits-parts s (orders-in bs) (w .fit) .room, w .shaped .most)) tt

@@ -65,7 +65,7 @@ module _ (s : Sizes) (xs : List Order) (o : Order) (zs : List Order) (w : Settin
           let ps = head-part s (suc j) xs in
           let qs = tail-part s (suc j) zs in
           let c = p (b .map) (b .full) (header s (length (xs ++ zs))) (map (masked (suc j)) ps) (map (masked (suc j)) qs) (b .table)
-          (room s xs o zs w (suc j) (omega arith) (first-key ps) x ps qs o low (first-low s xs o zs w (suc j)) (order-fine s xs o zs w) few (seen x sc)) there (room-in h) in (
+          (room s xs o zs w (suc j) (omega arith) (first-key ps) x ps qs o (first-low s xs o zs w (suc j)) (order-fine s xs o zs w) few (seen x sc)) there (room-in h) in (
             next-first s xs o zs w j x qs (seen x sc),
             one-changed s (xs ++ zs) (xs ++ o ∷ zs) (some-nodes s xs o zs w) (less-up s xs o zs w) (all-up s xs o zs w) j low bs b bs′ (first-key ps) (ps ++ qs) (ps ++ o ∷ qs)
                 (rw (map-append (masked (suc j)) ps qs, map-append (masked (suc j)) ps (o ∷ qs)) c)
@@ -96,7 +96,7 @@ module _ (s : Sizes) (xs : List Order) (o : Order) (zs : List Order) (w : Settin
           let ps = head-part s (suc j) xs in
           let qs = tail-part s (suc j) zs in
           let c = p (b .map) (b .full) (header s (length (xs ++ zs))) (map (masked (suc j)) ps) (map (masked (suc j)) qs) (b .table)
-          (room s xs o zs w (suc j) (omega arith) (first-key ps) x ps qs o low (first-low s xs o zs w (suc j)) (order-fine s xs o zs w) few (seen x sc)) there
+          (room s xs o zs w (suc j) (omega arith) (first-key ps) x ps qs o (first-low s xs o zs w (suc j)) (order-fine s xs o zs w) few (seen x sc)) there
           (λ z. omega (arith, first-low s xs o zs w (suc j)))
           (as-pieces s (xs ++ zs) (some-nodes s xs o zs w) (less-up s xs o zs w) (suc j) (omega arith) low (b .map) (o .key) [] (less-none s xs o zs w (suc j)) (λ i. b .upto (suc j) (o .key) i (omega arith)))
           (rw (length-map ps (masked (suc j))) (head-part-long s (suc j) xs)) (room-below h) in (

@@ -25,7 +25,7 @@ use Rattle.skiplist.specs.Image.{is-image, orders-in, image}
 use Rattle.skiplist.proofs.Laws.Image.{image-keeps}
 use Rattle.table.specs.Check.{zeros-from, used-of, more-of, unused, block-clean, sweep-from, swept}
 use Rattle.table.specs.declared.Tally.{Tally}
-use Rattle.edits.proofs.Laws.EditAnswers.{on-image}
+use Rattle.readings.proofs.Laws.Answers.{known-at}
 
 zeros-all : (bs : List ℕ) (k a : ℕ) → ((j : ℕ) → j < k → getD bs (a + j) 0 ≡ 0) → zeros-from bs k a ≡ true
 unfolding zeros-from
@@ -146,8 +146,8 @@ module _ (s : Sizes) (F : Map) (n : ℕ) (hd bs : List ℕ) (t : Table s F n hd 
 -- ON AN IMAGE
 pub swept-full : (bs : List ℕ) (s : Sizes) (n : ℕ) → n ≡ swept (sizes-in bs) bs .full → s ≡ sizes-in bs → is-image bs ≡ true → n ≡ length (chunks s (orders-in bs))
 swept-full bs s n e q i =
-    let w = on-image bs s i q in
+    let w = known-at bs s i q in
     e ∙ ap (λ (z : Sizes). swept z bs .full) (sym q)
     ∙ ap (λ (z : Tally). z .full)
-    (ap (swept s) (w .is)
-    ∙ swept-table s (map-of (chunks s (orders-in bs))) (length (chunks s (orders-in bs))) _ (image s (orders-in bs)) (image-keeps s (orders-in bs) (w .sizes-made) (w .kept .good) (w .kept .fit)))
+    (ap (swept s) (sym (w .bytes))
+    ∙ swept-table s (map-of (chunks s (orders-in bs))) (length (chunks s (orders-in bs))) _ (image s (orders-in bs)) (image-keeps s (orders-in bs) (w .sizes-made) (w .good) (w .fit)))

@@ -6,7 +6,6 @@ use Prim.Native.Nat.{ℕ, suc, _+_, _≤_, _<_}
 use native.Mathlib.Nat.{add-suc}
 use native.Mathlib.Omega.{arith}
 use lib.ListN.{length, length-append, length-map}
-use Rattle.sizes.specs.Sizes.{beta}
 use Rattle.placement.specs.Maps.{Map, Table, Fine}
 use Rattle.sizes.specs.declared.Sizes.{Sizes}
 use Rattle.placement.specs.declared.Order.{Order}
@@ -60,9 +59,9 @@ module _ (s : Sizes) (xs : List Order) (o : Order) (zs : List Order) (w : Settin
             ∙ length-both k (head-part s k xs) qs;
       }
 
-  pub room : (f : ℕ) (x : Spot) (ps qs : List Order) (y : Order) → k ≤ beta s → f < o .key → Fine y → length ps + length qs ≤ 65536 → Spotted x ps qs →
+  pub room : (f : ℕ) (x : Spot) (ps qs : List Order) (y : Order) → f < o .key → Fine y → length ps + length qs ≤ 65536 → Spotted x ps qs →
       Room s k f (map (masked k) ps) (map (masked k) qs) x y
-  room f x ps qs y low lt fine few e = record {
+  room f x ps qs y lt fine few e = record {
     level = pos;
     first = omega (arith, order-fine s xs o zs w .key);
     fine = fine;

@@ -6,7 +6,7 @@ use Prim.Native.Nat.{ℕ, zero, suc, _+_, _*_, _-_, _/_, _≤_, _<_}
 use native.Mathlib.Nat.{div-le-self, div-lt-iff-lt-mul, div-mul-le-self, lt-div-mul-add, le-div-iff-mul-le}
 use native.Mathlib.Omega.{arith}
 use borrow.Author.Tests.{eqb-true, eqb-false}
-use lib.Dec.{ltb, eqb}
+use lib.Dec.{eqb}
 use lib.ListN.{length, take, drop, length-append, length-map}
 use Rattle.sizes.specs.Sizes.{beta}
 use Rattle.sizes.specs.Hash.{level}
@@ -163,23 +163,23 @@ module _ (s : Sizes) (bs : List ℕ) (top f y : ℕ) where
         up = omega arith
 
 -- .. from the top to level l
-pub record Lowering (s : Sizes) (bs : List ℕ) (top l y k first : ℕ) : Type 0 where
-  pub down : Down s bs top 0 y k first
-  pub some : l ≤ top → l ≤ k
+pub record Lowering (s : Sizes) (bs : List ℕ) (l y k first : ℕ) : Type 0 where
+  pub down : Down s bs (beta s) 0 y k first
+  pub some : l ≤ beta s → l ≤ k
 
-module _ (s : Sizes) (bs : List ℕ) (top l y : ℕ) where
-  pub lowering-start : Lowering s bs top l y top 0
-  lowering-start = record { down = down-start s bs top 0 y; some = λ h. h }
+module _ (s : Sizes) (bs : List ℕ) (l y : ℕ) where
+  pub lowering-start : (top : ℕ) → top ≡ beta s → Lowering s bs l y top 0
+  lowering-start top e = rw e (record { down = down-start s bs (beta s) 0 y; some = λ h. h })
 
-  module _ (k first : ℕ) (d : Lowering s bs top l y k first) where
-    pub lowering-more : l < k → (x : Spot) → Reaches s bs k first y x → Lowering s bs top l y (k - 1) (x .last)
-    lowering-more h x re = record { down = down-more s bs top 0 y k first (d .down) (omega arith) x re; some = λ g. omega arith }
+  module _ (k first : ℕ) (d : Lowering s bs l y k first) where
+    pub lowering-more : l < k → (x : Spot) → Reaches s bs k first y x → Lowering s bs l y (k - 1) (x .last)
+    lowering-more h x re = record { down = down-more s bs (beta s) 0 y k first (d .down) (omega arith) x re; some = λ g. omega arith }
 
-    pub lowering-end : k ≤ l → Leads s bs top l y first
+    pub lowering-end : k ≤ l → Leads s bs l y first
     unfolding Leads
-    lowering-end h xs zs w t le =
+    lowering-end h xs zs w le =
         let z : k ≡ l = omega (arith, d .some le) in
-        d .down .so-far xs zs w (omega arith) (sym (ap (λ (j : ℕ). first-key (head-part s j xs)) t ∙ start-top s xs (up-front xs zs 1 (rising s bs y xs zs w))))
+        d .down .so-far xs zs w (omega arith) (sym (start-top s xs (up-front xs zs 1 (rising s bs y xs zs w))))
         ∙ ap (λ (j : ℕ). first-key (head-part s j xs)) z
 
 -- no level above a key's own has more chunks for it

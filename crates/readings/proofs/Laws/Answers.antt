@@ -2,13 +2,13 @@
 use mathlib.Core.Path.{_≡_, refl, sym, ap, _∙_, subst}
 use mathlib.Core.Bool.{Bool, true, false, _&&_, cond}
 use mathlib.Core.List.{List, [], _∷_, _++_}
-use Prim.Native.Nat.{ℕ, _+_, _*_, _≤_}
+use Prim.Native.Nat.{ℕ, _+_, _*_, _≤_, _<_}
 use native.Mathlib.Omega.{arith}
 use lib.Dec.{ltb, leb}
 use lib.ListN.{length, drop}
 use lib.Seq.{sets-eq}
 use borrow.Author.Tests.{eq-eqb, ne-eqb, le-leb}
-use Rattle.sizes.specs.Sizes.{beta}
+use Rattle.sizes.specs.Sizes.{prime, beta}
 use Rattle.sizes.specs.Header.{header, sizes-in}
 use Rattle.placement.specs.Chunks.{nodes-bytes}
 use Rattle.placement.specs.Maps.{map-of, Table}
@@ -37,7 +37,7 @@ pub key-zero : (k : ℕ) → k ≡ 0 → false ≡ is-key k
 unfolding is-key
 key-zero k e = rw e
 
-pub key-some : (k : ℕ) → (k ≡ 0 → ⊥) → ltb k 2147483647 ≡ is-key k
+pub key-some : (k : ℕ) → (k ≡ 0 → ⊥) → ltb k prime ≡ is-key k
 unfolding is-key
 key-some k n = rw (le-leb 1 k (omega arith))
 
@@ -68,8 +68,8 @@ known-at bs s e h = subst (λ (z : Sizes). Known z bs) (sym h) (known-image bs e
 pub known-long : (bs : List ℕ) → is-image bs ≡ true → 53 ≤ length bs
 known-long bs e = omega (arith, known-image bs e .shaped .long)
 
-pub known-sizes : (bs : List ℕ) (s : Sizes) → Known s bs → (s .gamma ≤ 64) × (s .orders ≤ 65535)
-known-sizes bs s k = let l = limits s (k .sizes-made) in (l .gamma-most, l .orders-most)
+pub known-sizes : (bs : List ℕ) (s : Sizes) → Known s bs → (0 < s .gamma) × (s .gamma ≤ 64) × (s .orders ≤ 65535) × (0 < s .blocks)
+known-sizes bs s k = let l = limits s (k .sizes-made) in (omega (arith, l .gamma-least), l .gamma-most, l .orders-most, k .shaped .some)
 
 -- from the front at the top all orders come by, and the front does nothing
 pub visit-whole : (bs : List ℕ) (s : Sizes) (l : ℕ) (v : Visit) (x : List ℕ) → Known s bs → l ≡ beta s → 1 ≤ v .lo → v .lo ≤ v .hi → (w : Visit) (z : List ℕ) →

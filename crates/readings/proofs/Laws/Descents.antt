@@ -9,7 +9,7 @@ use borrow.Author.Tests.{ltb-true, eq-eqb, ne-eqb, le-leb, lt-leb}
 use lib.Dec.{ltb, eqb}
 use lib.ListN.{length, getD, take, drop, length-take, take-append-drop}
 use lib.Seq.{drop-nil, drop-drop, drop-at, drop-append-le}
-use Rattle.sizes.specs.Sizes.{beta, seed-good}
+use Rattle.sizes.specs.Sizes.{beta}
 use Rattle.sizes.specs.Hash.{level}
 use Rattle.sizes.specs.Header.{block-long}
 use Rattle.placement.specs.Decode.{nodes-from}
@@ -106,8 +106,8 @@ module _ (s : Sizes) (bs : List ℕ) (w : Known s bs) (some : 0 < s .nodes) (f m
       there-found h a ea o eo z = sym (there-is h a ea o eo ∙ rw (eq-eqb (o .key) k z))
 
 -- what the functions ask of the sizes of an image
-pub known-level : (bs : List ℕ) (s : Sizes) → Known s bs → (seed-good (s .seed) ≡ true) × (0 < s .gamma)
-known-level bs s w = let l = limits s (w .sizes-made) in (l .seeds, omega (arith, l .gamma-least))
+pub known-gamma : (bs : List ℕ) (s : Sizes) → Known s bs → 0 < s .gamma
+known-gamma bs s w = omega (arith, limits s (w .sizes-made) .gamma-least)
 
 pub known-nodes : (bs : List ℕ) (s : Sizes) → Known s bs → 0 < s .nodes
 known-nodes bs s w = limits s (w .sizes-made) .nodes-some
@@ -165,10 +165,10 @@ module _ (s : Sizes) (bs : List ℕ) (w : Known s bs) (k : ℕ) (pos : 1 ≤ k) 
           ∙ sym (ap (first-enough 0) (between-absent k xs zs b v) ∙ first-nothing))
 
   -- .. and one of level 1 stands behind the nodes below it
-  pub order-low : (l : ℕ) → l ≡ level s k → l ≤ 1 → (top f : ℕ) → top ≡ beta s → Leads s bs top 1 k f → (x : Spot) → Reaches s bs 1 f k x →
+  pub order-low : (l : ℕ) → l ≡ level s k → l ≤ 1 → (f : ℕ) → Leads s bs 1 k f → (x : Spot) → Reaches s bs 1 f k x →
       (r : Sought) → r ≡ with-key k (drop (x .below) (part s (orders-in bs) 1 f)) → r ≡ first-enough 0 (between k k (orders-in bs))
   unfolding Leads
-  order-low l el h top f te bo x sc r e = e ∙ go (place k 1 (orders-in bs) (orders-up s bs w))
+  order-low l el h f bo x sc r e = e ∙ go (place k 1 (orders-in bs) (orders-up s bs w))
     where
       -- the nodes behind the way
       behind : (xs zs : List Order) → orders-in bs ≡ xs ++ zs → below k xs ≡ true → Up k zs → drop (x .below) (part s (orders-in bs) 1 f) ≡ tail-part s 1 zs
@@ -176,7 +176,7 @@ module _ (s : Sizes) (bs : List ℕ) (w : Known s bs) (k : ℕ) (pos : 1 ≤ k) 
           let u1 : Up 1 (xs ++ zs) = rw q at (orders-up s bs w) in
           let way : Way s bs k xs zs =
           record { good = w .sizes-made; orders = rw q at (w .good); fit = rw q at (w .fit); is = sym (rw q at (w .bytes)); low = b; high = u; pos = omega arith } in
-          let fe = bo xs zs way te (omega (arith, te, beta-least s)) in
+          let fe = bo xs zs way (omega (arith, beta-least s)) in
           ap (λ (j : ℕ). drop j (part s (orders-in bs) 1 f)) (seen s bs k xs zs way 1 (omega arith) (omega (arith, beta-least s)) f fe x sc .0)
           ∙ ap (drop (length (head-part s 1 xs))) (rw (q, fe) (part-at s 1 xs zs u1))
           ∙ drop-at (head-part s 1 xs) (tail-part s 1 zs) (length (head-part s 1 xs)) refl

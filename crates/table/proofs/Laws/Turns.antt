@@ -199,7 +199,7 @@ pub chunk-found : (s : Sizes) (bs : List ℕ) (l f i : ℕ) (r : Found) → r �
 unfolding chunk-spot
 chunk-found s bs l f i r e = e
 
-pub home-empty : (s : Sizes) (bs : List ℕ) (l f : ℕ) (r : Bool) → r ≡ eqb (label-in (block-long s) bs (home-of s (record { level = l; first = f; number = 0 })) .level) 0 → r ≡ empty-home s bs l f
+pub home-empty : (s : Sizes) (bs : List ℕ) (l f : ℕ) (r : Bool) → r ≡ eqb (label-in (block-long s) bs (home s (record { level = l; first = f; number = 0 })) .level) 0 → r ≡ empty-home s bs l f
 unfolding empty-home
 home-empty s bs l f r e = e
 

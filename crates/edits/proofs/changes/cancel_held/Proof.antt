@@ -7,10 +7,10 @@ use Rattle.edits.proofs.changes.cancel_held.Tie as tie
 ruleset laws = (needs, cancelling-start, cancelling-more, cancelling-end)
 
 abbrev Inv-loop : tie.InvT-loop
-Inv-loop table₀ s round first l y from₀ level₀ table from level = Cancelling s first l y table₀ level from table
+Inv-loop table₀ q first l y from₀ level₀ table from level = Cancelling (q .sizes) first l y table₀ level from table
 
 abbrev μ-loop : tie.MeasureT-loop
-μ-loop table₀ s round first l y from₀ level₀ table from level = level
+μ-loop table₀ q first l y from₀ level₀ table from level = level
 
 pub cancel-held-spec : {M : Type 1} → statement M
 cancel-held-spec =

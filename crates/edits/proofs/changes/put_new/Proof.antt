@@ -7,10 +7,10 @@ use Rattle.edits.proofs.changes.put_new.Tie as tie
 ruleset laws = (needs, putting-start, putting-more, putting-end)
 
 abbrev Inv-loop : tie.InvT-loop
-Inv-loop table₀ s round first l o from₀ level₀ table from level = Putting s first l o table₀ level from table
+Inv-loop table₀ q first l o from₀ level₀ table from level = Putting (q .sizes) first l o table₀ level from table
 
 abbrev μ-loop : tie.MeasureT-loop
-μ-loop table₀ s round first l o from₀ level₀ table from level = level
+μ-loop table₀ q first l o from₀ level₀ table from level = level
 
 pub put-new-spec : {M : Type 1} → statement M
 put-new-spec =

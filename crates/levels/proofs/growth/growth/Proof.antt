@@ -7,10 +7,10 @@ use Rattle.levels.proofs.growth.growth.Tie as tie
 ruleset laws = (needs, growing-start, growing-more, growing-end)
 
 abbrev Inv-loop : tie.InvT-loop
-Inv-loop table s round first l y sum₀ from₀ level₀ sum from level = Growing s table first l y level sum from
+Inv-loop table q first l y sum₀ from₀ level₀ sum from level = Growing (q .sizes) table first l y level sum from
 
 abbrev μ-loop : tie.MeasureT-loop
-μ-loop table s round first l y sum₀ from₀ level₀ sum from level = level
+μ-loop table q first l y sum₀ from₀ level₀ sum from level = level
 
 pub growth-spec : {M : Type 1} → statement M
 growth-spec =

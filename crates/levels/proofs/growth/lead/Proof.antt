@@ -7,10 +7,10 @@ use Rattle.levels.proofs.growth.lead.Tie as tie
 ruleset laws = (needs, lowering-start, lowering-more, lowering-end)
 
 abbrev Inv-loop : tie.InvT-loop
-Inv-loop table s round top l y first₀ level₀ first level = Lowering s table top l y level first
+Inv-loop table q l y first₀ level₀ first level = Lowering (q .sizes) table l y level first
 
 abbrev μ-loop : tie.MeasureT-loop
-μ-loop table s round top l y first₀ level₀ first level = level
+μ-loop table q l y first₀ level₀ first level = level
 
 pub lead-spec : {M : Type 1} → statement M
 lead-spec =

@@ -10,29 +10,29 @@ use Rattle.levels.proofs.spots.spot_in.Tie as tie
 ruleset laws = (needs, search-below, scanning-start, scanning-end, scanning-none, scanning-wide, spot-all)
 
 abbrev Inv-loop : tie.InvT-loop
-Inv-loop table s round level first y whole g spot₀ number₀ spot number = Scanning s table level first y number spot
+Inv-loop table q level first y whole s g spot₀ number₀ spot number = Scanning (q .sizes) table level first y number spot
 
 abbrev μ-loop : tie.MeasureT-loop
-μ-loop table s round level first y whole g spot₀ number₀ spot number = s .blocks - number
+μ-loop table q level first y whole s g spot₀ number₀ spot number = q .sizes .blocks - number
 
 -- the nodes of a chunk came by
 came : (d : tie.After-pass-nodes Inv-loop μ-loop) →
     let e = d .before .before .before .before .before .before .before .before in
-    let a = e .before .before .before .before .before .before .args in
-    Came (a .s) (a .table .now) (a .level) (a .first) (a .y) (e .before .before .before .loop .number) (d .before .before .before .before .count-at .result) (d .pass-nodes .result)
+    let a = e .before .before .before .before .before .before .before .args in
+    Came (a .q .sizes) (a .table .now) (a .level) (a .first) (a .y) (e .before .before .before .loop .number) (d .before .before .before .before .count-at .result) (d .pass-nodes .result)
 came d =
     let e = d .before .before .before .before .before .before .before .before in
-    scanning-more _ _ _ _ _ _ _ (e .before .before .before .loop .inv) _ (e .find-high .ensures) _ (d .before .before .before .before .before .before .i .given .1) _ (d .before .before .before .before .count-at .ensures .0) (e .before .if1 .taken)
-    (d .before .before .if2 .left) (e .before .before .before .before .before .before .pre .0 .few) _ _ (d .before .offset .ensures .0) (d .pass-nodes .ensures .0) (d .pass-nodes .ensures .1) (d .pass-nodes .ensures .2)
+    scanning-more _ _ _ _ _ _ _ (e .before .before .before .loop .inv) _ (e .chunk .ensures) _ (d .before .before .before .before .before .before .i .given .1) _ (d .before .before .before .before .count-at .ensures .0) (e .before .if1 .taken)
+    (d .before .before .if2 .left) (e .before .before .before .before .before .before .before .pre .0 .few) _ _ (d .before .offset .ensures .0) (d .pass-nodes .ensures .0) (d .pass-nodes .ensures .1) (d .pass-nodes .ensures .2)
 
 returns-3 : tie.Need-returns-3 Inv-loop μ-loop
 returns-3 c = let d = c .before .before in
     let q = came d in
-    spot-all _ _ _ _ _ _ _ (q .next) (d .before .before .before .before .before .before .before .before .before .before .before .before .before .before .pre .0 .most) _ (q .stop (c .if3 .taken))
+    spot-all _ _ _ _ _ _ _ (q .next) (d .before .before .before .before .before .before .before .before .before .before .before .before .before .before .before .pre .0 .most) _ (q .stop (c .if3 .taken))
 
 returns-4 : tie.Need-returns-4 Inv-loop μ-loop
 returns-4 c = let d = c .before .before .before .before .before in
-    spot-past _ _ _ _ _ _ _ (came d .next) (d .before .before .before .before .before .before .before .before .before .before .before .before .before .before .pre .0 .most) _ (not-true _ (c .before .before .if4 .taken)) (c .if5 .taken)
+    spot-past _ _ _ _ _ _ _ (came d .next) (d .before .before .before .before .before .before .before .before .before .before .before .before .before .before .before .pre .0 .most) _ (not-true _ (c .before .before .if4 .taken)) (c .if5 .taken)
 
 loop-again : tie.Need-loop-again Inv-loop μ-loop
 loop-again c = came (c .before .before .before) .next

@@ -9,7 +9,7 @@ read-requires : tie.Need-read-requires
 read-requires c κs = known-long _ (c .before .before .pre .0)
 
 highest-requires : tie.Need-highest-requires
-highest-requires c κs = known-sizes _ _ (known-at _ _ (c .before .before .before .before .pre .0) (c .before .read .ensures .0))
+highest-requires c κs = let k = known-sizes _ _ (known-at _ _ (c .before .before .before .before .pre .0) (c .before .read .ensures .0)) in (k .1, k .2)
 
 visit-partition-requires : tie.Need-visit-partition-requires
 visit-partition-requires c κs = (known-at _ _ (c .before .before .before .before .before .before .pre .0) (c .before .before .before .read .ensures .0), search needs, search needs, c .before .before .before .before .before .before .pre .2)
