@@ -1,7 +1,6 @@
 // One pass over the blocks, and the whole check.
 ghost use mathlib.Core.Path.{_≡_};
-ghost use mathlib.Core.Bool.{Bool, cond};
-ghost use Prim.Native.Nat.{ℕ, _+_, _-_, _<_, _≤_};
+ghost use Prim.Native.Nat.{_+_, _<_, _≤_};
 ghost use lib.ListN.{length};
 ghost use Rattle.placement.specs.Place.{Shaped};
 ghost use Rattle.table.specs.Check.{longest, Mask, zeros-past, used-of, more-of, swept, ended};
@@ -44,12 +43,8 @@ fn more(full: u32, level: u32) -> u32
 fn mask() -> [u8; MASK]
     ensures { λ r. ⌜ Mask r ⌝ }
 {
-    let mut m = [0u8; MASK];
-    let mut j: usize = LONGEST;
-    while j < MASK {
-        m[j] = 255;
-        j += 1;
-    }
+    let mut m = [255u8; MASK];
+    sizes::numbers::fill(&mut m, 0, LONGEST);
     m
 }
 

@@ -1,20 +1,20 @@
 -- Laws of the pass over the blocks, and of its end.
-use mathlib.Core.Path.{_≡_, refl, sym, _∙_}
+use mathlib.Core.Path.{_≡_, refl, ap, sym, _∙_}
 use mathlib.Core.Bool.{Bool, true, false, _&&_, cond, and-true, and-assoc}
 use mathlib.Core.List.{List}
 use Prim.Native.Nat.{ℕ, zero, suc, _+_, _*_, _-_, _≤_, _<_}
 use lib.Dec.{eqb}
-use lib.Bits.{bitAnd, bitOr, or-add-and, and-le-l, and-le-r, and-zero-r, and-mask, or-zero-l}
+use lib.Bits.{bitAnd, bitOr, or-add-and, and-le-l, and-le-r, and-zero-r, and-mask}
 use borrow.Author.Tests.{eq-eqb, ne-eqb, eqb-true, eqb-false}
 use native.Mathlib.Decide.{decLt}
 use native.Mathlib.Omega.{arith}
 use native.Mathlib.Nat.{sub-zero, add-zero, zero-add, mod-eq-of-lt}
 use native.Mathlib.Numerals.{add-one}
-use lib.ListN.{length, set, getD, replicate, length-set, length-replicate, getD-replicate}
-use lib.Seq.{getD-set-same, getD-set-other}
+use lib.ListN.{length, getD, replicate, length-replicate, getD-replicate, List·getD-append}
+use lib.Seq.{sets, length-sets, sets-eq}
 use Rattle.sizes.specs.Header.{block-long}
 use Rattle.sizes.specs.declared.Sizes.{Sizes}
-use Rattle.sizes.proofs.Laws.Round.{Which, which, less, same, more}
+use Rattle.sizes.proofs.Laws.Parts.{getD-sets-after}
 use Rattle.table.specs.declared.Seen.{Seen}
 use Rattle.table.specs.declared.Tally.{Tally}
 use Rattle.table.specs.Check.{longest, Mask, zeros-from, zeros-past, used-of, more-of, unused, block-clean, sweep-from, swept, ended}
@@ -58,33 +58,29 @@ or-zero a b = go (eqb a 0) (eqb b 0) refl refl
     go true false p q = ne-eqb (bitOr a b) 0 (λ e. eqb-false b 0 q (omega (arith, or-add-and a b, and-le-l a b, eqb-true a 0 p)))
     go false u p q = ne-eqb (bitOr a b) 0 (λ e. eqb-false a 0 p (omega (arith, or-add-and a b, and-le-r a b)))
 
--- what the loop of `mask` keeps: it has all places from longest up to j
-pub record Marking (ms : List ℕ) (j : ℕ) : Type 0 where
-  pub long : length ms ≡ 2 * longest
-  pub leaves : (k : ℕ) → k < longest → getD ms k 0 ≡ 0
-  pub has : (k : ℕ) → longest ≤ k → k < j → getD ms k 0 ≡ 255
-  pub from : longest ≤ j
+-- the mask as it is made: b times 255, and then zeros over the first a
+abbrev marked : (a b : ℕ) → List ℕ
+marked a b = sets (replicate {A = ℕ} b 255) 0 (replicate {A = ℕ} a 0)
 
-pub marking-start : Marking (replicate (2 * longest) 0) longest
-marking-start = record { long = length-replicate {A = ℕ} (2 * longest) 0; leaves = λ k h. getD-replicate {A = ℕ} (2 * longest) k 0 0 (omega arith); has = λ k l h. absurd (omega arith); from = omega arith }
+module _ (a b k : ℕ) where
+  front : a ≤ b → k < a → getD (marked a b) k 0 ≡ 0
+  front l h =
+      let n = length-replicate {A = ℕ} a 0 in
+      let m = length-replicate {A = ℕ} b 255 in
+      rw (sets-eq {A = ℕ} (replicate a 0) (replicate b 255) 0 (omega arith)) (List·getD-append {A = ℕ} (replicate a 0) _ 0 k (omega arith) ∙ getD-replicate {A = ℕ} a k 0 0 h)
 
-module _ (ms : List ℕ) (j : ℕ) (z : Marking ms j) where
-  pub marking-more : j < 2 * longest → Marking (set ms j 255) (j + 1)
-  marking-more h =
-      record {
-        long = length-set ms j 255 ∙ z .long;
-        leaves = λ k l. getD-set-other ms j k 255 0 (λ e. omega (arith, z .from)) ∙ z .leaves k l;
-        has = λ k l r. go k l (which k j) r;
-        from = omega (arith, z .from);
-      }
-    where
-      go : (k : ℕ) → longest ≤ k → Which k j → k < j + 1 → getD (set ms j 255) k 0 ≡ 255
-      go k l (less f) r = getD-set-other ms j k 255 0 (λ e. omega arith) ∙ z .has k l f
-      go k l (same f) r = rw f (getD-set-same ms j 255 0 (omega (arith, z .long)))
-      go k l (more f) r = absurd (omega arith)
+  back : a ≤ k → k < b → getD (marked a b) k 0 ≡ 255
+  back l h =
+      let n = length-replicate {A = ℕ} a 0 in
+      getD-sets-after {A = ℕ} (replicate b 255) 0 (replicate a 0) k 0 (omega arith) ∙ getD-replicate {A = ℕ} b k 255 0 h
 
-  pub marking-end : 2 * longest ≤ j → Mask ms
-  marking-end h = record { long = z .long; leaves = z .leaves; has = λ k l r. z .has k l (omega arith) }
+pub mask-made : (ms : List ℕ) → ms ≡ marked longest (2 * longest) → Mask ms
+mask-made ms e =
+    record {
+      long = ap length e ∙ length-sets {A = ℕ} (replicate (2 * longest) 255) 0 (replicate longest 0) ∙ length-replicate {A = ℕ} (2 * longest) 255;
+      leaves = λ k h. ap (λ (z : List ℕ). getD z k 0) e ∙ front longest (2 * longest) k (omega arith) h;
+      has = λ k l h. ap (λ (z : List ℕ). getD z k 0) e ∙ back longest (2 * longest) k l h;
+    }
 
 -- bytes from a place on, some of them first
 zeros-split : (bs : List ℕ) (a b x : ℕ) → zeros-from bs (a + b) x ≡ (zeros-from bs a x && zeros-from bs b (x + a))
@@ -158,6 +154,7 @@ module _ (bs : List ℕ) (at w u from : ℕ) where
 
 -- THE PASS: what the loop over the pieces of a block keeps
 pub record Piecing (w : ℕ) (bs : List ℕ) (i at u j : ℕ) : Type 0 where
+  pub place : at ≡ 53 + i * w
   pub within : j ≤ w
   pub rest : block-clean w bs i ≡ zeros-past bs at w u j
 
@@ -167,18 +164,14 @@ unfolding block-clean unused zeros-past
 piecing-start s w bs i at l n u ew ea el en eu =
     let h : at ≡ 53 + i * w = ea ∙ rw ew in
     let e : 0 + (u - 0) ≡ u = omega arith in
-    record { within = omega arith; rest = rw (e, ← h, ← el, ← en, ← eu) }
+    record { place = h; within = omega arith; rest = rw (e, ← h, ← el, ← en, ← eu) }
 
-module _ (w : ℕ) (bs : List ℕ) (i at u j : ℕ) (z : Piecing w bs i at u j) where
-  pub piecing-end : w ≤ j → block-clean w bs i ≡ true
-  piecing-end h = z .rest ∙ past-none bs at u j w (omega arith)
+module _ (w : ℕ) (bs : List ℕ) (i at u j : ℕ) (z : Piecing w bs i at u j) (e : ℕ) (late : j ≤ e) (in-block : e ≤ w) (t : Bool) (et : t ≡ zeros-past bs at e u j) where
+  pub piecing-stop : t ≡ false → block-clean w bs i ≡ false
+  piecing-stop q = z .rest ∙ past-split bs at u j w e late in-block ∙ rw (← et, q)
 
-  module _ (e : ℕ) (late : j ≤ e) (in-block : e ≤ w) (t : Bool) (et : t ≡ zeros-past bs at e u j) where
-    pub piecing-stop : t ≡ false → block-clean w bs i ≡ false
-    piecing-stop q = z .rest ∙ past-split bs at u j w e late in-block ∙ rw (← et, q)
-
-    pub piecing-more : t ≡ true → Piecing w bs i at u e
-    piecing-more q = record { within = in-block; rest = z .rest ∙ past-split bs at u j w e late in-block ∙ rw (← et, q) }
+  pub piecing-more : t ≡ true → Piecing w bs i at u e
+  piecing-more q = record { place = z .place; within = in-block; rest = z .rest ∙ past-split bs at u j w e late in-block ∙ rw (← et, q) }
 
 -- .. and the loop over the blocks
 pub record Sweeping (s : Sizes) (w m : ℕ) (bs : List ℕ) (i full : ℕ) : Type 0 where
@@ -208,8 +201,6 @@ module _ (s : Sizes) (w m : ℕ) (bs : List ℕ) where
     pub sweeping-stop : i < m → block-clean w bs i ≡ false → _≡_ {A = Tally} (record { clean = false; full = full }) (swept s bs)
     sweeping-stop lt q = sym (sweeping-turn lt false q)
 
-    pub sweeping-more : i < m → block-clean w bs i ≡ true → w ≡ block-long s → (at l n : ℕ) → at ≡ 53 + i * block-long s → l ≡ getD bs at 0 → n ≡ more-of full l → n ≤ full + 1
-        → Sweeping s w m bs (i + 1) n
-    sweeping-more lt q ew at l n ea el en f =
-        let g : at ≡ 53 + i * w = ea ∙ rw ew in
-        record { within = omega arith; few = omega (arith, h .few); rest = sweeping-turn lt true q ∙ rw (← g, ← el, ← en) }
+    pub sweeping-more : i < m → (at u : ℕ) → Piecing w bs i at u w → (l n : ℕ) → l ≡ getD bs at 0 → n ≡ more-of full l → n ≤ full + 1 → Sweeping s w m bs (i + 1) n
+    sweeping-more lt at u z l n el en f =
+        record { within = omega arith; few = omega (arith, h .few); rest = sweeping-turn lt true (z .rest ∙ past-none bs at u w w (omega arith)) ∙ rw (← z .place, ← el, ← en) }

@@ -5,7 +5,7 @@ use Prim.Native.Nat.{_-_}
 use mathlib.Core.Path.{_≡_}
 use mathlib.Core.Bool.{true}
 use native.Mathlib.Omega.{arith}
-use Rattle.table.proofs.Laws.Passes.{Piecing, piecing-start, piecing-end, piecing-stop, piecing-more, Sweeping, sweeping-start, sweeping-end, sweeping-stop, sweeping-more}
+use Rattle.table.proofs.Laws.Passes.{Piecing, piecing-start, piecing-stop, piecing-more, Sweeping, sweeping-start, sweeping-end, sweeping-stop, sweeping-more}
 use Rattle.table.proofs.sweep.sweep.Statement.{statement}
 use Rattle.table.proofs.sweep.sweep.Tie as tie
 
@@ -38,13 +38,11 @@ blocks2-again : tie.Need-blocks2-again Inv-loop μ-loop Inv-blocks2 μ-blocks2
 blocks2-again c =
     let z = c .before .before in
     let p = z .before .before .before in
-    let u = p .before in
-    let o = u .before .before .before .before .before in
-    let b = o .before .before in (
+    let w = p .before .before .before .before in
+    let o = w .before .before in (
       p .loop .inv .0,
-      sweeping-more _ _ _ _ _ _ (b .blocks2 .inv .1) (o .before .blocks2-test .taken)
-          (piecing-end _ _ _ _ _ _ (piecing-more _ _ _ _ _ _ (p .loop .inv .1) _ (p .loop .inv .1 .within) (omega arith) _ (z .zeros2 .ensures) (not-false _ (c .before .if2 .left))) (omega arith))
-          (b .before .before .block-length .ensures .0) _ _ _ (o .offset .ensures .0) (u .before .before .before .wide .ensures .0) (c .more .ensures .0) (c .more .ensures .1),
+      sweeping-more _ _ _ _ _ _ (o .before .before .blocks2 .inv .1) (o .before .blocks2-test .taken) _ _
+          (piecing-more _ _ _ _ _ _ (p .loop .inv .1) _ (p .loop .inv .1 .within) (omega arith) _ (z .zeros2 .ensures) (not-false _ (c .before .if2 .left))) _ _ (w .wide .ensures .0) (c .more .ensures .0) (c .more .ensures .1),
     )
 
 returns-2 : tie.Need-returns-2 Inv-loop μ-loop Inv-blocks2 μ-blocks2
