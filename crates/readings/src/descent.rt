@@ -19,7 +19,7 @@ use placement::search::count_at;
 use placement::search::find;
 use sizes::Geometry;
 use sizes::Sizes;
-use sizes::hash::level_of;
+use sizes::hash::is_lowest;
 use sizes::hash::reckon;
 use sizes::header::Header;
 use table::walk::node_of;
@@ -65,10 +65,10 @@ pub fn order_of(table: &[u8], q: Geometry, key: u32) -> Sought
     requires { ⌜ Known (q .sizes) (now table) × Reckoned q × (1 ≤ key) ⌝ }
     ensures { λ r. ⌜ r ≡ first-enough 0 (between key key (orders-in (now (table .entry)))) ⌝ }
 {
-    if 1 < level_of(q.sizes, q.top, key) {
-        return node_there(table, q.sizes, key, 0, key);
+    if is_lowest(q.sizes, q.ratio, key) {
+        let first = lead(table, q, 1, key);
+        let x = reach(table, q, 1, first, key);
+        return node_there(table, q.sizes, first, x.below, key);
     }
-    let first = lead(table, q, 1, key);
-    let x = reach(table, q, 1, first, key);
-    node_there(table, q.sizes, first, x.below, key)
+    node_there(table, q.sizes, key, 0, key)
 }

@@ -1,11 +1,11 @@
 -- The way down to one key: what stands at a place of a partition of level 1, and which order a key has.
 use mathlib.Core.Path.{_≡_, refl, sym, ap, _∙_}
-use mathlib.Core.Bool.{true, cond, and-false}
+use mathlib.Core.Bool.{Bool, true, false, cond, and-false}
 use mathlib.Core.List.{List, [], _∷_, _++_}
 use Prim.Native.Nat.{ℕ, zero, suc, _+_, _*_, _/_, _%_, _≤_, _<_}
 use native.Mathlib.Nat.{div-add-mod', mod-lt}
 use native.Mathlib.Omega.{arith}
-use borrow.Author.Tests.{ltb-true, eq-eqb, ne-eqb, le-leb, lt-leb}
+use borrow.Author.Tests.{ltb-true, eqb-true, eqb-false, eq-eqb, ne-eqb, le-leb, lt-leb}
 use lib.Dec.{ltb, eqb}
 use lib.ListN.{length, getD, take, drop, length-take, take-append-drop}
 use lib.Seq.{drop-nil, drop-drop, drop-at, drop-append-le}
@@ -150,12 +150,12 @@ with-absent k (q ∷ qs) u = rw (ne-eqb (q .key) k (omega (arith, u .0)))
 
 module _ (s : Sizes) (bs : List ℕ) (w : Known s bs) (k : ℕ) (pos : 1 ≤ k) where
   -- a key of a higher level heads its partition
-  pub order-high : (l : ℕ) → l ≡ level s k → 1 < l → (r : Sought) → r ≡ with-key k (drop 0 (part s (orders-in bs) 1 k)) → r ≡ first-enough 0 (between k k (orders-in bs))
-  order-high l el h r e = e ∙ go (orders-in bs) (orders-up s bs w) (place k 1 (orders-in bs) (orders-up s bs w))
+  pub order-high : (b : Bool) → b ≡ eqb (level s k) 1 → b ≡ false → (r : Sought) → r ≡ with-key k (drop 0 (part s (orders-in bs) 1 k)) → r ≡ first-enough 0 (between k k (orders-in bs))
+  order-high b eb h r e = e ∙ go (orders-in bs) (orders-up s bs w) (place k 1 (orders-in bs) (orders-up s bs w))
     where
       go : (os : List Order) → Up 1 os → Place k os → with-key k (part s os 1 k) ≡ first-enough 0 (between k k os)
       go os u (there xs y zs q z) =
-          let up : 1 < level s (y .key) = omega (arith, h, el, ap (level s) z) in
+          let up : 1 < level s (y .key) = omega (arith, level-least s k, eqb-false (level s k) 1 (sym eb ∙ h), ap (level s) z) in
           rw (q, ← z)
           (ap (with-key (y .key)) (part-right s 1 xs y zs (rw q at u) up) ∙ with-there y (tail-part s 1 zs)
           ∙ sym (ap (first-enough 0) (between-there xs y zs (below-here xs y zs 1 (rw q at u)) (up-behind xs y zs 1 (rw q at u))) ∙ first-one y))
@@ -165,10 +165,10 @@ module _ (s : Sizes) (bs : List ℕ) (w : Known s bs) (k : ℕ) (pos : 1 ≤ k) 
           ∙ sym (ap (first-enough 0) (between-absent k xs zs b v) ∙ first-nothing))
 
   -- .. and one of level 1 stands behind the nodes below it
-  pub order-low : (l : ℕ) → l ≡ level s k → l ≤ 1 → (f : ℕ) → Leads s bs 1 k f → (x : Spot) → Reaches s bs 1 f k x →
+  pub order-low : (b : Bool) → b ≡ eqb (level s k) 1 → b ≡ true → (f : ℕ) → Leads s bs 1 k f → (x : Spot) → Reaches s bs 1 f k x →
       (r : Sought) → r ≡ with-key k (drop (x .below) (part s (orders-in bs) 1 f)) → r ≡ first-enough 0 (between k k (orders-in bs))
   unfolding Leads
-  order-low l el h f bo x sc r e = e ∙ go (place k 1 (orders-in bs) (orders-up s bs w))
+  order-low b eb h f bo x sc r e = e ∙ go (place k 1 (orders-in bs) (orders-up s bs w))
     where
       -- the nodes behind the way
       behind : (xs zs : List Order) → orders-in bs ≡ xs ++ zs → below k xs ≡ true → Up k zs → drop (x .below) (part s (orders-in bs) 1 f) ≡ tail-part s 1 zs
@@ -186,7 +186,7 @@ module _ (s : Sizes) (bs : List ℕ) (w : Known s bs) (k : ℕ) (pos : 1 ≤ k) 
           let u = rw q at (orders-up s bs w) in
           let b = below-here xs y zs 1 u in
           let v = up-behind xs y zs 1 u in
-          let low : level s (y .key) ≡ 1 = omega (arith, h, el, level-least s (y .key), ap (level s) z) in
+          let low : level s (y .key) ≡ 1 = omega (arith, eqb-true (level s k) 1 (sym eb ∙ h), ap (level s) z) in
           ap (with-key k) (behind xs (y ∷ zs) q (rw z at b) (omega (arith, z), v) ∙ tail-same s 1 y zs (omega (arith, z)) low)
           ∙ rw (← z) (with-there y (tail-part s 1 zs) ∙ sym (ap (first-enough 0) (ap (between (y .key) (y .key)) q ∙ between-there xs y zs b v) ∙ first-one y))
       go (absent xs zs q b v) =
