@@ -1,5 +1,5 @@
 // Placement: where the chunks of a B-skip-list stand in a table of blocks, and how they are found, put in and taken out.
-// What the layer above may rest on is said by maps from labels to nodes: specs/Maps.antt, proofs/Tables.antt.
+// What the layer above may rest on is said by maps from labels to nodes: specs/Maps.antt, proofs/Laws/Tables.antt.
 pub mod edits;
 pub mod labels;
 pub mod search;

@@ -82,9 +82,6 @@ fn visit_all(
     )
 }
 
-// Keys are below p.
-const P: u32 = 2147483647;
-
 // Is it a key?
 pub fn is_key(k: u32) -> bool
     ensures { λ r. ⌜ r ≡ is-key k ⌝ }
@@ -92,7 +89,7 @@ pub fn is_key(k: u32) -> bool
     if k == 0 {
         return false;
     }
-    k < P
+    k < sizes::PRIME
 }
 
 // The questions of a range, which span and seek share: 4, 5, 10.

@@ -3,6 +3,9 @@ pub mod hash;
 pub mod header;
 pub mod numbers;
 
+// p of document 01, 2^31 - 1: keys and seed numbers are below it.
+pub const PRIME: u32 = 2147483647;
+
 // The sizes and the seed of a table. `nodes` is document 01's B, `orders` its N, `blocks` its M.
 pub struct Sizes {
     pub gamma: u32,
@@ -12,7 +15,7 @@ pub struct Sizes {
     pub seed: [u32; 10],
 }
 
-// Sizes with what follows from them, reckoned once for a call: 2^32 over gamma and over the number of blocks, each rounded up (`numbers::over`), and β,
+// Sizes with what follows from them, reckoned once and carried along: 2^32 over gamma and over the number of blocks, each rounded up (`numbers::over`), and β,
 // the highest level.
 pub struct Geometry {
     pub sizes: Sizes,

@@ -12,9 +12,7 @@ use placement::Found;
 use placement::Label;
 use placement::Order;
 use sizes::Geometry;
-
-// p: keys are below it.
-const PRIME: u32 = 2147483647;
+use sizes::PRIME;
 
 // The walk of a table that is no image.
 fn wrong() -> Seen
