@@ -103,7 +103,7 @@ PEER_FLAGS = -O3 -march=native
 PEERS = build/peers/release/libpeers.a
 BENCH_C = $(addprefix bench/,bench.c timing.c scene.c report.c archive.c plain.c sqlite.c lmdb.c)
 BENCH_H = $(wildcard bench/*.h bench/peers/*.h bench/rust/*.h) include/balluchaw.h
-.PHONY: bench-need bench-build bench-smoke bench-count bench-worst
+.PHONY: bench-need bench-build bench-smoke bench-count bench-worst bench-turns
 
 # With what the other tests need, so that whatever is missing is said at once.
 bench-need:
@@ -151,6 +151,24 @@ build/worst: bench/worst.c bench/peers/common.h include/balluchaw.h $(ARCHIVE)
 bench-worst: need archive
 	@$(MAKE) --no-print-directory build/worst
 	@build/worst > build/worst.out && cat build/worst.out && cp build/worst.out bench/results/worst.txt
+
+# This archive's calls beside the same calls of an archive before it, in one process, taking turns. BEFORE is a folder of the project as it was, with its
+# archive built. Linked in both orders: the side that comes second may be slower by some hundredths for that alone.
+define SIDE
+@$(CC) $(CFLAGS) -I$(2)/include -I$(2)/bench -c $(2)/bench/archive.c -o build/$(1)-calls.o
+@ld -r build/$(1)-calls.o $(2)/$(ARCHIVE) -o build/$(1).o
+@nm build/$(1).o | sed -n 's/.* T archive_\(.*\)/archive_\1 $(1)_\1/p' > build/$(1).names
+@objcopy --redefine-syms=build/$(1).names --wildcard --localize-symbol='balluchaw_*' --localize-symbol='check_in_*' build/$(1).o
+endef
+TURNS = bench/turns.c bench/timing.c bench/scene.c
+TURNED = build/check.o build/tuned.o $(ARCHIVE) $(PEERS) -lpthread -ldl -lm
+
+bench-turns: bench-build
+	@test -f '$(BEFORE)/$(ARCHIVE)' || { echo "make bench-turns BEFORE=folder, of the project as it was before, where make archive was done"; exit 2; }
+	$(call SIDE,now,.)
+	$(call SIDE,before,$(BEFORE))
+	@$(CC) $(CFLAGS) -Iinclude -Ibench $(TURNS) build/before.o build/now.o $(TURNED) -o build/turns && build/turns $(ROUNDS)
+	@$(CC) $(CFLAGS) -Iinclude -Ibench $(TURNS) build/now.o build/before.o $(TURNED) -o build/turns && build/turns $(ROUNDS)
 
 # One small table, three rounds: are all answers right, and the bytes as before after a cancel and a put? Are the slow tables tables, and are README's figures
 # those of the results?

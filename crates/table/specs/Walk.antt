@@ -43,6 +43,9 @@ quantities-ok l n = cond (eqb l 1 && not (eqb (n .key) 0)) (leb 1 (n .total) && 
 unfoldable pub belongs-in : Sizes → (level first : ℕ) → (opens : Bool) → (key : ℕ) → Bool
 belongs-in s l f o x = cond o (eqb x f) (not (eqb x 0) && eqb (level s x) l)
 
+unfoldable pub fits-in : Sizes → (level first : ℕ) → (opens : Bool) → Order → Bool
+fits-in s l f o n = belongs-in s l f o (n .key) && quantities-ok l n
+
 -- a node of level 1 comes by: its key is not below `low`, and below p
 unfoldable pub counts : (key : ℕ) → Seen → Bool
 counts key x = x .ok && (leb (x .low) key && (ltb key prime && leb 1 (x .orders)))
@@ -67,28 +70,24 @@ stops-at b n x = cond (x .ok) (ltb n b) true
 
 -- THE NODES of a chunk, from a place on; d is what each opens
 unfoldable pub node-good : Sizes → (level first : ℕ) → (opens : Bool) → Order → Seen → Bool
-node-good s l f o n x = x .ok && (belongs-in s l f o (n .key) && quantities-ok l n)
+node-good s l f o n x = x .ok && fits-in s l f o n
 
 unfoldable pub nodes-by : ((key : ℕ) → Seen → Seen) → Sizes → List ℕ → (level first left at : ℕ) → (opens : Bool) → Seen → Seen
 nodes-by d s bs l f zero a o x = x
 nodes-by d s bs l f (suc j) a o x =
     cond (node-good s l f o (node-of bs a) x) (nodes-by d s bs l f j (a + 12) false (d (node-of bs a .key) x)) wrong-seen
 
--- THE NODES OF LEVEL 1 by their keys: the first of a partition, the front or an order; and any other, an order
-unfoldable pub heads-ok : (first low : ℕ) → Order → Bool
-heads-ok f y n = eqb (n .key) f && (leb y (n .key) && (ltb (n .key) prime && quantities-ok 1 n))
+-- A CHUNK OF LEVEL 1 comes by as a whole: each of its nodes is one of the orders to come, or the front
+unfoldable pub enters-lowest : (nodes n : ℕ) → Seen → Bool
+enters-lowest b n x = enters-ok b n x && leb n (x .orders)
 
-unfoldable pub follows-ok : Sizes → (low : ℕ) → Order → Bool
-follows-ok s y n = leb y (n .key) && (ltb (n .key) prime && (eqb (level s (n .key)) 1 && (leb 1 (n .total) && leb (n .displayed) (n .total))))
+-- its nodes, one by one: y is what the next key is at least
+unfoldable pub comes-ok : Sizes → (first : ℕ) → (opens : Bool) → (low : ℕ) → Order → Bool
+comes-ok s f o y n = leb y (n .key) && (ltb (n .key) prime && fits-in s 1 f o n)
 
--- what the next key is at least after some of those others, from a place on; 0 if one may not come by
-unfoldable pub orders-by : Sizes → List ℕ → (left at low : ℕ) → ℕ
-orders-by s bs zero a y = y
-orders-by s bs (suc j) a y = cond (follows-ok s y (node-of bs a)) (orders-by s bs j (a + 12) (node-of bs a .key + 1)) 0
-
--- n nodes of level 1 have come by; where low is 0, one may not
-unfoldable pub passed-by : (n low : ℕ) → Seen → Seen
-passed-by n y x = cond (eqb y 0) wrong-seen (record { ok = true; low = y; orders = x .orders - n; chunks = x .chunks })
+-- all of them have come by
+unfoldable pub passed-seen : (n low : ℕ) → Seen → Seen
+passed-seen n y x = record { ok = true; low = y; orders = x .orders - n; chunks = x .chunks - 1 }
 
 -- THE CHUNKS of a partition, from a number on
 unfoldable pub spot : Found → ℕ
@@ -122,8 +121,3 @@ chunks-by d s bs l f (suc j) i x =
 unfoldable pub opens-of : Sizes → List ℕ → (level key : ℕ) → Seen → Seen
 opens-of s bs zero key x = counted key x
 opens-of s bs (suc l) f x = chunks-by (opens-of s bs l) s bs (suc l) f (s .blocks) 0 x
-
--- what the nodes of a level 1 chunk come to where the chunk is entered: r is what the next key is at least, or 0 if one may not come by
-pub record Lowest (s : Sizes) (bs : List ℕ) (first left at : ℕ) (opens : Bool) (x : Seen) (r : ℕ) : Type 0 where
-  pub is : nodes-by (opens-of s bs 0) s bs 1 first left at opens (entered-seen x) ≡ passed-by left r (entered-seen x)
-  pub few : 1 ≤ r → left ≤ x .orders

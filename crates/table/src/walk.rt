@@ -6,7 +6,7 @@ ghost use lib.ListN.{length};
 ghost use Rattle.sizes.specs.Sizes.{seed-good};
 ghost use Rattle.sizes.specs.Hash.{hash-from};
 ghost use Rattle.sizes.specs.Geometry.{Reckoned};
-ghost use Rattle.table.specs.Walk.{Walkable, node-of, wrong-seen, nothing-in, quantities-ok, node-good, enters-ok, entered-seen, ended-seen, stops-at, nodes-by, heads-ok, follows-ok, orders-by, passed-by, Lowest, chunk-spot, empty-home, opens-of};
+ghost use Rattle.table.specs.Walk.{Walkable, node-of, wrong-seen, nothing-in, quantities-ok, fits-in, node-good, enters-ok, entered-seen, ended-seen, stops-at, nodes-by, enters-lowest, comes-ok, passed-seen, chunk-spot, empty-home, opens-of};
 use crate::Seen;
 use placement::Found;
 use placement::Label;
@@ -66,14 +66,11 @@ fn quantities(level: u32, n: Order) -> bool
     n.displayed <= n.total
 }
 
-// May a node come by? The first key of a partition is known, any other has exactly the level of its list.
-fn comes_by(q: Geometry, level: u32, first: u32, opens: bool, n: Order, x: Seen) -> bool
+// Does a node fit into a partition? The first key is known, any other has exactly the level of its list.
+fn fits(q: Geometry, level: u32, first: u32, opens: bool, n: Order) -> bool
     requires { ⌜ (seed-good (q .sizes .seed) ≡ true) × (0 < q .sizes .gamma) × Reckoned q × (1 ≤ level) × (level ≤ q .top) ⌝ }
-    ensures { λ r. ⌜ r ≡ node-good (q .sizes) level first opens n x ⌝ }
+    ensures { λ r. ⌜ r ≡ fits-in (q .sizes) level first opens n ⌝ }
 {
-    if !x.ok {
-        return false;
-    }
     if !quantities(level, n) {
         return false;
     }
@@ -84,6 +81,17 @@ fn comes_by(q: Geometry, level: u32, first: u32, opens: bool, n: Order, x: Seen)
         return false;
     }
     sizes::hash::has_level(q.sizes, q.ratio, q.top, level, n.key)
+}
+
+// May a node above level 1 come by?
+fn comes_by(q: Geometry, level: u32, first: u32, opens: bool, n: Order, x: Seen) -> bool
+    requires { ⌜ (seed-good (q .sizes .seed) ≡ true) × (0 < q .sizes .gamma) × Reckoned q × (1 ≤ level) × (level ≤ q .top) ⌝ }
+    ensures { λ r. ⌜ r ≡ node-good (q .sizes) level first opens n x ⌝ }
+{
+    if !x.ok {
+        return false;
+    }
+    fits(q, level, first, opens, n)
 }
 
 // A chunk of so many nodes may come next.
@@ -135,26 +143,20 @@ fn stops(nodes: u32, n: u32, x: Seen) -> bool
     n < nodes
 }
 
-// May the first node of a level 1 partition come by, the front or an order?
-fn heads(first: u32, low: u32, n: Order) -> bool
-    ensures { λ r. ⌜ r ≡ heads-ok first low n ⌝ }
+// May a level 1 chunk of so many nodes come next? Each of them is an order, or the front.
+fn enters_lowest(nodes: u32, n: u32, x: Seen) -> bool
+    ensures { λ r. ⌜ r ≡ enters-lowest nodes n x ⌝ }
 {
-    if n.key != first {
+    if !enters(nodes, n, x) {
         return false;
     }
-    if n.key < low {
-        return false;
-    }
-    if PRIME <= n.key {
-        return false;
-    }
-    quantities(1, n)
+    n <= x.orders
 }
 
-// May another node come by, an order of level 1?
-fn follows(q: Geometry, low: u32, n: Order) -> bool
-    requires { ⌜ (seed-good (q .sizes .seed) ≡ true) × (0 < q .sizes .gamma) × Reckoned q × (1 ≤ low) ⌝ }
-    ensures { λ r. ⌜ r ≡ follows-ok (q .sizes) low n ⌝ }
+// May a node of level 1 come by, an order or the front? Its key is at least `low`, and below p.
+fn comes(q: Geometry, first: u32, opens: bool, low: u32, n: Order) -> bool
+    requires { ⌜ (seed-good (q .sizes .seed) ≡ true) × (0 < q .sizes .gamma) × Reckoned q × (1 ≤ q .top) ⌝ }
+    ensures { λ r. ⌜ r ≡ comes-ok (q .sizes) first opens low n ⌝ }
 {
     if n.key < low {
         return false;
@@ -162,73 +164,13 @@ fn follows(q: Geometry, low: u32, n: Order) -> bool
     if PRIME <= n.key {
         return false;
     }
-    if !sizes::hash::is_lowest(q.sizes, q.ratio, n.key) {
-        return false;
-    }
-    if n.total < 1 {
-        return false;
-    }
-    n.displayed <= n.total
+    fits(q, 1, first, opens, n)
 }
 
-// The nodes of a level 1 chunk but the first of its partition: what the next key is at least, or 0 if one may not come by.
-fn walk_orders(table: &[u8], q: Geometry, at: usize, left: u32, low: u32) -> u32
-    requires { ⌜ Walkable (q .sizes) (now table) × Reckoned q × (at + 12 * left ≤ length (now table)) × (1 ≤ low) ⌝ }
-    ensures { λ r. ⌜ r ≡ orders-by (q .sizes) (now (table .entry)) left at low ⌝ }
-{
-    let mut y = low;
-    let mut place = at;
-    let mut k = left;
-    while 0 < k {
-        let n = node_of(table, place);
-        if !follows(q, y, n) {
-            return 0;
-        }
-        y = n.key + 1;
-        place += 12;
-        k -= 1;
-    }
-    y
-}
-
-// The nodes of a level 1 chunk, likewise.
-fn walk_lowest(
-    table: &[u8],
-    q: Geometry,
-    first: u32,
-    opens: bool,
-    at: usize,
-    left: u32,
-    x: Seen,
-) -> u32
-    requires { ⌜ Walkable (q .sizes) (now table) × Reckoned q × (at + 12 * left ≤ length (now table)) × (1 ≤ left) × (x .ok ≡ true) ⌝ }
-    ensures { λ r. ⌜ Lowest (q .sizes) (now (table .entry)) first left at opens x r ⌝ }
-{
-    if x.orders < left {
-        return 0;
-    }
-    let mut low = x.low;
-    let mut place = at;
-    let mut k = left;
-    if opens {
-        let n = node_of(table, at);
-        if !heads(first, low, n) {
-            return 0;
-        }
-        low = n.key + 1;
-        place = at + 12;
-        k = left - 1;
-    }
-    if low == 0 {
-        low = 1;
-    }
-    walk_orders(table, q, place, k, low)
-}
-
-// A level 1 chunk has come by.
+// A level 1 chunk has come by: the next key is at least `low`.
 fn passed(n: u32, low: u32, x: Seen) -> Seen
-    requires { ⌜ (n ≤ x .orders) × (1 ≤ x .chunks) × (1 ≤ low) ⌝ }
-    ensures { λ r. ⌜ r ≡ passed-by n low (entered-seen x) ⌝ }
+    requires { ⌜ (n ≤ x .orders) × (1 ≤ x .chunks) ⌝ }
+    ensures { λ r. ⌜ r ≡ passed-seen n low x ⌝ }
 {
     Seen {
         ok: true,
@@ -274,11 +216,55 @@ fn absent(table: &[u8], q: Geometry, level: u32, first: u32, g: u32) -> bool
     )
 }
 
+// A partition of level 1: the blocks of its chunks, and in each its nodes, one after the other. A node that may not come by ends both.
+// `g` is the hash g of its first key.
+fn walk_lowest(table: &[u8], q: Geometry, first: u32, g: u32, x: Seen) -> Seen
+    requires { ⌜ Walkable (q .sizes) (now table) × Reckoned q × (1 ≤ q .top) × (g ≡ hash-from 5 5 (q .sizes .seed) first) ⌝ }
+    ensures { λ r. ⌜ r ≡ opens-of (q .sizes) (now (table .entry)) 1 first x ⌝ }
+{
+    let mut seen = x;
+    let mut number: u32 = 0;
+    'blocks: while number < q.sizes.blocks {
+        let Found::At(i) = chunk(table, q, 1, first, g, number) else {
+            return ended(number, seen);
+        };
+        let at = placement::labels::offset(q.sizes, i);
+        let n = sizes::numbers::wide(table[at + 1]);
+        if !enters_lowest(q.sizes.nodes, n, seen) {
+            return wrong();
+        }
+        let mut opens = number == 0;
+        let mut low = seen.low;
+        let mut place = at + 8;
+        let mut k = n;
+        while 0 < k {
+            let o = node_of(table, place);
+            if !comes(q, first, opens, low, o) {
+                seen = wrong();
+                break 'blocks;
+            }
+            opens = false;
+            low = o.key + 1;
+            place += 12;
+            k -= 1;
+        }
+        seen = passed(n, low, seen);
+        if n < q.sizes.nodes {
+            return seen;
+        }
+        number += 1;
+    }
+    seen
+}
+
 // A partition: its chunks, one after the other, a next one only behind a full one. `g` is the hash g of its first key.
 pub fn walk_partition(table: &[u8], q: Geometry, level: u32, first: u32, g: u32, x: Seen) -> Seen
     requires { ⌜ Walkable (q .sizes) (now table) × Reckoned q × (1 ≤ level) × (level ≤ q .top) × (g ≡ hash-from 5 5 (q .sizes .seed) first) ⌝ }
     ensures { λ r. ⌜ r ≡ opens-of (q .sizes) (now (table .entry)) level first x ⌝ }
 {
+    if level == 1 {
+        return walk_lowest(table, q, first, g, x);
+    }
     let mut seen = x;
     let mut number: u32 = 0;
     while number < q.sizes.blocks {
@@ -291,15 +277,7 @@ pub fn walk_partition(table: &[u8], q: Geometry, level: u32, first: u32, g: u32,
             return wrong();
         }
         let opens = number == 0;
-        if level == 1 {
-            let low = walk_lowest(table, q, first, opens, at + 8, n, seen);
-            if low == 0 {
-                return wrong();
-            }
-            seen = passed(n, low, seen);
-        } else {
-            seen = walk_nodes(table, q, level, first, opens, at + 8, n, entered(seen));
-        }
+        seen = walk_nodes(table, q, level, first, opens, at + 8, n, entered(seen));
         if stops(q.sizes.nodes, n, seen) {
             return seen;
         }

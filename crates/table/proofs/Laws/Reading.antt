@@ -22,7 +22,7 @@ use Rattle.placement.proofs.Laws.Decoding.{nodes-count}
 use Rattle.skiplist.proofs.Laws.Count.{pieces, pieces-less}
 use Rattle.skiplist.proofs.Laws.Opens.{Exact, Nodes, Walks}
 use Rattle.table.specs.declared.Seen.{Seen}
-use Rattle.table.specs.Walk.{wrong-seen, quantities-ok, belongs-in, counts, counted, enters-ok, entered-seen, ended-seen, stops-at, node-good, spot, chunk-spot, count-in, chunk-by, chunks-by, opens-of}
+use Rattle.table.specs.Walk.{wrong-seen, quantities-ok, belongs-in, counts, counted, enters-ok, entered-seen, ended-seen, stops-at, fits-in, node-good, spot, chunk-spot, count-in, chunk-by, chunks-by, opens-of}
 use Rattle.table.proofs.Laws.Came.{Weighs, Step, step-none, step-both, wrong-not, nodes-on, chunk-read, chunk-are}
 use Rattle.table.proofs.Laws.Counted.{under, under-both, tally}
 
@@ -169,7 +169,7 @@ module _ (s : Sizes) (bs : List ℕ) (small : (b : ℕ) → Small (chunk-read s 
     -- THE NODES of a chunk
     listed : (ns : List Order) (o : Bool) (x : Seen) → Small ns → nodes-on (opens-of s bs l) s (suc l) f o ns x .ok ≡ true
         → Listed l o f ns x (nodes-on (opens-of s bs l) s (suc l) f o ns x)
-    unfolding nodes-on node-good under weigh-all
+    unfolding nodes-on node-good fits-in under weigh-all
     listed [] o x m e = record { seg = []; nodes = refl; fitting = fitting-none o; weights = refl; step = step-none x e }
     listed (n ∷ ns) o x m e = go (λ y h. listed ns false y (m .1) h) (x .ok && (belongs-in s (suc l) f o (n .key) && quantities-ok (suc l) n)) refl e
       where

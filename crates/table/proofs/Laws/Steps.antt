@@ -4,7 +4,7 @@ use mathlib.Core.Bool.{Bool, true, false, and-false, and-true}
 use mathlib.Core.List.{List}
 use Prim.Native.Nat.{ℕ, _+_, _-_, _≤_, _<_}
 use lib.Dec.{ltb, leb, eqb}
-use borrow.Author.Tests.{eq-eqb, ne-eqb, le-leb, lt-leb}
+use borrow.Author.Tests.{eq-eqb, ne-eqb, le-leb, lt-leb, le-ltb, lt-ltb}
 use native.Mathlib.Nat.{add-zero}
 use Rattle.sizes.specs.Numbers.{field}
 use Rattle.sizes.specs.Hash.{level}
@@ -13,7 +13,7 @@ use Rattle.sizes.specs.declared.Sizes.{Sizes}
 use Rattle.placement.specs.declared.Order.{Order}
 use Rattle.sizes.proofs.Laws.Numbers.{field-drop}
 use Rattle.table.specs.declared.Seen.{Seen}
-use Rattle.table.specs.Walk.{node-of, wrong-seen, nothing-in, quantities-ok, belongs-in, node-good, enters-ok, entered-seen, ended-seen, stops-at}
+use Rattle.table.specs.Walk.{node-of, wrong-seen, nothing-in, quantities-ok, belongs-in, fits-in, node-good, enters-ok, enters-lowest, comes-ok, entered-seen, passed-seen, ended-seen, stops-at}
 
 pub wrong-made : _≡_ {A = Seen} (record { ok = false; low = 0; orders = 0; chunks = 0 }) wrong-seen
 unfolding wrong-seen
@@ -53,28 +53,45 @@ module _ (l : ℕ) (n : Order) where
   unfolding quantities-ok
   quantities-above q e h = h ∙ rw (ne-eqb _ _ e)
 
-module _ (s : Sizes) (l f : ℕ) (o : Bool) (n : Order) (x : Seen) where
-  pub good-bad : x .ok ≡ false → false ≡ node-good s l f o n x
-  unfolding node-good
-  good-bad e = rw e
-
+module _ (s : Sizes) (l f : ℕ) (o : Bool) (n : Order) where
   module _ (q : Bool) (eq : q ≡ quantities-ok l n) where
-    pub good-unfit : q ≡ false → false ≡ node-good s l f o n x
-    unfolding node-good
-    good-unfit e = rw (← eq, e, and-false, and-false)
+    pub fits-not : q ≡ false → false ≡ fits-in s l f o n
+    unfolding fits-in
+    fits-not e = rw (← eq, e, and-false)
 
-    module _ (k : x .ok ≡ true) (e : q ≡ true) where
-      pub good-first : o ≡ true → eqb (n .key) f ≡ node-good s l f o n x
-      unfolding node-good belongs-in
-      good-first h = rw (k, ← eq, e, and-true, h)
+    module _ (e : q ≡ true) where
+      pub fits-first : o ≡ true → eqb (n .key) f ≡ fits-in s l f o n
+      unfolding fits-in belongs-in
+      fits-first h = rw (← eq, e, and-true, h)
 
-      pub good-front : o ≡ false → n .key ≡ 0 → false ≡ node-good s l f o n x
-      unfolding node-good belongs-in
-      good-front h z = rw (h, eq-eqb _ _ z, and-false)
+      pub fits-front : o ≡ false → n .key ≡ 0 → false ≡ fits-in s l f o n
+      unfolding fits-in belongs-in
+      fits-front h z = rw (h, eq-eqb _ _ z)
 
-      pub good-level : (v : Bool) → o ≡ false → (n .key ≡ 0 → ⊥) → v ≡ eqb (level s (n .key)) l → v ≡ node-good s l f o n x
-      unfolding node-good belongs-in
-      good-level v h z ev = rw (k, ← eq, e, and-true, h, ne-eqb _ _ z) ev
+      pub fits-level : (v : Bool) → o ≡ false → (n .key ≡ 0 → ⊥) → v ≡ eqb (level s (n .key)) l → v ≡ fits-in s l f o n
+      unfolding fits-in belongs-in
+      fits-level v h z ev = rw (← eq, e, and-true, h, ne-eqb _ _ z) ev
+
+  pub good-bad : (x : Seen) → x .ok ≡ false → false ≡ node-good s l f o n x
+  unfolding node-good
+  good-bad x e = rw e
+
+  pub good-fits : (x : Seen) (t : Bool) → x .ok ≡ true → t ≡ fits-in s l f o n → t ≡ node-good s l f o n x
+  unfolding node-good
+  good-fits x t e et = rw e et
+
+module _ (s : Sizes) (f : ℕ) (o : Bool) (y : ℕ) (n : Order) where
+  pub comes-low : n .key < y → false ≡ comes-ok s f o y n
+  unfolding comes-ok
+  comes-low h = rw (lt-leb y (n .key) h)
+
+  pub comes-high : 2147483647 ≤ n .key → false ≡ comes-ok s f o y n
+  unfolding comes-ok
+  comes-high h = rw (le-ltb (n .key) 2147483647 h, and-false)
+
+  pub comes-last : (t : Bool) → y ≤ n .key → n .key < 2147483647 → t ≡ fits-in s 1 f o n → t ≡ comes-ok s f o y n
+  unfolding comes-ok
+  comes-last t l h e = rw (le-leb y (n .key) l, lt-ltb (n .key) 2147483647 h) e
 
 module _ (b n : ℕ) (x : Seen) where
   pub enters-last : x .ok ≡ true → 1 ≤ n → n ≤ b → leb 1 (x .chunks) ≡ enters-ok b n x
@@ -101,6 +118,15 @@ module _ (b n : ℕ) (x : Seen) where
   unfolding stops-at
   stops-short e = rw e
 
+module _ (b n : ℕ) (x : Seen) (t : Bool) (et : t ≡ enters-ok b n x) where
+  pub lowest-not : t ≡ false → false ≡ enters-lowest b n x
+  unfolding enters-lowest
+  lowest-not e = rw (← et, e)
+
+  pub lowest-last : t ≡ true → leb n (x .orders) ≡ enters-lowest b n x
+  unfolding enters-lowest
+  lowest-last e = rw (← et, e)
+
 pub ended-first : (i : ℕ) (x w : Seen) → w ≡ wrong-seen → i ≡ 0 → w ≡ ended-seen i x
 unfolding ended-seen
 ended-first i x w e z = rw (eq-eqb _ _ z) e
@@ -112,3 +138,7 @@ ended-later i x z = rw (ne-eqb _ _ z)
 pub entered-made : (x : Seen) → _≡_ {A = Seen} (record { ok = x .ok; low = x .low; orders = x .orders; chunks = x .chunks - 1 }) (entered-seen x)
 unfolding entered-seen
 entered-made x = refl
+
+pub passed-made : (n y : ℕ) (x : Seen) → _≡_ {A = Seen} (record { ok = true; low = y; orders = x .orders - n; chunks = x .chunks - 1 }) (passed-seen n y x)
+unfolding passed-seen
+passed-made n y x = refl

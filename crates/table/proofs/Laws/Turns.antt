@@ -87,6 +87,13 @@ pub record Chunking (s : Sizes) (bs : List ℕ) (l f : ℕ) (x : Seen) (i : ℕ)
   pub within : i ≤ s .blocks
   pub rest : opens-of s bs l f x ≡ chunks-by (opens-of s bs (l - 1)) s bs l f (s .blocks - i) i y
 
+-- .. once a chunk of n nodes may come next
+pub record Entering (s : Sizes) (bs : List ℕ) (l f : ℕ) (x : Seen) (i : ℕ) (y : Seen) (at n : ℕ) : Type 0 where
+  pub above : 1 ≤ l
+  pub within : i < s .blocks
+  pub rest : let z = nodes-by (opens-of s bs (l - 1)) s bs l f n (at + 8) (eqb i 0) (entered-seen y) in
+      opens-of s bs l f x ≡ cond (stops-at (s .nodes) n z) z (chunks-by (opens-of s bs (l - 1)) s bs l f (s .blocks - (i + 1)) (i + 1) z)
+
 module _ (s : Sizes) (bs : List ℕ) (l f : ℕ) (x : Seen) where
   pub chunking-start : 1 ≤ l → Chunking s bs l f x 0 x
   unfolding opens-of
@@ -148,25 +155,29 @@ module _ (s : Sizes) (bs : List ℕ) (l f : ℕ) (x : Seen) where
           unfolding wrong-seen stops-at
           chunking-wrong w ew e = ew ∙ sym (here ∙ rw (inside false e))
 
-          module _ (e : t ≡ true) (z : Seen) (ez : z ≡ nodes-by (opens-of s bs (l - 1)) s bs l f n (at + 8) (eqb i 0) (entered-seen y)) where
-            whole : chunk-by (opens-of s bs (l - 1)) s bs l f i b y ≡ z
-            whole = inside true e ∙ sym ez
+          pub entering-made : t ≡ true → Entering s bs l f x i y at n
+          entering-made e = record { above = c .above; within = lt; rest = here ∙ rw (inside true e) }
 
-            pub chunking-gone : z ≡ wrong-seen → z ≡ opens-of s bs l f x
-            unfolding wrong-seen stops-at
-            chunking-gone q = q ∙ sym (here ∙ rw (whole, q))
+module _ (s : Sizes) (bs : List ℕ) (l f : ℕ) (x : Seen) (i : ℕ) (y : Seen) (at n : ℕ) (h : Entering s bs l f x i y at n) (z : Seen) (ez : z ≡ nodes-by (opens-of s bs (l - 1)) s bs l f n (at + 8) (eqb i 0) (entered-seen y)) where
+  pub entering-gone : z ≡ wrong-seen → z ≡ opens-of s bs l f x
+  unfolding wrong-seen stops-at
+  entering-gone q = q ∙ sym (h .rest ∙ rw (← ez, q))
 
-            module _ (u : Bool) (es : u ≡ stops-at (s .nodes) n z) where
-              pub chunking-stop : u ≡ true → z ≡ opens-of s bs l f x
-              chunking-stop q = sym (here ∙ rw (whole, ← es, q))
+  module _ (u : Bool) (es : u ≡ stops-at (s .nodes) n z) where
+    pub entering-stop : u ≡ true → z ≡ opens-of s bs l f x
+    entering-stop q = sym (h .rest ∙ rw (← ez, ← es, q))
 
-              pub chunking-more : u ≡ false → Chunking s bs l f x (i + 1) z
-              chunking-more q = record { above = c .above; within = omega arith; rest = here ∙ rw (whole, ← es, q) }
+    pub entering-more : u ≡ false → Chunking s bs l f x (i + 1) z
+    entering-more q = record { above = h .above; within = omega (arith, h .within); rest = h .rest ∙ rw (← ez, ← es, q) }
 
 -- the nodes of a chunk above level 1, as they are called for
-pub higher-nodes : (s : Sizes) (bs : List ℕ) (l f n a : ℕ) (o : Bool) (y y′ v z : Seen) → z ≡ v → v ≡ nodes-by (opens-of s bs (l - 1)) s bs l f n a o y′ → y′ ≡ entered-seen y
+pub higher-nodes : (s : Sizes) (bs : List ℕ) (l f n a : ℕ) (o : Bool) (y y′ z : Seen) → z ≡ nodes-by (opens-of s bs (l - 1)) s bs l f n a o y′ → y′ ≡ entered-seen y
     → z ≡ nodes-by (opens-of s bs (l - 1)) s bs l f n a o (entered-seen y)
-higher-nodes s bs l f n a o y y′ v z e ev ey = e ∙ ev ∙ ap (nodes-by (opens-of s bs (l - 1)) s bs l f n a o) ey
+higher-nodes s bs l f n a o y y′ z ez ey = ez ∙ ap (nodes-by (opens-of s bs (l - 1)) s bs l f n a o) ey
+
+-- a partition of level 1
+pub lowest-partition : (s : Sizes) (bs : List ℕ) (l f : ℕ) (x z : Seen) → l ≡ 1 → z ≡ opens-of s bs 1 f x → z ≡ opens-of s bs l f x
+lowest-partition s bs l f x z e ez = ez ∙ ap (λ (i : ℕ). opens-of s bs i f x) (sym e)
 
 -- a partition whose search starts at an empty block has no chunk
 opens-empty : (s : Sizes) (bs : List ℕ) (l f : ℕ) (x : Seen) → Shaped s bs → 1 ≤ l → (t : Bool) → t ≡ empty-home s bs l f → t ≡ true → opens-of s bs l f x ≡ wrong-seen

@@ -20,7 +20,7 @@ use Rattle.skiplist.specs.Lists.{masked}
 use Rattle.skiplist.proofs.Laws.Count.{pieces, pieces-less}
 use Rattle.skiplist.proofs.Laws.Opens.{Exact, Nodes, Walks, shape}
 use Rattle.table.specs.declared.Seen.{Seen}
-use Rattle.table.specs.Walk.{nothing-in, quantities-ok, belongs-in, counts, counted, enters-ok, entered-seen, ended-seen, stops-at, node-good, spot, chunk-spot, count-in, chunk-by, chunks-by, opens-of}
+use Rattle.table.specs.Walk.{nothing-in, quantities-ok, belongs-in, counts, counted, enters-ok, entered-seen, ended-seen, stops-at, fits-in, node-good, spot, chunk-spot, count-in, chunk-by, chunks-by, opens-of}
 use Rattle.table.proofs.Laws.Came.{Rising, Step, rising-split, step-split, nodes-on, chunk-read, chunk-are}
 use Rattle.table.proofs.Laws.Counted.{under, under-both, tally}
 use Rattle.table.proofs.Laws.Reading.{Fitting, read-count}
@@ -112,7 +112,7 @@ module _ (s : Sizes) (bs : List ℕ) (T : (l f : ℕ) → List Order) (b : 0 < s
     rest-exact false n ns u = u .1
 
     good-is : (o : Bool) (n : Order) (x : Seen) → x .ok ≡ true → belongs-in s (suc l) f o (n .key) ≡ true → quantities-ok (suc l) (masked (suc l) n) ≡ true → node-good s (suc l) f o (masked (suc l) n) x ≡ true
-    unfolding node-good masked
+    unfolding node-good fits-in masked
     good-is o n x a c d = rw (a, c, d)
 
     -- THE NODES of a chunk

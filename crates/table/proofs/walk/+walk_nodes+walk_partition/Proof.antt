@@ -6,10 +6,8 @@ use Prim.Native.Nat.{ℕ, _<_, _+_, _*_, _-_}
 use mathlib.Core.Path.{refl, _∙_}
 use mathlib.Core.Logic.{⊎-elim}
 use native.Mathlib.Omega.{arith}
-use native.Mathlib.Nat.{pos-of-ne-zero}
 use Rattle.table.specs.Walk.{opens-of}
-use Rattle.table.proofs.Laws.Turns.{Noding, noding-start, noding-room, noding-end, noding-gone, noding-wrong, noding-more, Keyed, keyed-made, keyed-none, keyed-is, number-most, Chunking, chunking-start, chunking-end, chunking-none, chunking-wrong, chunking-gone, chunking-stop, chunking-more, higher-nodes, ahead, chunk-below, enters-good, enters-some, enters-chunks, chunk-room}
-use Rattle.table.proofs.Laws.Lowest.{lowest-nodes, lowest-none}
+use Rattle.table.proofs.Laws.Turns.{Noding, noding-start, noding-room, noding-end, noding-gone, noding-wrong, noding-more, Keyed, keyed-made, keyed-none, keyed-is, number-most, Chunking, chunking-start, chunking-end, chunking-none, chunking-wrong, Entering, entering-made, entering-stop, entering-more, higher-nodes, ahead, chunk-below, enters-some, enters-chunks, chunk-room, lowest-partition}
 use borrow.Fn.Kinds.{In}
 use borrow.Fn.PlainCycle.{Measures, is, falls, and}
 use Rattle.table.proofs.walk.walk_nodes.Reads as walk-nodes
@@ -29,7 +27,6 @@ use Rattle.table.proofs.walk.entered.Reads as entered-reads
 use Rattle.table.proofs.walk.enters.Reads as enters-reads
 use Rattle.table.proofs.walk.comes_by.Reads as comes-by-reads
 use Rattle.table.proofs.walk.node_of.Reads as node-of-reads
-use Rattle.table.proofs.walk.passed.Reads as passed-reads
 use Rattle.table.proofs.walk.stops.Reads as stops-reads
 use Rattle.table.proofs.walk.walk_lowest.Reads as walk-lowest-reads
 use Rattle.table.proofs.walk.wrong.Reads as wrong-reads
@@ -106,63 +103,44 @@ pub +walk-nodes+walk-partition-spec : {M : Type 1} → statement M
       ⊎-elim (λ w. keyed-made _ _ _ _ _ _ (w .1 .ensures) (w .5 ∙ w .2 .ensures .0)) (λ w. keyed-none _ _ _ _ _ (omega (arith, w .0 .left))) (c .before .if2 .came),
     ))
     (λ c. search laws))
-    λ t. walk-partition-lts.spec (chunk-reads.Asked, chunk-reads.Learnt, ended-reads.Asked, ended-reads.Learnt, offset-reads.Asked, offset-reads.Learnt, wide-reads.Asked, wide-reads.Learnt, enters-reads.Asked, enters-reads.Learnt, wrong-reads.Asked, wrong-reads.Learnt, walk-lowest-reads.Asked, walk-lowest-reads.Learnt, passed-reads.Asked, passed-reads.Learnt, entered-reads.Asked, entered-reads.Learnt, walk-nodes-below t, walk-nodes.Post, stops-reads.Asked, stops-reads.Learnt)
+    λ t. walk-partition-lts.spec (walk-lowest-reads.Asked, walk-lowest-reads.Learnt, chunk-reads.Asked, chunk-reads.Learnt, ended-reads.Asked, ended-reads.Learnt, offset-reads.Asked, offset-reads.Learnt, wide-reads.Asked, wide-reads.Learnt, enters-reads.Asked, enters-reads.Learnt, wrong-reads.Asked, wrong-reads.Learnt, entered-reads.Asked, entered-reads.Learnt, walk-nodes-below t, walk-nodes.Post, stops-reads.Asked, stops-reads.Learnt)
     (walk-partition-at t) walk-partition.Post walk-partition-Inv-loop walk-partition-μ-loop
+    (λ c κs.
+    let p = c .before .before .pre .1 in
+    (p .0, p .1, omega (arith, p .2, p .3), p .4))
+    (λ c. lowest-partition _ _ _ _ _ _ (c .before .if1 .taken) (c .walk-lowest .ensures))
     (λ c. search laws) (λ c κs. search laws) (λ c. search laws) (λ c. search laws) (λ c κs. search laws) (λ c. search laws)
     (λ c κs. search laws) (λ c. search laws) (λ c. search laws) (λ c κs. search laws) (λ c κs. search laws) (λ c κs. search laws)
-    (λ c. search laws) (λ c. search laws)
-    (λ c κs.
-    let b = c .before in
-    let o = b .before .before .before .before in
-    let k = o .before .before .before .before in
-    let p = k .before .before .before .before .before .pre .1 in
-    let e = b .before .enters .ensures in
-    let h = not-false _ (b .if2 .left) in
-    (p .0, p .1, chunk-room _ _ (p .0) _ _ _ e h _ (o .offset .ensures .1), enters-some _ _ _ _ e h, enters-good _ _ _ _ e h))
-    (λ c κs. search laws)
-    (λ c.
-    let b = c .before .before .before .before in
-    let o = b .before .before .before .before in
-    let k = o .before .before .before .before in
-    chunking-gone _ _ _ _ _ _ _ (k .before .before .before .loop .inv) (k .before .if1 .taken) _ (k .chunk .ensures) _
-    (o .before .before .i .given .1) _ _ (o .offset .ensures .0) (b .before .before .wide .ensures .0) _ (b .before .enters .ensures) (not-false _ (b .if2 .left)) _
-    (lowest-none _ _ _ _ _ _ _ _ (c .before .before .before .if3 .taken) _ (c .before .before .walk-lowest .ensures) (c .before .if4 .taken) _ (c .wrong2 .ensures)) (c .wrong2 .ensures))
-    (λ c κs.
-    let b = c .before .before .before in
-    let low = pos-of-ne-zero (c .if4 .left) in
-    (c .before .walk-lowest .ensures .few low, enters-chunks _ _ _ _ (b .before .enters .ensures) (not-false _ (b .if2 .left)), low))
-    (λ c. search laws) (λ c κs. enters-chunks _ _ _ _ (c .before .before .enters .ensures) (not-false _ (c .before .if2 .left)))
+    (λ c. search laws) (λ c. search laws) (λ c κs. enters-chunks _ _ _ _ (c .before .enters .ensures) (not-false _ (c .if3 .left)))
     (λ c κs.
     let b = c .before .before in
-    let o = b .before .before .before .before in
-    let k = o .before .before .before .before in
-    let p = k .before .before .before .before .before .pre in
-    let e = b .before .enters .ensures in
-    let h = not-false _ (b .if2 .left) in (
+    let o = b .before .before .before in
+    let l = o .before .before .before .before .before .before .before in
+    let p = l .before .before .before .pre in
+    let e = b .enters .ensures in
+    let h = not-false _ (c .before .if3 .left) in (
       omega (arith, p .0),
-      (p .1 .0, p .1 .1, omega (arith, c .before .if3 .left, p .1 .2), p .1 .3, enters-some _ _ _ _ e h, chunk-room _ _ (p .1 .0) _ _ _ e h _ (o .offset .ensures .1)),
+      (p .1 .0, p .1 .1, omega (arith, l .before .if1 .left, p .1 .2), p .1 .3, enters-some _ _ _ _ e h, chunk-room _ _ (p .1 .0) _ _ _ e h _ (o .offset .ensures .1)),
     ))
     (λ c κs. search laws)
     (λ c.
-    let b = c .before .before .before in
-    let o = b .before .before .before .before in
+    let b = c .before .before .before .before .before in
+    let o = b .before .before .before in
     let k = o .before .before .before .before in
-    chunking-stop _ _ _ _ _ _ _ (k .before .before .before .loop .inv) (k .before .if1 .taken) _ (k .chunk .ensures) _
-    (o .before .before .i .given .1) _ _ (o .offset .ensures .0) (b .before .before .wide .ensures .0) _ (b .before .enters .ensures) (not-false _ (b .if2 .left)) _
-    (⊎-elim (λ w. lowest-nodes _ _ _ _ _ _ _ _ (w .0 .taken) _ (w .1 .ensures) _ _ (w .4) (w .3 .ensures))
-    (λ w. higher-nodes _ _ _ _ _ _ _ _ _ _ _ (w .3) (w .2 .ensures) (w .1 .ensures)) (c .before .before .if3 .came)) _ (c .before .stops .ensures) (c .if5 .taken))
+    entering-stop _ _ _ _ _ _ _ _ _
+    (entering-made _ _ _ _ _ _ _ (k .before .before .before .loop .inv) (k .before .if2 .taken) _ (k .chunk .ensures) _ (o .before .before .i .given .1) _ _ (o .offset .ensures .0) (b .before .wide .ensures .0) _ (b .enters .ensures)
+    (not-false _ (c .before .before .before .before .if3 .left)))
+    _ (higher-nodes _ _ _ _ _ _ _ _ _ _ (c .before .before .walk-nodes .ensures) (c .before .before .before .entered .ensures)) _ (c .before .stops .ensures) (c .if4 .taken))
     (λ c.
-    let b = c .before .before .before in
-    let o = b .before .before .before .before in
-    let k = o .before .before .before .before in
-    record { fits = omega (arith, k .before .if1 .taken, k .before .before .before .before .before .pre .1 .0 .shaped .most) })
+    let k = c .before .before .before .before .before .before .before .before .before .before .before .before in
+    record { fits = omega (arith, k .before .if2 .taken, k .before .before .before .before .before .before .pre .1 .0 .shaped .most) })
     (λ c. search laws)
     (λ c.
-    let b = c .before .before .before in
-    let o = b .before .before .before .before in
+    let b = c .before .before .before .before .before in
+    let o = b .before .before .before in
     let k = o .before .before .before .before in
-    chunking-more _ _ _ _ _ _ _ (k .before .before .before .loop .inv) (k .before .if1 .taken) _ (k .chunk .ensures) _
-    (o .before .before .i .given .1) _ _ (o .offset .ensures .0) (b .before .before .wide .ensures .0) _ (b .before .enters .ensures) (not-false _ (b .if2 .left)) _
-    (⊎-elim (λ w. lowest-nodes _ _ _ _ _ _ _ _ (w .0 .taken) _ (w .1 .ensures) _ _ (w .4) (w .3 .ensures))
-    (λ w. higher-nodes _ _ _ _ _ _ _ _ _ _ _ (w .3) (w .2 .ensures) (w .1 .ensures)) (c .before .before .if3 .came)) _ (c .before .stops .ensures) (c .if5 .left))
+    entering-more _ _ _ _ _ _ _ _ _
+    (entering-made _ _ _ _ _ _ _ (k .before .before .before .loop .inv) (k .before .if2 .taken) _ (k .chunk .ensures) _ (o .before .before .i .given .1) _ _ (o .offset .ensures .0) (b .before .wide .ensures .0) _ (b .enters .ensures)
+    (not-false _ (c .before .before .before .before .if3 .left)))
+    _ (higher-nodes _ _ _ _ _ _ _ _ _ _ (c .before .before .walk-nodes .ensures) (c .before .before .before .entered .ensures)) _ (c .before .stops .ensures) (c .if4 .left))
     (λ c. search laws)

@@ -1,6 +1,6 @@
 -- `table::walk::passed` meets its contract: each need follows from the laws listed.
 use borrow.Author.Needs.{needs}
-use Rattle.table.proofs.Laws.Lowest.{passed-made}
+use Rattle.table.proofs.Laws.Steps.{passed-made}
 use Rattle.table.proofs.walk.passed.Statement.{statement}
 use Rattle.table.proofs.walk.passed.Tie as tie
 

@@ -1,40 +1,71 @@
--- `table::walk::walk_lowest` meets its contract: each need follows from the laws listed, or from one law at the facts named.
+-- `table::walk::walk_lowest` meets its contract: a loop over the blocks of a partition, and one over the nodes of a block.
 use borrow.Author.Needs.{needs}
 use borrow.Author.Tests.{not-true, not-false}
-use mathlib.Core.Path.{_≡_}
-use mathlib.Core.Bool.{cond}
-use mathlib.Core.Logic.{⊎-elim}
-use lib.Dec.{eqb}
-use Rattle.table.proofs.Laws.Lowest.{heads-fits, Headed, lowest-many, lowest-first, headed-first, headed-other, lowest-is, least-one, least-same, least-some}
+use Prim.Native.Nat.{_+_, _-_}
+use mathlib.Core.Path.{_≡_, refl}
+use mathlib.Core.Bool.{true}
+use native.Mathlib.Omega.{arith}
+use Rattle.table.proofs.Laws.Turns.{Chunking, chunking-start, chunking-end, chunking-none, Entering, entering-made, chunk-below, number-most, enters-good, chunk-room}
+use Rattle.table.proofs.Laws.Lowest.{Lowering, lowering-start, lowering-room, lowering-more, comes-fits, lowest-enters, lowest-few, lowest-holds, lowest-refused, lowest-wrong, lowest-stop, lowest-more}
 use Rattle.table.proofs.walk.walk_lowest.Statement.{statement}
 use Rattle.table.proofs.walk.walk_lowest.Tie as tie
 
-ruleset laws = (needs, not-true, not-false, heads-fits, lowest-many, lowest-first)
+ruleset laws = (needs, not-true, not-false, chunking-start, chunking-end, chunking-none, chunk-below, number-most, lowering-room, comes-fits)
 
--- where the ways meet, past the first node if that opens
-headed : (c : tie.Joined2) → let a = c .before .before .before .before .args in
-    Headed (a .q .sizes) (a .table .now) (a .first) (a .left) (a .at) (a .opens) (a .x) (c .if2 .k) (c .if2 .place) (c .if2 .low)
-headed c =
-    let p = c .before .before .before .before .pre in
-    ⊎-elim
-    (λ w. headed-first _ _ _ _ _ _ _ (p .4) (p .3) (c .before .if1 .left) (w .0 .taken) _ (w .1 .ensures) _ (w .2 .ensures) (not-false _ (w .3 .left)) (p .2) _ _ _ (w .5) (w .6) (w .7))
-    (λ w. headed-other _ _ _ _ _ _ _ (p .4) (p .3) (c .before .if1 .left) (w .0 .left) (p .2) _ _ _ (w .1) (w .2) (w .3)) (c .if2 .came)
+abbrev Inv-loop : tie.InvT-loop
+Inv-loop table q first g seen₀ number i at n opens₀ low₀ place₀ k₀ seen opens low place k = (seen ≡ seen₀) × Lowering (q .sizes) table first n (at + 8) opens₀ seen₀ k place opens low
 
-least : (c : tie.Joined4) → c .if4 .low ≡ cond (eqb (c .before .if2 .low) 0) 1 (c .before .if2 .low)
-least c = ⊎-elim (λ w. least-one _ _ (w .0 .taken) (w .1)) (λ w. least-same _ _ (w .0 .left) (w .1)) (c .if4 .came)
+abbrev μ-loop : tie.MeasureT-loop
+μ-loop table q first g seen₀ number i at n opens₀ low₀ place₀ k₀ seen opens low place k = k
 
-walk-orders-requires : tie.Need-walk-orders-requires
-walk-orders-requires c κs =
-    let p = c .before .before .before .before .before .pre in
-    (p .0, p .1, headed (c .before) .room, least-some (c .before .if2 .low) _ (least c))
+abbrev Inv-blocks2 : tie.InvT-blocks2
+Inv-blocks2 table q first g seen₀ number₀ seen number = Chunking (q .sizes) table 1 first seen₀ number seen
 
-returns-3 : tie.Need-returns-3
-returns-3 c =
-    let p = c .before .before .before .before .before .before .pre in
-    lowest-is _ _ _ _ _ _ _ (p .4) (p .3) (c .before .before .before .if1 .left) _ _ _ (headed (c .before .before)) _ _ (c .walk-orders .ensures) (least (c .before))
+abbrev μ-blocks2 : tie.MeasureT-blocks2
+μ-blocks2 table q first g seen₀ number₀ seen number = q .sizes .blocks - number
+
+-- where a chunk has come next
+entering : (c : tie.Else2 Inv-loop μ-loop Inv-blocks2 μ-blocks2) → let k = c .before .before .before .before .before .before .before .before in let a = k .before .before .before .before .before .args in
+    Entering (a .q .sizes) (a .table .now) 1 (a .first) (a .x) (k .before .before .before .blocks2 .number) (k .before .before .before .blocks2 .seen) (c .before .before .before .before .offset .result) (c .before .before .wide .result)
+entering c =
+    let o = c .before .before .before .before in
+    let k = o .before .before .before .before in
+    entering-made _ _ _ _ _ _ _ (k .before .before .before .blocks2 .inv) (k .before .if1 .taken) _ (k .chunk .ensures) _ (o .before .before .i .given .1) _ _ (o .offset .ensures .0) (c .before .before .wide .ensures .0)
+    true (lowest-enters _ _ _ _ (c .before .enters-lowest .ensures) (not-false _ (c .if2 .left))) refl
 
 pub walk-lowest-spec : {M : Type 1} → statement M
 walk-lowest-spec =
     tie.close
-    (tie.spec (λ c. search laws) (λ c κs. search laws) (λ c κs. search laws) (λ c. search laws) (λ c. search laws) (λ c. search laws)
-    (λ c. search laws) walk-orders-requires returns-3)
+    (tie.spec Inv-loop μ-loop Inv-blocks2 μ-blocks2 (λ c. search laws) (λ c κs. search laws) (λ c. search laws) (λ c. search laws) (λ c κs. search laws) (λ c. search laws)
+    (λ c κs. search laws) (λ c. search laws) (λ c. search laws) (λ c κs. search laws) (λ c κs. search laws) (λ c κs. search laws)
+    (λ c.
+    let o = c .before .before .before .before .before in
+    let k = o .before .before .before .before in
+    lowest-refused _ _ _ _ _ _ (k .before .before .before .blocks2 .inv) (k .before .if1 .taken) _ (k .chunk .ensures) _ (o .before .before .i .given .1) _ _ (o .offset .ensures .0)
+    (c .before .before .before .wide .ensures .0) _ (c .before .before .enters-lowest .ensures) (not-true _ (c .before .if2 .taken)) _ (c .wrong .ensures))
+    (λ c. search laws)
+    (λ c.
+    let o = c .before .before .before .before in
+    let p = o .before .before .before .before .before .before .before .before .before .pre in
+    let e = c .before .enters-lowest .ensures in
+    let h = not-false _ (c .if2 .left) in
+    let t = lowest-enters _ _ _ _ e h in
+    (refl, lowering-start _ _ _ _ _ _ _ (enters-good _ _ _ _ t refl) (lowest-few _ _ _ _ e h) (chunk-room _ _ (p .0) _ _ _ t refl _ (o .offset .ensures .1))))
+    (λ c κs. search laws) (λ c κs. search laws) (λ c κs. search laws) (λ c. search laws) (λ c. search laws) (λ c. search laws)
+    (λ c. search laws)
+    (λ c.
+    let l = c .before .before .before .before .before .loop in
+    (l .inv .0, lowering-more _ _ _ _ _ _ _ _ _ _ _ (l .inv .1) (c .before .before .before .before .loop-test .taken) _ (c .before .before .before .node-of .ensures) _ (c .before .before .comes .ensures) (not-false _ (c .before .if3 .left))))
+    (λ c κs. lowest-holds _ _ _ _ (c .before .before .before .enters-lowest .ensures) (not-false _ (c .before .before .if2 .left)) _ (c .before .loop .inv .0))
+    (λ c.
+    let l = c .before .before .before .before in
+    lowest-stop _ _ _ _ _ _ _ _ (entering (l .before)) _ _ _ _ (l .loop .inv .1) _ _ (l .loop .inv .0) (c .before .before .passed .ensures) (omega (arith, c .before .before .before .loop-test .left)) (c .if4 .taken))
+    (λ c. search laws) (λ c. search laws)
+    (λ c.
+    let l = c .before .before .before .before in
+    lowest-more _ _ _ _ _ _ _ _ (entering (l .before)) _ _ _ _ (l .loop .inv .1) _ _ (l .loop .inv .0) (c .before .before .passed .ensures) (omega (arith, c .before .before .before .loop-test .left)) (omega (arith, c .if4 .left)))
+    (λ c. search laws)
+    (λ c.
+    let l = c .before .before .before .before .before in
+    lowest-wrong _ _ _ _ _ _ _ _ (entering (l .before)) _ _ _ _ (l .loop .inv .1) (c .before .before .before .before .loop-test .taken) _ (c .before .before .before .node-of .ensures) _ (c .before .before .comes .ensures)
+    (not-true _ (c .before .if3 .taken)) _ (c .wrong2 .ensures)))

@@ -1,0 +1,10 @@
+-- `table::walk::comes` meets its contract: each need follows from the laws listed.
+use borrow.Author.Needs.{needs}
+use Rattle.table.proofs.Laws.Steps.{comes-low, comes-high, comes-last}
+use Rattle.table.proofs.walk.comes.Statement.{statement}
+use Rattle.table.proofs.walk.comes.Tie as tie
+
+ruleset laws = (needs, comes-low, comes-high, comes-last)
+
+pub comes-spec : {M : Type 1} → statement M
+comes-spec = tie.close (tie.spec (λ c. search laws) (λ c. search laws) (λ c κs. search laws) (λ c. search laws))
