@@ -18,10 +18,6 @@ unfoldable pub zeros-from : List ℕ → (left at : ℕ) → Bool
 zeros-from bs zero a = true
 zeros-from bs (suc k) a = eqb (getD bs a 0) 0 && zeros-from bs k (suc a)
 
--- .. of a block at a place, from its byte j up to w: those that come after the u used ones
-unfoldable pub zeros-past : List ℕ → (at w u j : ℕ) → Bool
-zeros-past bs at w u j = zeros-from bs (w - (j + (u - j))) (at + (j + (u - j)))
-
 -- the bytes of the longest block: a head and 32 nodes
 abbrev pub longest : ℕ
 longest = 392

@@ -1,9 +1,9 @@
 // One pass over the blocks, and the whole check.
 ghost use mathlib.Core.Path.{_≡_};
-ghost use Prim.Native.Nat.{_+_, _<_, _≤_};
+ghost use Prim.Native.Nat.{_+_, _-_, _<_, _≤_};
 ghost use lib.ListN.{length};
 ghost use Rattle.placement.specs.Place.{Shaped};
-ghost use Rattle.table.specs.Check.{longest, Mask, zeros-past, used-of, more-of, swept, ended};
+ghost use Rattle.table.specs.Check.{longest, Mask, zeros-from, used-of, more-of, swept, ended};
 use crate::Seen;
 use crate::Tally;
 use sizes::Sizes;
@@ -13,9 +13,6 @@ const LONGEST: usize = 392;
 
 // The bytes of the mask: twice as many.
 const MASK: usize = 2 * LONGEST;
-
-// The bytes of a piece of a block: a head and sixteen nodes. Their number is known when this is compiled, so a piece is looked at without a loop.
-const PIECE: usize = 200;
 
 // Where the unused bytes of a block start: at once in an empty one.
 fn used(level: u32, n: u32) -> usize
@@ -48,26 +45,26 @@ fn mask() -> [u8; MASK]
     m
 }
 
-// Whether the bytes of a block, from one on and up to an end, are zero but for the used ones. The mask leaves those out: the same steps are taken wherever
-// some are unused, so that many bytes are looked at at once and no jump depends on how many.
-fn zeros(table: &[u8], at: usize, from: usize, end: usize, used: usize, mask: &[u8]) -> bool
-    requires { ⌜ (at + end ≤ length (now table)) × (end ≤ longest) × Mask (now mask) ⌝ }
-    ensures { λ r. ⌜ r ≡ zeros-past (now (table .entry)) at end used from ⌝ }
+// Whether the bytes of a block are zero but for the used ones. The mask leaves those out: the same steps are taken wherever some are unused, so that many
+// bytes are looked at at once and no jump depends on how many.
+fn zeros(table: &[u8], at: usize, long: usize, used: usize, mask: &[u8]) -> bool
+    requires { ⌜ (at + long ≤ length (now table)) × (long ≤ longest) × Mask (now mask) ⌝ }
+    ensures { λ r. ⌜ r ≡ zeros-from (now (table .entry)) (long - used) (at + used) ⌝ }
 {
-    if end <= used {
+    if long <= used {
         return true;
     }
     let off = LONGEST - used;
     let mut any: u8 = 0;
-    let mut j = from;
-    while j < end {
+    let mut j: usize = 0;
+    while j < long {
         any = any | (table[at + j] & mask[off + j]);
         j += 1;
     }
     any == 0
 }
 
-// Whether all unused bytes are zero, and how many blocks are not empty. A block is looked at piece by piece; what is left behind the last comes after them.
+// Whether all unused bytes are zero, and how many blocks are not empty.
 pub fn sweep(table: &[u8], s: Sizes) -> Tally
     requires { ⌜ Shaped s (now table) ⌝ }
     ensures { λ r. ⌜ r ≡ swept s (now (table .entry)) ⌝ }
@@ -78,20 +75,11 @@ pub fn sweep(table: &[u8], s: Sizes) -> Tally
     let mut clean = true;
     let mut full: u32 = 0;
     let mut i: u32 = 0;
-    'blocks: while i < m {
+    while i < m {
         let at = placement::labels::offset(s, i);
         let level = sizes::numbers::wide(table[at]);
         let n = sizes::numbers::wide(table[at + 1]);
-        let u = used(level, n);
-        let mut j: usize = 0;
-        while j + PIECE <= long {
-            if !zeros(table, at, j, j + PIECE, u, &looked) {
-                clean = false;
-                break 'blocks;
-            }
-            j += PIECE;
-        }
-        if !zeros(table, at, j, long, u, &looked) {
+        if !zeros(table, at, long, used(level, n), &looked) {
             clean = false;
             break;
         }

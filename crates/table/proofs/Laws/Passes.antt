@@ -8,7 +8,7 @@ use lib.Bits.{bitAnd, bitOr, or-add-and, and-le-l, and-le-r, and-zero-r, and-mas
 use borrow.Author.Tests.{eq-eqb, ne-eqb, eqb-true, eqb-false}
 use native.Mathlib.Decide.{decLt}
 use native.Mathlib.Omega.{arith}
-use native.Mathlib.Nat.{sub-zero, add-zero, zero-add, mod-eq-of-lt}
+use native.Mathlib.Nat.{sub-zero, mod-eq-of-lt}
 use native.Mathlib.Numerals.{add-one}
 use lib.ListN.{length, getD, replicate, length-replicate, getD-replicate, List·getD-append}
 use lib.Seq.{sets, length-sets, sets-eq}
@@ -17,7 +17,7 @@ use Rattle.sizes.specs.declared.Sizes.{Sizes}
 use Rattle.sizes.proofs.Laws.Parts.{getD-sets-after}
 use Rattle.table.specs.declared.Seen.{Seen}
 use Rattle.table.specs.declared.Tally.{Tally}
-use Rattle.table.specs.Check.{longest, Mask, zeros-from, zeros-past, used-of, more-of, unused, block-clean, sweep-from, swept, ended}
+use Rattle.table.specs.Check.{longest, Mask, zeros-from, used-of, more-of, unused, block-clean, sweep-from, swept, ended}
 
 -- small ones
 pub used-none : (l n : ℕ) → l ≡ 0 → 0 ≡ used-of l n
@@ -82,96 +82,66 @@ mask-made ms e =
       has = λ k l h. ap (λ (z : List ℕ). getD z k 0) e ∙ back longest (2 * longest) k l h;
     }
 
--- bytes from a place on, some of them first
-zeros-split : (bs : List ℕ) (a b x : ℕ) → zeros-from bs (a + b) x ≡ (zeros-from bs a x && zeros-from bs b (x + a))
-unfolding zeros-from
-zeros-split bs zero b x = rw (add-zero, zero-add)
-zeros-split bs (suc a) b x =
-    let d : suc a + b ≡ suc (a + b) = omega arith in
-    let e : x + suc a ≡ suc x + a = omega arith in
-    rw (d, zeros-split bs a b (suc x), e, and-assoc)
+-- the unused bytes of a block of w, from its byte j on: those behind the first u
+abbrev past : (bs : List ℕ) (at w u j : ℕ) → Bool
+past bs at w u j = zeros-from bs (w - (j + (u - j))) (at + (j + (u - j)))
 
-module _ (bs : List ℕ) (at u j : ℕ) where
-  past-none : (w : ℕ) → w ≤ j + (u - j) → zeros-past bs at w u j ≡ true
-  unfolding zeros-past zeros-from
-  past-none w h =
-      let e : w - (j + (u - j)) ≡ 0 = omega arith in
+module _ (bs : List ℕ) (at w u : ℕ) where
+  pub none-unused : w ≤ u → true ≡ zeros-from bs (w - u) (at + u)
+  unfolding zeros-from
+  none-unused h =
+      let e : w - u ≡ 0 = omega arith in
       rw e
 
-  pub none-unused : (w : ℕ) → w ≤ u → true ≡ zeros-past bs at w u j
-  none-unused w h = sym (past-none w (omega arith))
-
-  -- some bytes of a block first
-  past-split : (w e : ℕ) → j ≤ e → e ≤ w → zeros-past bs at w u j ≡ (zeros-past bs at e u j && zeros-past bs at w u e)
-  unfolding zeros-past zeros-from
-  past-split w e l h = go (decLt e u)
+  -- one byte of them, under the mask
+  past-byte : (ms : List ℕ) → Mask ms → u < longest → (j : ℕ) → j < w → w ≤ longest → (x y : ℕ) → x ≡ getD bs (at + j) 0 → x < 256 → y ≡ getD ms (longest - u + j) 0
+      → past bs at w u j ≡ (eqb (bitAnd x y) 0 && past bs at w u (j + 1))
+  unfolding zeros-from
+  past-byte ms k few j h most x y ex b ey = go (decLt j u)
     where
-      go : Dec (e < u) → zeros-past bs at w u j ≡ (zeros-past bs at e u j && zeros-past bs at w u e)
+      go : Dec (j < u) → past bs at w u j ≡ (eqb (bitAnd x y) 0 && past bs at w u (j + 1))
       go (yes f) =
-          let p : j + (u - j) ≡ e + (u - e) = omega arith in
-          let q : e - (e + (u - e)) ≡ 0 = omega arith in
-          rw (p, q)
-      go (no f) =
-          let p = j + (u - j) in
-          let q : e + (u - e) ≡ e = omega arith in
-          let a : w - p ≡ e - p + (w - e) = omega arith in
-          let b : at + p + (e - p) ≡ at + e = omega arith in
-          rw (q, a, zeros-split bs (e - p) (w - e) (at + p), b)
-
-  -- one byte under the mask
-  past-byte : (ms : List ℕ) → Mask ms → u < longest → j < longest → (x y : ℕ) → x ≡ getD bs (at + j) 0 → x < 256 → y ≡ getD ms (longest - u + j) 0
-      → zeros-past bs at (j + 1) u j ≡ eqb (bitAnd x y) 0
-  unfolding zeros-past zeros-from
-  past-byte ms k few h x y ex b ey = go (decLt j u)
-    where
-      go : Dec (j < u) → zeros-past bs at (j + 1) u j ≡ eqb (bitAnd x y) 0
-      go (yes f) =
-          let e : j + 1 - (j + (u - j)) ≡ 0 = omega arith in
+          let e : j + (u - j) ≡ j + 1 + (u - (j + 1)) = omega arith in
           rw (e, ey, k .leaves (longest - u + j) (omega arith), and-zero-r x)
       go (no f) =
           let e : j + (u - j) ≡ j = omega arith in
-          let d : j + 1 - j ≡ suc zero = omega arith in
-          rw (e, d, ← ex, ey, k .has (longest - u + j) (omega arith) (omega arith), and-mask x 8, mod-eq-of-lt b, and-true)
+          let d : j + 1 + (u - (j + 1)) ≡ j + 1 = omega arith in
+          let c : w - j ≡ suc (w - (j + 1)) = omega arith in
+          let a : at + (j + 1) ≡ suc (at + j) = omega arith in
+          rw (e, d, c, a, ← ex, ey, k .has (longest - u + j) (omega arith) (omega arith), and-mask x 8, mod-eq-of-lt b)
 
 -- what the loop of `zeros` keeps: the unused bytes so far are 0 when their `or` is
-pub record Masking (bs : List ℕ) (at w u from j any : ℕ) : Type 0 where
-  pub rest : zeros-past bs at w u from ≡ (eqb any 0 && zeros-past bs at w u j)
+pub record Masking (bs : List ℕ) (at w u j any : ℕ) : Type 0 where
+  pub rest : zeros-from bs (w - u) (at + u) ≡ (eqb any 0 && past bs at w u j)
 
-module _ (bs : List ℕ) (at w u from : ℕ) where
-  pub masking-start : Masking bs at w u from from 0
-  masking-start = record { rest = refl }
+module _ (bs : List ℕ) (at w u : ℕ) where
+  pub masking-start : Masking bs at w u 0 0
+  masking-start =
+      let e : 0 + (u - 0) ≡ u = omega arith in
+      record { rest = rw e }
 
-  module _ (j any : ℕ) (z : Masking bs at w u from j any) where
+  module _ (j any : ℕ) (z : Masking bs at w u j any) where
     pub masking-more : w ≤ longest → u < w → (ms : List ℕ) → Mask ms → j < w → (x y : ℕ) → x ≡ getD bs (at + j) 0 → x < 256 → y ≡ getD ms (longest - u + j) 0
-        → Masking bs at w u from (j + 1) (bitOr any (bitAnd x y))
-    masking-more most few ms k h x y ex bx ey =
-        let e = past-split bs at u j w (j + 1) (omega arith) (omega arith) in
-        let f = past-byte bs at u j ms k (omega arith) (omega arith) x y ex bx ey in
-        record { rest = z .rest ∙ rw (e, f, or-zero any (bitAnd x y), and-assoc) }
+        → Masking bs at w u (j + 1) (bitOr any (bitAnd x y))
+    masking-more most few ms k h x y ex bx ey = record { rest = z .rest ∙ rw (past-byte bs at w u ms k (omega arith) j h most x y ex bx ey, or-zero any (bitAnd x y), and-assoc) }
 
-    pub masking-end : w ≤ j → eqb any 0 ≡ zeros-past bs at w u from
-    masking-end h = sym (z .rest ∙ rw (past-none bs at u j w (omega arith), and-true))
+    pub masking-end : w ≤ j → eqb any 0 ≡ zeros-from bs (w - u) (at + u)
+    unfolding zeros-from
+    masking-end h =
+        let e : w - (j + (u - j)) ≡ 0 = omega arith in
+        sym (z .rest ∙ rw (e, and-true))
 
--- THE PASS: what the loop over the pieces of a block keeps
-pub record Piecing (w : ℕ) (bs : List ℕ) (i at u j : ℕ) : Type 0 where
-  pub place : at ≡ 53 + i * w
-  pub within : j ≤ w
-  pub rest : block-clean w bs i ≡ zeros-past bs at w u j
+-- THE PASS: a block, as it is read
+pub record Blocked (w : ℕ) (bs : List ℕ) (i at level u : ℕ) : Type 0 where
+  pub level-is : level ≡ getD bs (53 + i * w) 0
+  pub clean-is : block-clean w bs i ≡ zeros-from bs (w - u) (at + u)
 
-pub piecing-start : (s : Sizes) (w : ℕ) (bs : List ℕ) (i at l n u : ℕ) → w ≡ block-long s → at ≡ 53 + i * block-long s → l ≡ getD bs at 0 → n ≡ getD bs (at + 1) 0 → u ≡ used-of l n
-    → Piecing w bs i at u 0
-unfolding block-clean unused zeros-past
-piecing-start s w bs i at l n u ew ea el en eu =
+pub blocked-made : (s : Sizes) (w : ℕ) (bs : List ℕ) (i at l n u : ℕ) → w ≡ block-long s → at ≡ 53 + i * block-long s → l ≡ getD bs at 0 → n ≡ getD bs (at + 1) 0 → u ≡ used-of l n
+    → Blocked w bs i at l u
+unfolding block-clean unused
+blocked-made s w bs i at l n u ew ea el en eu =
     let h : at ≡ 53 + i * w = ea ∙ rw ew in
-    let e : 0 + (u - 0) ≡ u = omega arith in
-    record { place = h; within = omega arith; rest = rw (e, ← h, ← el, ← en, ← eu) }
-
-module _ (w : ℕ) (bs : List ℕ) (i at u j : ℕ) (z : Piecing w bs i at u j) (e : ℕ) (late : j ≤ e) (in-block : e ≤ w) (t : Bool) (et : t ≡ zeros-past bs at e u j) where
-  pub piecing-stop : t ≡ false → block-clean w bs i ≡ false
-  piecing-stop q = z .rest ∙ past-split bs at u j w e late in-block ∙ rw (← et, q)
-
-  pub piecing-more : t ≡ true → Piecing w bs i at u e
-  piecing-more q = record { place = z .place; within = in-block; rest = z .rest ∙ past-split bs at u j w e late in-block ∙ rw (← et, q) }
+    record { level-is = el ∙ rw h; clean-is = rw (← h, ← el, ← en, ← eu) }
 
 -- .. and the loop over the blocks
 pub record Sweeping (s : Sizes) (w m : ℕ) (bs : List ℕ) (i full : ℕ) : Type 0 where
@@ -191,16 +161,15 @@ module _ (s : Sizes) (w m : ℕ) (bs : List ℕ) where
         let e : m - i ≡ 0 = omega arith in
         sym (h .rest ∙ rw (e, q))
 
-    module _ (lt : i < m) (t : Bool) (et : block-clean w bs i ≡ t) where
-      sweeping-turn : swept s bs ≡ cond t (sweep-from w bs (m - (i + 1)) (i + 1) (more-of full (getD bs (53 + i * w) 0))) (record { clean = false; full = full })
+    module _ (lt : i < m) (at l u : ℕ) (b : Blocked w bs i at l u) (t : Bool) (et : t ≡ zeros-from bs (w - u) (at + u)) where
+      sweeping-turn : swept s bs ≡ cond t (sweep-from w bs (m - (i + 1)) (i + 1) (more-of full l)) (record { clean = false; full = full })
       unfolding sweep-from
       sweeping-turn =
           let e : m - i ≡ suc (m - (i + 1)) = omega arith in
-          h .rest ∙ rw (e, et, add-one)
+          h .rest ∙ rw (e, b .clean-is, ← et, add-one, b .level-is)
 
-    pub sweeping-stop : i < m → block-clean w bs i ≡ false → _≡_ {A = Tally} (record { clean = false; full = full }) (swept s bs)
-    sweeping-stop lt q = sym (sweeping-turn lt false q)
+      pub sweeping-stop : t ≡ false → _≡_ {A = Tally} (record { clean = false; full = full }) (swept s bs)
+      sweeping-stop q = sym (sweeping-turn ∙ rw q)
 
-    pub sweeping-more : i < m → (at u : ℕ) → Piecing w bs i at u w → (l n : ℕ) → l ≡ getD bs at 0 → n ≡ more-of full l → n ≤ full + 1 → Sweeping s w m bs (i + 1) n
-    sweeping-more lt at u z l n el en f =
-        record { within = omega arith; few = omega (arith, h .few); rest = sweeping-turn lt true (z .rest ∙ past-none bs at u w w (omega arith)) ∙ rw (← z .place, ← el, ← en) }
+      pub sweeping-more : t ≡ true → (n : ℕ) → n ≡ more-of full l → n ≤ full + 1 → Sweeping s w m bs (i + 1) n
+      sweeping-more q n e f = record { within = omega arith; few = omega (arith, h .few); rest = sweeping-turn ∙ rw (q, e) }

@@ -10,16 +10,16 @@ use Rattle.table.proofs.sweep.zeros.Tie as tie
 ruleset laws = (needs, masking-start, masking-end, none-unused)
 
 abbrev Inv-loop : tie.InvT-loop
-Inv-loop table at from end used mask off any₀ j₀ any j = Masking table at end used from j any
+Inv-loop table at long used mask off any₀ j₀ any j = Masking table at long used j any
 
 abbrev μ-loop : tie.MeasureT-loop
-μ-loop table at from end used mask off any₀ j₀ any j = end - j
+μ-loop table at long used mask off any₀ j₀ any j = long - j
 
 loop-again : tie.Need-loop-again Inv-loop μ-loop
 loop-again c =
     let a = c .before .before .before .before .before in
     let l = c .before .before .before .loop in
-    masking-more _ _ _ _ _ _ _ (l .inv) (a .pre .1) (search needs) _ (a .pre .2) (search needs) _ _ refl (omega (arith, c .before .shared-slice-known .given (a .args .at + l .j))) refl
+    masking-more _ _ _ _ _ _ (l .inv) (a .pre .1) (search needs) _ (a .pre .2) (search needs) _ _ refl (omega (arith, c .before .shared-slice-known .given (a .args .at + l .j))) refl
 
 pub zeros-spec : {M : Type 1} → statement M
 zeros-spec =
