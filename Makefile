@@ -18,7 +18,9 @@ NEED = cargo:cargo cc:gcc valgrind:valgrind pkg-config:pkg-config clang:clang \
 need:
 	@scripts/need $(NEED)
 
-reference: need
+# A class needs no more than this and the program.
+reference:
+	@scripts/need cargo:cargo cc:gcc
 	@mkdir -p build
 	@$(CARGO) build --quiet --release --offline --manifest-path reference/Cargo.toml
 
@@ -66,7 +68,7 @@ test-program: reference program
 	@scripts/compare $(PROGRAM) $(REFERENCE) 60
 
 # Answers and bytes that the reference recorded, from the archive; some of them again with valgrind watching.
-test-vectors: reference build/vectors
+test-vectors: need reference build/vectors
 	@$(REFERENCE)/vectors 20000 | build/vectors
 	@$(REFERENCE)/vectors 1500 | valgrind --quiet --error-exitcode=9 build/vectors heap
 
@@ -175,6 +177,7 @@ bench-turns: bench-build
 bench-smoke: bench-build
 	@$(IN_SCRATCH) && { build/bench $$scratch > build/bench-smoke.out || { cat build/bench-smoke.out; exit 1; }; }
 	@tail -n 1 build/bench-smoke.out
+	@$(MAKE) --no-print-directory bench-turns BEFORE=. ROUNDS=1 > build/turns-smoke.out && echo "two archives in turns: $$(grep -c '^[a-z].* γ ' build/turns-smoke.out) rows, all answers right"
 	@build/worst 4096 > build/worst-smoke.out && echo "slow tables: $$(tail -n +3 build/worst-smoke.out | wc -l) are tables, and a put into each gives its bytes"
 	@python3 bench/table.py bench/results README.md
 	@bench/undefined $(ARCHIVE)

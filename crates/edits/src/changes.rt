@@ -29,6 +29,7 @@ use readings::descent::geometry_of;
 use readings::descent::order_of;
 use sizes::Geometry;
 use sizes::hash::level_of;
+use sizes::header::Header;
 use sizes::header::field;
 use sizes::numbers::put2;
 use table::checking::check;
@@ -97,7 +98,7 @@ fn put_free(table: &mut [u8], q: Geometry, held: u32, full: u32, l: u32, o: Orde
         return 8;
     }
     put_new(table, q, first, l, o);
-    put2(table, 11, held + 1);
+    put2(table, Header::HELD, held + 1);
     0
 }
 
@@ -107,7 +108,7 @@ fn put_sure(table: &mut [u8], full: u32, o: Order) -> u32
     ensures { λ r. ⌜ Put-says (o .key) (o .total) (o .displayed) r (now (table .entry)) (now (table .exit)) ⌝ }
 {
     let q = geometry_of(table);
-    let held = field(table, 6);
+    let held = field(table, Header::HELD_FIELD);
     let l = level_of(q.sizes, q.top, o.key);
     if is_held(table, q, o.key) {
         put_held(table, q, l, o);
@@ -180,11 +181,11 @@ fn cancel_sure(table: &mut [u8], q: Geometry, key: u32)
     requires { ⌜ (is-image (now table) ≡ true) × (is-key key ≡ true) × (held key (orders-in (now table)) ≡ true) × (q .sizes ≡ sizes-in (now table)) × Reckoned q ⌝ }
     ensures { λ r. ⌜ Cancel-says key 0 (now (table .entry)) (now (table .exit)) ⌝ }
 {
-    let held = field(table, 6);
+    let held = field(table, Header::HELD_FIELD);
     let l = level_of(q.sizes, q.top, key);
     let first = lead(table, q, l, key);
     cancel_held(table, q, first, l, key);
-    put2(table, 11, held - 1);
+    put2(table, Header::HELD, held - 1);
 }
 
 // Cancel: 4, 5, 9.

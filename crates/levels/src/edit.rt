@@ -20,6 +20,15 @@ use sizes::Sizes;
 use sizes::numbers::bring;
 use sizes::numbers::put4;
 
+// The bytes of 32 nodes, the most that a chunk has.
+const CHUNK: usize = 12 * 32;
+
+// The bytes of the nodes that `pour` carries: two chunks at most.
+const POURED: usize = 2 * CHUNK;
+
+// The bytes of the nodes that `shift` carries: two chunks and a node at most.
+const SHIFTED: usize = 2 * CHUNK + 12;
+
 // A node of a level, as node i of a row of nodes; quantities 0 above level 1.
 fn write_node(row: &mut [u8], i: u32, level: u32, o: Order)
     requires { ⌜ 12 * i + 12 ≤ length (now row) ⌝ }
@@ -41,8 +50,8 @@ pub fn put_in(table: &mut [u8], s: Sizes, level: u32, first: u32, x: Spot, o: Or
     requires { ⌜ Shaped s (now table) × (2 ≤ s .nodes) × (level < 256) ⌝ }
     ensures { λ r. ⌜ Puts-in s level first x o (now (table .entry)) (now (table .exit)) ⌝ }
 {
-    let mut chunk = [0u8; 384];
-    let mut carry = [0u8; 780];
+    let mut chunk = [0u8; CHUNK];
+    let mut carry = [0u8; SHIFTED];
     let number = x.below / s.nodes;
     let kept = x.below % s.nodes;
     let count = later(s.nodes, x.size, number);
@@ -67,8 +76,8 @@ pub fn put_below(table: &mut [u8], s: Sizes, level: u32, first: u32, x: Spot, o:
     requires { ⌜ Shaped s (now table) × (2 ≤ s .nodes) × (level < 256) ⌝ }
     ensures { λ r. ⌜ Puts-below s level first x o (now (table .entry)) (now (table .exit)) ⌝ }
 {
-    let mut chunk = [0u8; 384];
-    let mut carry = [0u8; 768];
+    let mut chunk = [0u8; CHUNK];
+    let mut carry = [0u8; POURED];
     let number = x.below / s.nodes;
     let kept = x.below % s.nodes;
     let count = later(s.nodes, x.size, number);
@@ -104,8 +113,8 @@ pub fn cancel_in(table: &mut [u8], s: Sizes, level: u32, first: u32, x: Spot)
     requires { ⌜ Shaped s (now table) × (2 ≤ s .nodes) × (level < 256) ⌝ }
     ensures { λ r. ⌜ Cancels-in s level first x (now (table .entry)) (now (table .exit)) ⌝ }
 {
-    let mut chunk = [0u8; 384];
-    let mut carry = [0u8; 780];
+    let mut chunk = [0u8; CHUNK];
+    let mut carry = [0u8; SHIFTED];
     let number = x.below / s.nodes;
     let kept = x.below % s.nodes;
     let count = later(s.nodes, x.size, number);
@@ -129,8 +138,8 @@ pub fn cancel_below(table: &mut [u8], s: Sizes, level: u32, first: u32, x: Spot,
     requires { ⌜ Shaped s (now table) × (2 ≤ s .nodes) × (level < 256) ⌝ }
     ensures { λ r. ⌜ Cancels-below s level first y (x .below) size (now (table .entry)) (now (table .exit)) ⌝ }
 {
-    let mut chunk = [0u8; 384];
-    let mut carry = [0u8; 768];
+    let mut chunk = [0u8; CHUNK];
+    let mut carry = [0u8; POURED];
     let number = x.below / s.nodes;
     let count = later(s.nodes, size, 0);
     let kept = take(table, s, level, first, number, &mut carry, 0);

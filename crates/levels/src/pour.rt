@@ -4,7 +4,7 @@ ghost use mathlib.Core.Path.{_≡_};
 ghost use Prim.Native.Nat.{_+_, _*_, _≤_, _<_};
 ghost use lib.ListN.{length};
 ghost use Rattle.placement.specs.Place.{Shaped};
-ghost use Rattle.levels.specs.Pour.{at, Kept, Reads, Takes, Flushes, Puts, Pours};
+ghost use Rattle.levels.specs.Pour.{at, poured, Kept, Reads, Takes, Flushes, Puts, Pours};
 use placement::Found;
 use placement::Label;
 use placement::edits::insert;
@@ -139,7 +139,7 @@ pub fn pour(
     carry: &mut [u8],
     n: u32,
 )
-    requires { ⌜ Shaped s (now table) × (2 ≤ s .nodes) × (level < 256) × (n < 2 * s .nodes) × (length (now carry) ≡ 768) × (q + 1 + count < 4294967296) × (j + count < 4294967296) ⌝ }
+    requires { ⌜ Shaped s (now table) × (2 ≤ s .nodes) × (level < 256) × (n < 2 * s .nodes) × (length (now carry) ≡ poured) × (q + 1 + count < 4294967296) × (j + count < 4294967296) ⌝ }
     ensures { λ r. ⌜ Pours s level from j count to q n (now (table .entry)) (now (table .exit)) (now (carry .entry)) ⌝ }
 {
     let mut written = q + n / s.nodes;

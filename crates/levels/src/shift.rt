@@ -4,7 +4,7 @@ ghost use Prim.Native.Nat.{_+_, _*_, _-_, _≤_, _<_};
 ghost use lib.ListN.{length};
 ghost use Rattle.placement.specs.Place.{Shaped};
 ghost use Rattle.levels.specs.Pour.{at, Kept};
-ghost use Rattle.levels.specs.Shift.{Stores, Renews, Shifts};
+ghost use Rattle.levels.specs.Shift.{shifted, Stores, Renews, Shifts};
 use crate::pour::read;
 use crate::pour::write_some;
 use placement::Found;
@@ -70,7 +70,7 @@ pub fn shift(
     carry: &mut [u8],
     n: u32,
 )
-    requires { ⌜ Shaped s (now table) × (2 ≤ s .nodes) × (level < 256) × (n ≤ s .nodes + 1) × (length (now carry) ≡ 780) × (q + count + 3 < 4294967296) ⌝ }
+    requires { ⌜ Shaped s (now table) × (2 ≤ s .nodes) × (level < 256) × (n ≤ s .nodes + 1) × (length (now carry) ≡ shifted) × (q + count + 3 < 4294967296) ⌝ }
     ensures { λ r. ⌜ Shifts s level first q count n (now (table .entry)) (now (table .exit)) (now (carry .entry)) ⌝ }
 {
     let mut left = n;

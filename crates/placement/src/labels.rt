@@ -1,6 +1,6 @@
 // Labels: read from a block, compared, and the block where the search for one starts.
 ghost use mathlib.Core.Path.{_≡_};
-ghost use Prim.Native.Nat.{ℕ, _+_, _*_, _<_, _≤_};
+ghost use Prim.Native.Nat.{_+_, _*_, _<_, _≤_};
 ghost use Rattle.sizes.specs.Header.{block-long};
 ghost use mathlib.Core.Bool.{true};
 ghost use Rattle.sizes.specs.Numbers.{over};

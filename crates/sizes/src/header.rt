@@ -2,7 +2,7 @@
 ghost use mathlib.Core.Path.{_≡_};
 ghost use mathlib.Core.Bool.{true};
 ghost use mathlib.Core.List.{_++_};
-ghost use Prim.Native.Nat.{ℕ, _+_, _*_, _<_, _≤_};
+ghost use Prim.Native.Nat.{_+_, _*_, _<_, _≤_};
 ghost use lib.ListN.{length, drop};
 ghost use lib.Seq.{sets};
 ghost use Rattle.sizes.specs.Numbers.{big, field};
@@ -26,6 +26,10 @@ impl Header {
     pub const LENGTH: usize = 53;
     // Where the seed starts.
     pub const SEED: usize = 13;
+    // Where the number of orders held stands, and which of the fields it is.
+    pub const HELD: usize = 11;
+
+    pub const HELD_FIELD: usize = 6;
     // The bytes of a block's head.
     pub const HEAD: u32 = 8;
     // Version, length, γ, B, N, M, n and the ten seed numbers.
@@ -68,7 +72,7 @@ impl Header {
                 blocks: field(table, 5),
                 seed: seed,
             },
-            held: field(table, 6),
+            held: field(table, Header::HELD_FIELD),
         }
     }
 

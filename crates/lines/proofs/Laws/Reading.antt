@@ -13,7 +13,7 @@ use Rattle.lines.specs.declared.Call.the-variants.{Bad}
 use Rattle.lines.specs.declared.Reader.{Reader}
 use Rattle.lines.specs.Grammar.{pieces, worth, value, numbers, fields, calls, call-among, asks, asked, line, word, some}
 use Rattle.lines.specs.Machine.{fresh, beginning, spoilt, step-of, steps-of, call-in, first-in, spelt, line-of, close-of, says, Reads-lines, under-way, cut-of, kept-of, sign-of, signed}
-use Rattle.lines.proofs.Laws.Pieces.{signs, ends, behind, each, each-ends, by-pieces, bad-each, read-fields, is-word, read-word}
+use Rattle.lines.proofs.Laws.Pieces.{signs, ends, each, each-ends, by-pieces, bad-each, read-fields, is-word, read-word}
 use Rattle.lines.proofs.Laws.Words.{call-is, call-bad, call-many, call-fits}
 
 -- the first of the pieces stays when the others come behind it

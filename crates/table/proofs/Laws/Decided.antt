@@ -1,6 +1,6 @@
 -- The answer of a check.
 use mathlib.Core.Path.{_≡_, sym, _∙_}
-use mathlib.Core.Bool.{Bool, true, false}
+use mathlib.Core.Bool.{true, false}
 use mathlib.Core.List.{List, [], _∷_}
 use Prim.Native.Nat.{ℕ, suc, _<_}
 use lib.ListN.{getD}
@@ -8,7 +8,7 @@ use Rattle.sizes.proofs.Laws.Numbers.{Bytes}
 use Rattle.skiplist.specs.Image.{is-image}
 use Rattle.skiplist.specs.Questions.{first-no, asks-image}
 use Rattle.skiplist.specs.Book.{asks, refusal}
-use Rattle.table.specs.Check.{check-passes, Passed, Examined}
+use Rattle.table.specs.Check.{Passed, Examined}
 use Rattle.table.specs.declared.Tally.{Tally}
 use Rattle.table.specs.Calls.{check-number}
 use Rattle.table.proofs.Laws.Decides.{check-decides}

@@ -1,9 +1,8 @@
 -- `sizes::header::place` meets its contract: the constant table is the list of places and widths.
 use borrow.Author.Needs.{needs}
-use mathlib.Core.Path.{_≡_, sym, _∙_}
+use mathlib.Core.Path.{sym}
 use mathlib.Core.List.{List, [], _∷_}
 use Prim.Native.Nat.{ℕ}
-use native.Mathlib.Omega.{arith}
 use lib.ListN.{List·getD-map}
 use Rattle.sizes.specs.declared.Field.{Field}
 use Rattle.sizes.proofs.Laws.HeaderLoops.{header-ends, header-narrow}

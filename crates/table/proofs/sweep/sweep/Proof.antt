@@ -4,7 +4,7 @@ use borrow.Author.Tests.{not-true, not-false}
 use Prim.Native.Nat.{_-_}
 use mathlib.Core.Path.{_≡_}
 use mathlib.Core.Bool.{true}
-use Rattle.table.proofs.Laws.Passes.{Sweeping, Blocked, blocked-made, sweeping-start, sweeping-end, sweeping-stop, sweeping-more}
+use Rattle.table.proofs.Laws.Passes.{Sweeping, blocked-made, sweeping-start, sweeping-end, sweeping-stop, sweeping-more}
 use Rattle.table.proofs.sweep.sweep.Statement.{statement}
 use Rattle.table.proofs.sweep.sweep.Tie as tie
 

@@ -7,7 +7,7 @@ use mathlib.Core.Path.{refl, _∙_}
 use mathlib.Core.Logic.{⊎-elim}
 use native.Mathlib.Omega.{arith}
 use Rattle.table.specs.Walk.{opens-of}
-use Rattle.table.proofs.Laws.Turns.{Noding, noding-start, noding-room, noding-end, noding-gone, noding-wrong, noding-more, Keyed, keyed-made, keyed-none, keyed-is, number-most, Chunking, chunking-start, chunking-end, chunking-none, chunking-wrong, Entering, entering-made, entering-stop, entering-more, higher-nodes, ahead, chunk-below, enters-some, enters-chunks, chunk-room, lowest-partition}
+use Rattle.table.proofs.Laws.Turns.{Noding, noding-start, noding-room, noding-end, noding-gone, noding-wrong, noding-more, Keyed, keyed-made, keyed-none, keyed-is, number-most, Chunking, chunking-start, chunking-end, chunking-none, chunking-wrong, entering-made, entering-stop, entering-more, higher-nodes, ahead, chunk-below, enters-some, enters-chunks, chunk-room, lowest-partition}
 use borrow.Fn.Kinds.{In}
 use borrow.Fn.PlainCycle.{Measures, is, falls, and}
 use Rattle.table.proofs.walk.walk_nodes.Reads as walk-nodes
