@@ -17,7 +17,7 @@ use Rattle.placement.specs.declared.Found.{Found}
 use Rattle.placement.specs.declared.Found.the-variants.{At}
 use Rattle.table.specs.declared.Seen.{Seen}
 use Rattle.table.specs.Walk.{node-of, wrong-seen, counts, counted, fits-in, enters-ok, entered-seen, node-good, stops-at, nodes-by, enters-lowest, comes-ok, passed-seen, chunk-spot, opens-of}
-use Rattle.table.proofs.Laws.Steps.{stops-short}
+use Rattle.table.proofs.Laws.Steps.{stops-short, counts-parts}
 use Rattle.table.proofs.Laws.Turns.{Noding, noding-end, noding-gone, noding-wrong, noding-more, nodes-wrong, Chunking, chunking-wrong, Entering, entering-made, entering-gone, entering-stop, entering-more, enters-chunks}
 
 -- the walk of the nodes of a level 1 chunk
@@ -41,13 +41,6 @@ module _ (s : Sizes) (f : ℕ) (o : Bool) (n : Order) (x : Seen) (ok : x .ok ≡
       let c = fits-in s 1 f o n in
       rw (ok, le-leb 1 (x .orders) some, and-true) (and-comm c (a && b) ∙ and-assoc a b c)
 
-counts-some : (key : ℕ) (x : Seen) → counts key x ≡ true → 1 ≤ x .orders
-unfolding counts
-counts-some key x c =
-    let a = and-eq-true-iff (x .ok) (leb (x .low) key && (ltb key prime && leb 1 (x .orders))) .0 c in
-    let b = and-eq-true-iff (leb (x .low) key) (ltb key prime && leb 1 (x .orders)) .0 (a .1) in
-    leb-true 1 (x .orders) (and-eq-true-iff (ltb key prime) (leb 1 (x .orders)) .0 (b .1) .1)
-
 -- more nodes than orders are to come
 too-many : (s : Sizes) (bs : List ℕ) (f j a : ℕ) (o : Bool) (x : Seen) → x .orders < j → lowest s bs f j a o x ≡ wrong-seen
 unfolding nodes-by opens-of counted
@@ -61,7 +54,7 @@ too-many s bs f (suc j) a o x h =
     go : (u v : Bool) → node-good s 1 f o (node-of bs a) x ≡ u → counts key x ≡ v
         → (x .orders - 1 < j → lowest s bs f j (a + 12) false (record { ok = true; low = key + 1; orders = x .orders - 1; chunks = x .chunks }) ≡ wrong-seen)
         → lowest s bs f (suc j) a o x ≡ wrong-seen
-    go true true p q ih = rw (p, q) (ih (omega (arith, counts-some key x q)))
+    go true true p q ih = rw (p, q) (ih (omega (arith, counts-parts key x q .3)))
     go true false p q ih = rw (p, q) (nodes-wrong (opens-of s bs 0) s bs 1 f j (a + 12) false)
     go false v p q ih = rw p
 

@@ -23,6 +23,7 @@ use Rattle.skiplist.proofs.Laws.Count.{pieces, pieces-less}
 use Rattle.skiplist.proofs.Laws.Opens.{Exact, Nodes, Walks}
 use Rattle.table.specs.declared.Seen.{Seen}
 use Rattle.table.specs.Walk.{wrong-seen, quantities-ok, belongs-in, counts, counted, enters-ok, entered-seen, ended-seen, stops-at, fits-in, node-good, spot, chunk-spot, count-in, chunk-by, chunks-by, opens-of}
+use Rattle.table.proofs.Laws.Steps.{enters-parts, counts-parts}
 use Rattle.table.proofs.Laws.Came.{Weighs, Step, step-none, step-both, wrong-not, nodes-on, chunk-read, chunk-are}
 use Rattle.table.proofs.Laws.Counted.{under, under-both, tally}
 
@@ -73,14 +74,6 @@ pieces-last b (suc n) h g =
 
 -- ---- A WALK THAT ENDS RIGHT
 
-enters-parts : (b n : ℕ) (x : Seen) → enters-ok b n x ≡ true → (x .ok ≡ true) × (leb 1 n ≡ true) × (leb n b ≡ true) × (leb 1 (x .chunks) ≡ true)
-unfolding enters-ok
-enters-parts b n x c =
-    let p = and-parts (x .ok) (leb 1 n && (leb n b && leb 1 (x .chunks))) c in
-    let q = and-parts (leb 1 n) (leb n b && leb 1 (x .chunks)) (p .1) in
-    let r = and-parts (leb n b) (leb 1 (x .chunks)) (q .1) in
-    (p .0, q .0, r .0, r .1)
-
 abbrev pub Weighed : (l : ℕ) → Order → Type 0
 Weighed zero o = Weighs o
 Weighed (suc l) o = Unit {0}
@@ -123,28 +116,19 @@ module _ (s : Sizes) (bs : List ℕ) (small : (b : ℕ) → Small (chunk-read s 
 
   -- at level 0
   opened-zero : (o : Order) (x : Seen) → Weighs o → counted (o .key) x .ok ≡ true → Opened zero o x (counted (o .key) x)
-  unfolding counted counts tally
-  opened-zero o x q e = go (x .ok && (leb (x .low) (o .key) && (ltb (o .key) prime && leb 1 (x .orders)))) refl e
+  unfolding counted tally
+  opened-zero o x q e = go (counts (o .key) x) refl e
     where
       now : Seen
       now = record { ok = true; low = o .key + 1; orders = x .orders - 1; chunks = x .chunks }
 
-      go : (t : Bool) → (x .ok && (leb (x .low) (o .key) && (ltb (o .key) prime && leb 1 (x .orders)))) ≡ t → cond t now wrong-seen .ok ≡ true → Opened zero o x (cond t now wrong-seen)
+      go : (t : Bool) → counts (o .key) x ≡ t → cond t now wrong-seen .ok ≡ true → Opened zero o x (cond t now wrong-seen)
       go true c h =
-          let a = and-parts (x .ok) (leb (x .low) (o .key) && (ltb (o .key) prime && leb 1 (x .orders))) c in
-          let b = and-parts (leb (x .low) (o .key)) (ltb (o .key) prime && leb 1 (x .orders)) (a .1) in
-          let d = and-parts (ltb (o .key) prime) (leb 1 (x .orders)) (b .1) in
+          let a = counts-parts (o .key) x c in
           record {
             seg = o ∷ [];
             walk = refl;
-            step =
-                record {
-                  ok = a .0;
-                  end = refl;
-                  rising = (leb-true (x .low) (o .key) (b .0), ltb-true (o .key) prime (d .0), q, sym (add-one (o .key)));
-                  orders = omega (arith, leb-true 1 (x .orders) (d .1));
-                  chunks = omega arith;
-                };
+            step = record { ok = a .0; end = refl; rising = (a .1, a .2, q, sym (add-one (o .key))); orders = omega (arith, a .3); chunks = omega arith };
           }
       go false c h = absurd (wrong-not h)
 
@@ -228,9 +212,9 @@ module _ (s : Sizes) (bs : List ℕ) (small : (b : ℕ) → Small (chunk-read s 
               nodes = v .nodes;
               fitting = v .fitting;
               weights = v .weights;
-              some = omega (arith, k, leb-true 1 n (p .1));
-              most = omega (arith, k, leb-true n (s .nodes) (p .2));
-              step = record { ok = p .0; end = v .step .end; rising = v .step .rising; orders = v .step .orders; chunks = omega (arith, v .step .chunks, leb-true 1 (x .chunks) (p .3)) };
+              some = omega (arith, k, p .1);
+              most = omega (arith, k, p .2);
+              step = record { ok = p .0; end = v .step .end; rising = v .step .rising; orders = v .step .orders; chunks = omega (arith, v .step .chunks, p .3) };
             }
         go false c h = absurd (wrong-not h)
 

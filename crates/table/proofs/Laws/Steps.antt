@@ -1,19 +1,21 @@
 -- Laws of what the walk's small functions give.
 use mathlib.Core.Path.{_≡_, refl, _∙_}
-use mathlib.Core.Bool.{Bool, true, false, and-false, and-true}
+use mathlib.Core.Bool.{Bool, true, false, _&&_, and-false, and-true}
 use mathlib.Core.List.{List}
 use Prim.Native.Nat.{ℕ, _+_, _-_, _≤_, _<_}
 use lib.Dec.{ltb, leb, eqb}
-use borrow.Author.Tests.{eq-eqb, ne-eqb, le-leb, lt-leb, le-ltb, lt-ltb}
+use borrow.Author.Tests.{eq-eqb, ne-eqb, le-leb, lt-leb, le-ltb, lt-ltb, leb-true, ltb-true}
 use native.Mathlib.Nat.{add-zero}
 use Rattle.sizes.specs.Numbers.{field}
+use Rattle.sizes.specs.Sizes.{prime}
 use Rattle.sizes.specs.Hash.{level}
 use Rattle.placement.specs.Decode.{node-in}
 use Rattle.sizes.specs.declared.Sizes.{Sizes}
 use Rattle.placement.specs.declared.Order.{Order}
 use Rattle.sizes.proofs.Laws.Numbers.{field-drop}
+use Rattle.sizes.proofs.Laws.Sizes.{and-parts}
 use Rattle.table.specs.declared.Seen.{Seen}
-use Rattle.table.specs.Walk.{node-of, wrong-seen, nothing-in, quantities-ok, belongs-in, fits-in, node-good, enters-ok, enters-lowest, comes-ok, entered-seen, passed-seen, ended-seen, stops-at}
+use Rattle.table.specs.Walk.{node-of, wrong-seen, nothing-in, quantities-ok, belongs-in, fits-in, counts, node-good, enters-ok, enters-lowest, comes-ok, entered-seen, passed-seen, ended-seen, stops-at}
 
 pub wrong-made : _≡_ {A = Seen} (record { ok = false; low = 0; orders = 0; chunks = 0 }) wrong-seen
 unfolding wrong-seen
@@ -126,6 +128,23 @@ module _ (b n : ℕ) (x : Seen) (t : Bool) (et : t ≡ enters-ok b n x) where
   pub lowest-last : t ≡ true → leb n (x .orders) ≡ enters-lowest b n x
   unfolding enters-lowest
   lowest-last e = rw (← et, e)
+
+-- what such a test says
+pub enters-parts : (b n : ℕ) (x : Seen) → enters-ok b n x ≡ true → (x .ok ≡ true) × (1 ≤ n) × (n ≤ b) × (1 ≤ x .chunks)
+unfolding enters-ok
+enters-parts b n x c =
+    let p = and-parts (x .ok) (leb 1 n && (leb n b && leb 1 (x .chunks))) c in
+    let q = and-parts (leb 1 n) (leb n b && leb 1 (x .chunks)) (p .1) in
+    let r = and-parts (leb n b) (leb 1 (x .chunks)) (q .1) in
+    (p .0, leb-true 1 n (q .0), leb-true n b (r .0), leb-true 1 (x .chunks) (r .1))
+
+pub counts-parts : (key : ℕ) (x : Seen) → counts key x ≡ true → (x .ok ≡ true) × (x .low ≤ key) × (key < prime) × (1 ≤ x .orders)
+unfolding counts
+counts-parts key x c =
+    let p = and-parts (x .ok) (leb (x .low) key && (ltb key prime && leb 1 (x .orders))) c in
+    let q = and-parts (leb (x .low) key) (ltb key prime && leb 1 (x .orders)) (p .1) in
+    let r = and-parts (ltb key prime) (leb 1 (x .orders)) (q .1) in
+    (p .0, leb-true (x .low) key (q .0), ltb-true key prime (r .0), leb-true 1 (x .orders) (r .1))
 
 pub ended-first : (i : ℕ) (x w : Seen) → w ≡ wrong-seen → i ≡ 0 → w ≡ ended-seen i x
 unfolding ended-seen

@@ -1,10 +1,9 @@
 -- The turns of the walk: what the code does next is what the model does next.
 use mathlib.Core.Path.{_≡_, refl, ap, sym, _∙_}
-use mathlib.Core.Bool.{Bool, true, false, _&&_, cond, and-eq-true-iff}
+use mathlib.Core.Bool.{Bool, true, false, cond}
 use mathlib.Core.List.{List}
 use Prim.Native.Nat.{ℕ, zero, suc, _+_, _*_, _-_, _≤_, _<_}
-use lib.Dec.{leb, eqb}
-use borrow.Author.Tests.{leb-true}
+use lib.Dec.{eqb}
 use native.Mathlib.Omega.{arith}
 use native.Mathlib.Nat.{sub-zero}
 use native.Mathlib.Numerals.{add-one}
@@ -21,7 +20,7 @@ use Rattle.placement.specs.declared.Found.the-variants.{At, Nothing}
 use Rattle.placement.proofs.Laws.Loops.{search-below, search-none}
 use Rattle.table.specs.declared.Seen.{Seen}
 use Rattle.table.specs.Walk.{Walkable, node-of, wrong-seen, enters-ok, entered-seen, ended-seen, stops-at, node-good, nodes-by, spot, chunk-spot, empty-home, count-in, chunk-by, chunks-by, opens-of}
-use Rattle.table.proofs.Laws.Steps.{node-key}
+use Rattle.table.proofs.Laws.Steps.{node-key, enters-parts}
 
 -- NODES: what the loop over the nodes of a chunk keeps
 pub record Noding (d : (key : ℕ) → Seen → Seen) (s : Sizes) (bs : List ℕ) (l f j₀ a₀ : ℕ) (o₀ : Bool) (x₀ : Seen) (j a : ℕ) (o : Bool) (x : Seen) : Type 0 where
@@ -219,26 +218,15 @@ unfolding chunk-spot
 chunk-below s bs l f i r b e er h = search-below s bs _ r b e er h
 
 module _ (b n : ℕ) (y : Seen) (t : Bool) (et : t ≡ enters-ok b n y) (e : t ≡ true) where
-  tests : (y .ok ≡ true) × (leb 1 n ≡ true) × (leb n b ≡ true) × (leb 1 (y .chunks) ≡ true)
-  unfolding enters-ok
-  tests =
-      let p = and-eq-true-iff (y .ok) (leb 1 n && (leb n b && leb 1 (y .chunks))) .0 (sym et ∙ e) in
-      let q = and-eq-true-iff (leb 1 n) (leb n b && leb 1 (y .chunks)) .0 (p .1) in
-      let r = and-eq-true-iff (leb n b) (leb 1 (y .chunks)) .0 (q .1) in
-      (p .0, q .0, r .0, r .1)
-
   pub enters-good : y .ok ≡ true
-  enters-good = tests .0
+  enters-good = enters-parts b n y (sym et ∙ e) .0
 
   pub enters-some : 1 ≤ n
-  enters-some = leb-true 1 n (tests .1)
-
-  enters-most : n ≤ b
-  enters-most = leb-true n b (tests .2)
+  enters-some = enters-parts b n y (sym et ∙ e) .1
 
   pub enters-chunks : 1 ≤ y .chunks
-  enters-chunks = leb-true 1 (y .chunks) (tests .3)
+  enters-chunks = enters-parts b n y (sym et ∙ e) .3
 
 module _ (s : Sizes) (bs : List ℕ) (w : Walkable s bs) (n : ℕ) (y : Seen) (t : Bool) (et : t ≡ enters-ok (s .nodes) n y) (e : t ≡ true) where
   pub chunk-room : (at : ℕ) → at + block-long s ≤ 53 + s .blocks * block-long s → at + 8 + 12 * n ≤ length bs
-  chunk-room at h = omega (arith, w .shaped .long, w .shaped .width, enters-most (s .nodes) n y t et e)
+  chunk-room at h = omega (arith, w .shaped .long, w .shaped .width, enters-parts (s .nodes) n y (sym et ∙ e) .2)
