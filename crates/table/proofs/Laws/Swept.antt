@@ -116,66 +116,6 @@ zeros-are bs (suc k) a h e =
     let r = zeros-are bs k (suc a) (omega arith) (p .1) in
     rw (drop-cons bs a 0 (omega arith)) (λ i. z i ∷ r i)
 
-module _ (s : Sizes) (bs : List ℕ) (a : ℕ) (room : a + block-long s ≤ length bs) where
-  -- a full block
-  full-clean : (n : ℕ) → 0 < getD (take (block-long s) (drop a bs)) 0 0 → getD (take (block-long s) (drop a bs)) 1 0 ≡ n → 0 < n → n ≤ s .nodes →
-      zeros-from bs (block-long s - (8 + 12 * n)) (a + (8 + 12 * n)) ≡ true → Clean s (take (block-long s) (drop a bs))
-  full-clean n p en some few z =
-      let w = block-long s in
-      let ew : w ≡ 8 + 12 * s .nodes = long-is s in
-      let u : ℕ = 8 + 12 * n in
-      let c : w - u ≡ 12 * (s .nodes - n) = omega arith in
-      let f : u + (w - u) ≡ w = omega arith in
-      let t : drop u (take w (drop a bs)) ≡ replicate (12 * (s .nodes - n)) 0 =
-      ap (λ (k : ℕ). drop u (take k (drop a bs))) (sym f) ∙ drop-take u (w - u) (drop a bs) ∙ ap (take (w - u)) (drop-drop u a bs)
-      ∙ zeros-are bs (w - u) (a + u) (omega arith) z ∙ ap (λ (k : ℕ). replicate k 0) c in
-      filled p (rw en some) (rw en few) (rw en t)
-
-  -- an empty one
-  empty-clean : getD (take (block-long s) (drop a bs)) 0 0 ≡ 0 → zeros-from bs (block-long s) a ≡ true → Clean s (take (block-long s) (drop a bs))
-  empty-clean e z = zeros e (zeros-are bs (block-long s) a room z)
-
-pub clean-block : (s : Sizes) (bs : List ℕ) (i : ℕ) → length bs ≡ 53 + s .blocks * block-long s → i < s .blocks → block-clean (block-long s) bs i ≡ true →
-    (0 < getD (block-in (block-long s) bs i) 0 0 → (0 < getD (block-in (block-long s) bs i) 1 0) × (getD (block-in (block-long s) bs i) 1 0 ≤ s .nodes)) → Clean s (block-in (block-long s) bs i)
-unfolding block-clean unused used-of block-in
-clean-block s bs i long h e few = go (eqb l 0) refl e
-  where
-    w : ℕ
-    w = block-long s
-
-    a : ℕ
-    a = 53 + i * w
-
-    l : ℕ
-    l = getD bs a 0
-
-    n : ℕ
-    n = getD bs (a + 1) 0
-
-    x : List ℕ
-    x = take w (drop a bs)
-
-    level-is : getD x 0 0 ≡ l
-    level-is = level-byte w bs i (long-some s)
-
-    count-is : getD x 1 0 ≡ n
-    count-is = getD-part w a bs 1 (omega (arith, long-is s))
-
-    room : a + w ≤ length bs
-    room = omega (arith, long, block-end i (s .blocks) w h)
-
-    go : (t : Bool) → eqb l 0 ≡ t → zeros-from bs (w - cond t 0 (8 + 12 * n)) (a + cond t 0 (8 + 12 * n)) ≡ true → Clean s x
-    go true q z =
-        let k : w - 0 ≡ w = omega arith in
-        let z′ : zeros-from bs w a ≡ true = rw (k, add-zero a) at z in
-        empty-clean s bs a room (level-is ∙ eqb-true l 0 q) z′
-    go false q z =
-        let p : 0 < getD x 0 0 = omega (arith, level-is, eqb-false l 0 q) in
-        let v = few p in
-        full-clean s bs a room n p count-is (omega (arith, count-is, v .0)) (omega (arith, count-is, v .1)) z
-
--- ---- THE OTHER WAY: where every block is clean the pass is
-
 zeros-make : (bs : List ℕ) (k a : ℕ) → a + k ≤ length bs → take k (drop a bs) ≡ replicate k 0 → zeros-from bs k a ≡ true
 unfolding zeros-from
 zeros-make bs zero a h e = refl
@@ -184,45 +124,67 @@ zeros-make bs (suc k) a h e =
     let z : getD bs a 0 ≡ 0 = cc in
     rw (eq-eqb (getD bs a 0) 0 z) (zeros-make bs k (suc a) (omega arith) cc)
 
-pub block-cleaned : (s : Sizes) (bs : List ℕ) (i : ℕ) → length bs ≡ 53 + s .blocks * block-long s → i < s .blocks → Clean s (block-in (block-long s) bs i) → block-clean (block-long s) bs i ≡ true
-unfolding block-clean unused used-of block-in
-block-cleaned s bs i long h c = go c
-  where
-    w : ℕ
-    w = block-long s
+-- a block: its bytes are clean where the pass says so, and the other way
+module _ (s : Sizes) (bs : List ℕ) (i : ℕ) (long : length bs ≡ 53 + s .blocks * block-long s) (h : i < s .blocks) where
+  abbrev w : ℕ
+  w = block-long s
 
-    a : ℕ
-    a = 53 + i * w
+  abbrev a : ℕ
+  a = 53 + i * w
 
-    n : ℕ
-    n = getD bs (a + 1) 0
+  abbrev n : ℕ
+  n = getD bs (a + 1) 0
 
-    x : List ℕ
-    x = take w (drop a bs)
+  abbrev x : List ℕ
+  x = take w (drop a bs)
 
-    level-is : getD x 0 0 ≡ getD bs a 0
-    level-is = level-byte w bs i (long-some s)
+  level-is : getD x 0 0 ≡ getD bs a 0
+  level-is = level-byte w bs i (long-some s)
 
-    count-is : getD x 1 0 ≡ n
-    count-is = getD-part w a bs 1 (omega (arith, long-is s))
+  count-is : getD x 1 0 ≡ n
+  count-is = getD-part w a bs 1 (omega (arith, long-is s))
 
-    room : a + w ≤ length bs
-    room = omega (arith, long, block-end i (s .blocks) w h)
+  room : a + w ≤ length bs
+  room = omega (arith, long, block-end i (s .blocks) w h)
 
-    go : Clean s x → zeros-from bs (w - cond (eqb (getD bs a 0) 0) 0 (8 + 12 * n)) (a + cond (eqb (getD bs a 0) 0) 0 (8 + 12 * n)) ≡ true
-    go (zeros e z) =
-        let k : w - 0 ≡ w = omega arith in
-        rw (eq-eqb (getD bs a 0) 0 (sym level-is ∙ e), k, add-zero a) (zeros-make bs w a room z)
-    go (filled p one few z) =
-        let ew = long-is s in
-        let u : ℕ = 8 + 12 * n in
-        let c : 12 * (s .nodes - n) ≡ w - u = omega (arith, count-is) in
-        let f : w ≡ u + (w - u) = omega (arith, count-is) in
-        let t : take (w - u) (drop (a + u) bs) ≡ replicate (w - u) 0 =
-        ap (take (w - u)) (sym (drop-drop u a bs)) ∙ sym (drop-take u (w - u) (drop a bs)) ∙ ap (λ (k : ℕ). drop u (take k (drop a bs))) (sym f)
-        ∙ subst (λ (k : ℕ). drop (8 + 12 * k) x ≡ replicate (12 * (s .nodes - k)) 0) count-is z ∙ ap (λ (k : ℕ). replicate k 0) c in
-        rw (ne-eqb (getD bs a 0) 0 (λ q. omega (arith, q, level-is))) (zeros-make bs (w - u) (a + u) (omega (arith, room, f)) t)
+  -- the bytes behind m nodes
+  behind : (m : ℕ) → m ≤ s .nodes → drop (8 + 12 * m) x ≡ take (w - (8 + 12 * m)) (drop (a + (8 + 12 * m)) bs)
+  behind m few =
+      let u : ℕ = 8 + 12 * m in
+      let f : w ≡ u + (w - u) = omega (arith, long-is s) in
+      ap (λ (k : ℕ). drop u (take k (drop a bs))) f ∙ drop-take u (w - u) (drop a bs) ∙ ap (take (w - u)) (drop-drop u a bs)
 
+  behind-long : (m : ℕ) → m ≤ s .nodes → 12 * (s .nodes - m) ≡ w - (8 + 12 * m)
+  behind-long m few = omega (arith, long-is s)
+
+  pub clean-block : block-clean w bs i ≡ true → (0 < getD (block-in w bs i) 0 0 → (0 < getD (block-in w bs i) 1 0) × (getD (block-in w bs i) 1 0 ≤ s .nodes)) → Clean s (block-in w bs i)
+  unfolding block-clean unused used-of block-in
+  clean-block e few = go (eqb (getD bs a 0) 0) refl e
+    where
+      go : (t : Bool) → eqb (getD bs a 0) 0 ≡ t → zeros-from bs (w - cond t 0 (8 + 12 * n)) (a + cond t 0 (8 + 12 * n)) ≡ true → Clean s x
+      go true q z =
+          let k : w - 0 ≡ w = omega arith in
+          zeros (level-is ∙ eqb-true (getD bs a 0) 0 q) (zeros-are bs w a room (rw (k, add-zero a) at z))
+      go false q z =
+          let p : 0 < getD x 0 0 = omega (arith, level-is, eqb-false (getD bs a 0) 0 q) in
+          let v = few p in
+          let m : n ≤ s .nodes = omega (arith, count-is, v .1) in
+          filled p (v .0) (v .1) (rw (count-is, behind n m, behind-long n m) (zeros-are bs (w - (8 + 12 * n)) (a + (8 + 12 * n)) (omega (arith, room, long-is s)) z))
+
+  pub block-cleaned : Clean s (block-in w bs i) → block-clean w bs i ≡ true
+  unfolding block-clean unused used-of block-in
+  block-cleaned c = go c
+    where
+      go : Clean s x → zeros-from bs (w - cond (eqb (getD bs a 0) 0) 0 (8 + 12 * n)) (a + cond (eqb (getD bs a 0) 0) 0 (8 + 12 * n)) ≡ true
+      go (zeros e z) =
+          let k : w - 0 ≡ w = omega arith in
+          rw (eq-eqb (getD bs a 0) 0 (sym level-is ∙ e), k, add-zero a) (zeros-make bs w a room z)
+      go (filled p one few z) =
+          let m : n ≤ s .nodes = omega (arith, count-is) in
+          rw (ne-eqb (getD bs a 0) 0 (λ q. omega (arith, q, level-is)))
+          (zeros-make bs (w - (8 + 12 * n)) (a + (8 + 12 * n)) (omega (arith, room, long-is s)) (rw (count-is, behind n m, behind-long n m) at z))
+
+-- .. and where every block is clean the pass is
 cleaned-from : (w : ℕ) (bs : List ℕ) (k i m : ℕ) → ((j : ℕ) → j < k → block-clean w bs (i + j) ≡ true) → sweep-from w bs k i m .clean ≡ true
 unfolding sweep-from
 cleaned-from w bs zero i m h = refl
