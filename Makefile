@@ -169,8 +169,8 @@ bench-turns: bench-build
 	@test -f '$(BEFORE)/$(ARCHIVE)' || { echo "make bench-turns BEFORE=folder, of the project as it was before, where make archive was done"; exit 2; }
 	$(call SIDE,now,.)
 	$(call SIDE,before,$(BEFORE))
-	@$(CC) $(CFLAGS) -Iinclude -Ibench $(TURNS) build/before.o build/now.o $(TURNED) -o build/turns && build/turns $(ROUNDS)
-	@$(CC) $(CFLAGS) -Iinclude -Ibench $(TURNS) build/now.o build/before.o $(TURNED) -o build/turns && build/turns $(ROUNDS)
+	@$(CC) $(CFLAGS) -Iinclude -Ibench $(TURNS) build/before.o build/now.o $(TURNED) -o build/turns && echo "now linked second:" && build/turns $(ROUNDS)
+	@$(CC) $(CFLAGS) -Iinclude -Ibench $(TURNS) build/now.o build/before.o $(TURNED) -o build/turns && echo "now linked first:" && build/turns $(ROUNDS)
 
 # One small table, three rounds: are all answers right, and the bytes as before after a cancel and a put? Are the slow tables tables, and are README's figures
 # those of the results?
