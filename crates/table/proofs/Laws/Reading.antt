@@ -5,6 +5,7 @@ use mathlib.Core.List.{List, [], _∷_, _++_, append-assoc, append-nil}
 use Prim.Native.Nat.{ℕ, zero, suc, _+_, _*_, _-_, _≤_, _<_}
 use native.Mathlib.Nat.{suc-mul, zero-mul, add-zero, add-comm}
 use native.Mathlib.Numerals.{add-one}
+use native.Mathlib.Decide.{decLt}
 use native.Mathlib.Omega.{arith}
 use borrow.Author.Tests.{eq-eqb, ne-eqb, le-leb, leb-true, ltb-true, ltb-false, eqb-true, eqb-false}
 use lib.Dec.{ltb, leb, eqb}
@@ -341,49 +342,61 @@ pub record Found-piece (s : Sizes) (bs : List ℕ) (l f i : ℕ) (ms : List Orde
   pub nodes : chunk-read s bs (spot (chunk-spot s bs l f i)) ≡ ms
 
 module _ (s : Sizes) (bs : List ℕ) (l f : ℕ) where
-  piece-from : (j i n : ℕ) → sound-from s bs l f j i ≡ true → n * s .nodes < length (part-from s bs l f j i) → Found-piece s bs l f (i + n) (take (s .nodes) (drop (n * s .nodes) (part-from s bs l f j i)))
+  -- a chunk that is met, by its number
+  abbrev met : (i : ℕ) → List Order
+  met i = chunk-read s bs (spot (chunk-spot s bs l f i))
+
+  record Met (i : ℕ) : Type 0 where
+    pub found : found-at (chunk-spot s bs l f i) ≡ true
+    pub most : length (met i) ≤ s .nodes
+    pub weights : weigh-all l (met i) ≡ true
+
+  -- what holds of no chunk, and of a chunk with what comes behind it, which is nothing unless it is full, holds of what was read
+  each-met : (P : (i : ℕ) → List Order → Type 0) → ((i : ℕ) → P i []) → ((i : ℕ) (ys : List Order) → Met i → (length (met i) < s .nodes → ys ≡ []) → P (suc i) ys → P i (met i ++ ys))
+      → (j i : ℕ) → sound-from s bs l f j i ≡ true → P i (part-from s bs l f j i)
   unfolding sound-from part-from
-  piece-from zero i n e h = absurd (omega arith)
-  piece-from (suc j) i n e h = go (λ n′ e′ h′. piece-from j (suc i) n′ e′ h′) (found-at r) refl e h
+  each-met P none more zero i e = none i
+  each-met P none more (suc j) i e = go (each-met P none more j (suc i)) (found-at (chunk-spot s bs l f i)) refl e
     where
-      r : Found
-      r = chunk-spot s bs l f i
-
       c : ℕ
-      c = count-in (block-long s) bs (spot r)
-
-      xs : List Order
-      xs = chunk-read s bs (spot r)
+      c = count-in (block-long s) bs (spot (chunk-spot s bs l f i))
 
       ys : List Order
       ys = part-from s bs l f j (suc i)
 
-      len : length xs ≡ c
-      len = read-count s bs (spot r)
+      behind : (sound-from s bs l f j (suc i) ≡ true → P (suc i) ys) → Met i → (v : Bool) → ltb c (s .nodes) ≡ v → cond v true (sound-from s bs l f j (suc i)) ≡ true → P i (met i ++ cond v [] ys)
+      behind rest m true ev e = more i [] m (λ h. refl) (none (suc i))
+      behind rest m false ev e = more i ys m (λ h. absurd (omega (arith, h, read-count s bs (spot (chunk-spot s bs l f i)), ltb-false c (s .nodes) ev))) (rest e)
 
-      deep : ((n : ℕ) → sound-from s bs l f j (suc i) ≡ true → n * s .nodes < length ys → Found-piece s bs l f (suc i + n) (take (s .nodes) (drop (n * s .nodes) ys))) → found-at r ≡ true →
-          c ≤ s .nodes → (n : ℕ) (v : Bool) → ltb c (s .nodes) ≡ v → cond v true (sound-from s bs l f j (suc i)) ≡ true → n * s .nodes < length (xs ++ cond v [] ys) →
-          Found-piece s bs l f (i + n) (take (s .nodes) (drop (n * s .nodes) (xs ++ cond v [] ys)))
-      deep rest ef b zero true ev e h =
-          rw (add-zero i, zero-mul (s .nodes), append-nil xs, take-all (s .nodes) xs (omega (arith, len))) (record { found = ef; most = b; nodes = refl })
-      deep rest ef b zero false ev e h =
-          rw (add-zero i, zero-mul (s .nodes), take-at xs ys (s .nodes) (omega (arith, len, ltb-false c (s .nodes) ev))) (record { found = ef; most = b; nodes = refl })
-      deep rest ef b (suc n) true ev e h = absurd (omega (arith, len, suc-mul n (s .nodes), simp length-append at h, ltb-true c (s .nodes) ev))
-      deep rest ef b (suc n) false ev e h =
-          let full : length xs ≡ s .nodes = omega (arith, len, ltb-false c (s .nodes) ev) in
-          let m : suc n * s .nodes ≡ length xs + n * s .nodes = suc-mul n (s .nodes) ∙ add-comm (n * s .nodes) (s .nodes) ∙ rw full in
+      go : (sound-from s bs l f j (suc i) ≡ true → P (suc i) ys) → (t : Bool) → found-at (chunk-spot s bs l f i) ≡ t →
+          cond t (((leb 1 c && leb c (s .nodes)) && weigh-all l (met i)) && cond (ltb c (s .nodes)) true (sound-from s bs l f j (suc i))) true ≡ true →
+          P i (cond t (met i ++ cond (ltb c (s .nodes)) [] ys) [])
+      go rest true ef e =
+          let a = and-parts ((leb 1 c && leb c (s .nodes)) && weigh-all l (met i)) (cond (ltb c (s .nodes)) true (sound-from s bs l f j (suc i))) e in
+          let b = and-parts (leb 1 c && leb c (s .nodes)) (weigh-all l (met i)) (a .0) in
+          let most = leb-true c (s .nodes) (and-parts (leb 1 c) (leb c (s .nodes)) (b .0) .1) in
+          behind rest (record { found = ef; most = omega (arith, most, read-count s bs (spot (chunk-spot s bs l f i))); weights = b .1 }) (ltb c (s .nodes)) refl (a .1)
+      go rest false ef e = none i
+
+  abbrev Pieced : (i : ℕ) → List Order → Type 0
+  Pieced i ns = (n : ℕ) → n * s .nodes < length ns → Found-piece s bs l f (i + n) (take (s .nodes) (drop (n * s .nodes) ns))
+
+  piece-from : (j i : ℕ) → sound-from s bs l f j i ≡ true → Pieced i (part-from s bs l f j i)
+  piece-from = each-met Pieced (λ i n h. absurd (omega arith)) (λ i ys m last rest n h. go i ys m last rest n (decLt (length (met i)) (s .nodes)) h)
+    where
+      first : (i : ℕ) (ns : List Order) → Met i → take (s .nodes) ns ≡ met i → Found-piece s bs l f (i + 0) (take (s .nodes) (drop (0 * s .nodes) ns))
+      first i ns m e = rw (add-zero i, zero-mul (s .nodes), e) (record { found = m .found; most = omega (arith, m .most, read-count s bs (spot (chunk-spot s bs l f i))); nodes = refl })
+
+      go : (i : ℕ) (ys : List Order) → Met i → (length (met i) < s .nodes → ys ≡ []) → Pieced (suc i) ys → (n : ℕ) → Dec (length (met i) < s .nodes) → n * s .nodes < length (met i ++ ys)
+          → Found-piece s bs l f (i + n) (take (s .nodes) (drop (n * s .nodes) (met i ++ ys)))
+      go i ys m last rest zero (yes q) h = first i (met i ++ ys) m (rw (last q, append-nil (met i)) (take-all (s .nodes) (met i) (m .most)))
+      go i ys m last rest zero (no q) h = first i (met i ++ ys) m (take-at (met i) ys (s .nodes) (omega (arith, m .most)))
+      go i ys m last rest (suc n) (yes q) h = absurd (omega (arith, suc-mul n (s .nodes), simp length-append at h, ap length (last q)))
+      go i ys m last rest (suc n) (no q) h =
+          let full : length (met i) ≡ s .nodes = omega (arith, m .most) in
+          let e : suc n * s .nodes ≡ length (met i) + n * s .nodes = suc-mul n (s .nodes) ∙ add-comm (n * s .nodes) (s .nodes) ∙ rw full in
           let k : suc i + n ≡ i + suc n = omega arith in
-          rw (m, drop-append-add xs ys (n * s .nodes), ← k) (rest n e (omega (arith, m, simp length-append at h)))
-
-      go : ((n : ℕ) → sound-from s bs l f j (suc i) ≡ true → n * s .nodes < length ys → Found-piece s bs l f (suc i + n) (take (s .nodes) (drop (n * s .nodes) ys))) → (t : Bool) → found-at r ≡ t →
-          cond t (((leb 1 c && leb c (s .nodes)) && weigh-all l xs) && cond (ltb c (s .nodes)) true (sound-from s bs l f j (suc i))) true ≡ true →
-          n * s .nodes < length (cond t (xs ++ cond (ltb c (s .nodes)) [] ys) []) →
-          Found-piece s bs l f (i + n) (take (s .nodes) (drop (n * s .nodes) (cond t (xs ++ cond (ltb c (s .nodes)) [] ys) [])))
-      go rest true ef e h =
-          let a = and-parts ((leb 1 c && leb c (s .nodes)) && weigh-all l xs) (cond (ltb c (s .nodes)) true (sound-from s bs l f j (suc i))) e in
-          let b = and-parts (leb 1 c && leb c (s .nodes)) (weigh-all l xs) (a .0) in
-          deep rest ef (leb-true c (s .nodes) (and-parts (leb 1 c) (leb c (s .nodes)) (b .0) .1)) n (ltb c (s .nodes)) refl (a .1) h
-      go rest false ef e h = absurd (omega arith)
+          rw (e, drop-append-add (met i) ys (n * s .nodes), ← k) (rest n (omega (arith, e, simp length-append at h)))
 
   pub piece-read : (n : ℕ) → n * s .nodes < length (part-sound s bs l f) → Found-piece s bs l f n (take (s .nodes) (drop (n * s .nodes) (part-sound s bs l f)))
   unfolding part-sound
@@ -395,7 +408,7 @@ module _ (s : Sizes) (bs : List ℕ) (l f : ℕ) where
       go : (t : Bool) → sound-from s bs l f (s .blocks) 0 ≡ t → n * s .nodes < length (cond t all []) → Found-piece s bs l f n (take (s .nodes) (drop (n * s .nodes) (cond t all [])))
       go true e h =
           let z : 0 + n ≡ n = omega arith in
-          subst (λ (k : ℕ). Found-piece s bs l f k (take (s .nodes) (drop (n * s .nodes) all))) z (piece-from (s .blocks) 0 n e h)
+          subst (λ (k : ℕ). Found-piece s bs l f k (take (s .nodes) (drop (n * s .nodes) all))) z (piece-from (s .blocks) 0 e n h)
       go false e h = absurd (omega arith)
 
   -- and it has the quantities of its level
@@ -407,33 +420,8 @@ module _ (s : Sizes) (bs : List ℕ) (l f : ℕ) where
       rw (p .0) (weigh-both xs zs (p .1) b)
 
   weigh-from : (j i : ℕ) → sound-from s bs l f j i ≡ true → weigh-all l (part-from s bs l f j i) ≡ true
-  unfolding sound-from part-from weigh-all
-  weigh-from zero i e = refl
-  weigh-from (suc j) i e = go (weigh-from j (suc i)) (found-at r) e
-    where
-      r : Found
-      r = chunk-spot s bs l f i
-
-      c : ℕ
-      c = count-in (block-long s) bs (spot r)
-
-      xs : List Order
-      xs = chunk-read s bs (spot r)
-
-      ys : List Order
-      ys = part-from s bs l f j (suc i)
-
-      deep : (sound-from s bs l f j (suc i) ≡ true → weigh-all l ys ≡ true) → weigh-all l xs ≡ true → (v : Bool) → cond v true (sound-from s bs l f j (suc i)) ≡ true → weigh-all l (xs ++ cond v [] ys) ≡ true
-      deep rest a true e = weigh-both xs [] a refl
-      deep rest a false e = weigh-both xs ys a (rest e)
-
-      go : (sound-from s bs l f j (suc i) ≡ true → weigh-all l ys ≡ true) → (t : Bool) →
-          cond t (((leb 1 c && leb c (s .nodes)) && weigh-all l xs) && cond (ltb c (s .nodes)) true (sound-from s bs l f j (suc i))) true ≡ true →
-          weigh-all l (cond t (xs ++ cond (ltb c (s .nodes)) [] ys) []) ≡ true
-      go rest true e =
-          let a = and-parts ((leb 1 c && leb c (s .nodes)) && weigh-all l xs) (cond (ltb c (s .nodes)) true (sound-from s bs l f j (suc i))) e in
-          deep rest (and-parts (leb 1 c && leb c (s .nodes)) (weigh-all l xs) (a .0) .1) (ltb c (s .nodes)) (a .1)
-      go rest false e = refl
+  unfolding weigh-all
+  weigh-from = each-met (λ i ns. weigh-all l ns ≡ true) (λ i. refl) (λ i ys m last rest. weigh-both (met i) ys (m .weights) rest)
 
   pub weigh-read : weigh-all l (part-sound s bs l f) ≡ true
   unfolding part-sound weigh-all
