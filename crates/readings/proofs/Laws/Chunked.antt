@@ -1,7 +1,7 @@
 -- What the search for a chunk finds in an image: the next piece of a partition, as its bytes say.
 use mathlib.Core.Path.{_≡_, refl, sym, ap, _∙_, subst}
 use mathlib.Core.List.{List, [], _∷_, map}
-use Prim.Native.Nat.{ℕ, zero, suc, _+_, _*_, _≤_, _<_}
+use Prim.Native.Nat.{ℕ, zero, suc, _+_, _*_, _-_, _≤_, _<_}
 use native.Mathlib.Omega.{arith}
 use lib.ListN.{length, getD, take, drop, length-map}
 use lib.Seq.{drop-drop}
@@ -32,6 +32,11 @@ use Rattle.table.proofs.Laws.Steps.{node-made}
 pub nodes-split : (bs : List ℕ) (a j : ℕ) → nodes-from (suc j) (drop a bs) ≡ node-of bs a ∷ nodes-from j (drop (a + 12) bs)
 unfolding rows-in node-of
 nodes-split bs a j = ap (λ (z : List ℕ). node-in (drop a bs) ∷ nodes-from j z) (drop-drop 12 a bs)
+
+pub nodes-first : (bs : List ℕ) (a j : ℕ) → 0 < j → nodes-from j (drop a bs) ≡ node-of bs a ∷ nodes-from (j - 1) (drop (a + 12) bs)
+nodes-first bs a j h =
+    let e : j ≡ suc (j - 1) = omega arith in
+    ap (λ (i : ℕ). nodes-from i (drop a bs)) e ∙ nodes-split bs a (j - 1)
 
 pub nodes-list : (bs : List ℕ) (ns : List Order) (a : ℕ) → ((j : ℕ) → j < length ns → node-of bs (a + 12 * j) ≡ node-at ns j) → nodes-from (length ns) (drop a bs) ≡ ns
 unfolding rows-in

@@ -124,30 +124,7 @@ unfolding steps
 steps-ended [] x e = refl
 steps-ended (o ∷ os) x e = ap (steps os) (sym (step-ended o (x .visit) (x .output) e)) ∙ steps-ended os x e
 
--- the range stays
-pub record Ranged (x y : Scan) : Type 0 where
-  pub lo : y .visit .lo ≡ x .visit .lo
-  pub hi : y .visit .hi ≡ x .visit .hi
-
-pub step-range : (o : Order) (x : Scan) → Ranged x (step-by o x)
-unfolding step-by more-found ended-visit
-step-range o x = go (x .visit .ended) (ltb (x .visit .hi) (o .key)) (wanted-by (x .visit) o)
-  where
-    go : (a b c : Bool) → Ranged x (cond a x (cond b (scan (ended-visit (x .visit)) (x .output)) (cond c (scan (more-found o (x .visit)) (cond (x .visit .writes) (row-in (x .output) (12 * x .visit .found) o) (x .output))) x)))
-    go true b c = record { lo = refl; hi = refl }
-    go false true c = record { lo = refl; hi = refl }
-    go false false true = record { lo = refl; hi = refl }
-    go false false false = record { lo = refl; hi = refl }
-
-pub steps-range : (os : List Order) (x : Scan) → Ranged x (steps os x)
-unfolding steps
-steps-range [] x = record { lo = refl; hi = refl }
-steps-range (o ∷ os) x =
-    let p = step-range o x in
-    let q = steps-range os (step-by o x) in
-    record { lo = q .lo ∙ p .lo; hi = q .hi ∙ p .hi }
-
--- and so does the length of the output
+-- a row keeps the output's length
 pub row-length : (x : List ℕ) (a : ℕ) (o : Order) → length (row-in x a o) ≡ length x
 unfolding row-in
 row-length x a o = go (leb (a + 12) (length x))
@@ -156,21 +133,32 @@ row-length x a o = go (leb (a + 12) (length x))
     go true = length-sets x a (node-bytes o)
     go false = refl
 
-pub step-length : (o : Order) (x : Scan) → length (step-by o x .output) ≡ length (x .output)
-unfolding step-by
-step-length o x = go (x .visit .ended) (ltb (x .visit .hi) (o .key)) (wanted-by (x .visit) o) (x .visit .writes)
-  where
-    go : (a b c d : Bool) → length (as-told o (x .visit) (x .output) a b c d .output) ≡ length (x .output)
-    go true b c d = refl
-    go false true c d = refl
-    go false false true true = row-length (x .output) (12 * x .visit .found) o
-    go false false true false = refl
-    go false false false d = refl
+-- a visit keeps that its range is one, and the output's length
+pub record Keeps (x y : Scan) : Type 0 where
+  pub range : x .visit .lo ≤ x .visit .hi → y .visit .lo ≤ y .visit .hi
+  pub long : length (y .output) ≡ length (x .output)
 
-pub steps-length : (os : List Order) (x : Scan) → length (steps os x .output) ≡ length (x .output)
+pub keeps-all : (x : Scan) → Keeps x x
+keeps-all x = record { range = λ h. h; long = refl }
+
+pub keeps-on : (x y z : Scan) → Keeps x y → Keeps y z → Keeps x z
+keeps-on x y z p q = record { range = λ h. q .range (p .range h); long = q .long ∙ p .long }
+
+step-keeps : (o : Order) (x : Scan) → Keeps x (step-by o x)
+unfolding step-by more-found ended-visit
+step-keeps o x = go (x .visit .ended) (ltb (x .visit .hi) (o .key)) (wanted-by (x .visit) o) (x .visit .writes)
+  where
+    go : (a b c d : Bool) → Keeps x (as-told o (x .visit) (x .output) a b c d)
+    go true b c d = keeps-all x
+    go false true c d = record { range = λ h. h; long = refl }
+    go false false true true = record { range = λ h. h; long = row-length (x .output) (12 * x .visit .found) o }
+    go false false true false = record { range = λ h. h; long = refl }
+    go false false false d = keeps-all x
+
+pub steps-keep : (os : List Order) (x : Scan) → Keeps x (steps os x)
 unfolding steps
-steps-length [] x = refl
-steps-length (o ∷ os) x = steps-length os (step-by o x) ∙ step-length o x
+steps-keep [] x = keeps-all x
+steps-keep (o ∷ os) x = keeps-on x (step-by o x) (steps os (step-by o x)) (step-keeps o x) (steps-keep os (step-by o x))
 
 -- orders below the range do nothing
 pub step-below : (o : Order) (x : Scan) → x .visit .lo ≤ x .visit .hi → o .key < x .visit .lo → step-by o x ≡ x

@@ -4,37 +4,36 @@ use mathlib.Core.Bool.{Bool, true, false, cond, true≢false}
 use mathlib.Core.List.{List, [], _∷_, _++_, append-nil}
 use Prim.Native.Nat.{ℕ, zero, suc, _+_, _*_, _-_, _≤_, _<_}
 use native.Mathlib.Omega.{arith}
-use native.Mathlib.Nat.{add-zero, pos-of-ne-zero}
+use native.Mathlib.Nat.{pos-of-ne-zero}
 use borrow.Author.Tests.{le-leb, le-ltb, leb-true}
 use lib.Dec.{leb}
 use lib.ListN.{length, take, drop, length-drop}
 use lib.Seq.{sets, length-sets}
 use Rattle.sizes.specs.Numbers.{field, rows, rows-in}
 use Rattle.sizes.specs.declared.Sizes.{Sizes}
-use Rattle.sizes.proofs.Laws.Numbers.{Bytes, bytes-drop, field-drop}
+use Rattle.sizes.proofs.Laws.Numbers.{Bytes, bytes-drop}
 use Rattle.sizes.proofs.Laws.Parts.{sets-append}
 use Rattle.placement.specs.Chunks.{node-bytes, nodes-bytes}
-use Rattle.placement.specs.Decode.{node-in, nodes-from}
+use Rattle.placement.specs.Decode.{nodes-from}
 use Rattle.placement.specs.declared.Order.{Order}
 use Rattle.placement.proofs.Laws.Bridge.{node-long}
 use Rattle.placement.proofs.Laws.Decoding.{nodes-again, nodes-count}
 use Rattle.skiplist.specs.Lists.{front, list-at}
 use Rattle.skiplist.specs.Image.{orders-in}
 use Rattle.skiplist.proofs.Laws.Parts.{Up, up-from, up-front, at-least-up}
-use Rattle.skiplist.proofs.Laws.Walk.{each, spread}
+use Rattle.skiplist.proofs.Laws.Walk.{spread, each-one}
 use Rattle.table.specs.Walk.{node-of}
+use Rattle.table.proofs.Laws.Steps.{node-key}
 use Rattle.table.proofs.Laws.MaskedKeys.{up-masked}
 use Rattle.readings.specs.declared.Visit.{Visit}
-use Rattle.readings.specs.Visit.{Scan, scan, more-found, row-in, step-by, steps, Known, Row, Whole, all-under}
+use Rattle.readings.specs.Visit.{scan, more-found, row-in, step-by, steps, Known, Row, Whole, all-under}
 use Rattle.readings.proofs.Laws.Visits.{next-more, wanted-all, told}
-use Rattle.readings.proofs.Laws.Chunked.{nodes-split, orders-up}
-use Rattle.readings.proofs.Laws.Tours.{step-long}
+use Rattle.readings.proofs.Laws.Chunked.{nodes-split, nodes-first, orders-up}
 
 -- A NODE OF LEVEL 1 stands for itself
 pub all-orders : (s : Sizes) (bs : List ℕ) (ns : List Order) → all-under s bs 0 ns ≡ ns
-unfolding all-under each spread
-all-orders s bs [] = refl
-all-orders s bs (n ∷ ns) = ap (λ (z : List Order). n ∷ z) (all-orders s bs ns)
+unfolding all-under spread
+all-orders s bs ns = each-one ns
 
 -- THEIR KEYS rise
 up-behind : (xs zs : List Order) (a : ℕ) → Up a (xs ++ zs) → Up 0 zs
@@ -113,10 +112,6 @@ steps-whole o (p ∷ ps) v x b eb k g u h f r =
     ∙ (λ i. scan (record { lo = v .lo; hi = v .hi; least = v .least; writes = v .writes; seeks = v .seeks; found = n i; ended = v .ended; key = last-of p ps .key; total = last-of p ps .total; displayed = last-of p ps .displayed }) (rowed b x (12 * v .found) (o ∷ p ∷ ps)))
 
 -- NODES IN BYTES: the last of them
-node-key : (bs : List ℕ) (a : ℕ) → node-of bs a .key ≡ field a 4 bs
-unfolding node-of node-in
-node-key bs a = field-drop 0 4 a bs ∙ ap (λ (i : ℕ). field i 4 bs) (add-zero a)
-
 last-node : (bs : List ℕ) (a j : ℕ) → last-of (node-of bs a) (nodes-from j (drop (a + 12) bs)) ≡ node-of bs (a + 12 * j)
 unfolding last-of rows-in
 last-node bs a zero = let e : a ≡ a + 12 * 0 = omega arith in ap (node-of bs) e
@@ -132,9 +127,7 @@ module _ (s : Sizes) (bs : List ℕ) (a j : ℕ) (v : Visit) (x : List ℕ) (k :
 
   parts : nodes-from j (drop a bs) ≡ node-of bs a ∷ ns
   unfolding ns
-  parts =
-      let e : j ≡ suc (j - 1) = omega (arith, w .some) in
-      ap (λ (i : ℕ). nodes-from i (drop a bs)) e ∙ nodes-split bs a (j - 1)
+  parts = nodes-first bs a j (w .some)
 
   many : suc (length ns) ≡ j
   unfolding ns
@@ -147,10 +140,10 @@ module _ (s : Sizes) (bs : List ℕ) (a j : ℕ) (v : Visit) (x : List ℕ) (k :
   rising : Up (v .lo) (node-of bs a ∷ ns)
   rising =
       let u = subst (Up 0) parts (row-up s (orders-in bs) 1 (nodes-from j (drop a bs)) (orders-up s bs k) row) in
-      (omega (arith, w .low, node-key bs a), u .1)
+      (omega (arith, w .low, node-key bs a _ refl), u .1)
 
   high : last-of (node-of bs a) ns .key ≤ v .hi
-  high = omega (arith, w .high, ap (λ (q : Order). q .key) (last ∙ eo), node-key bs (a + 12 * (j - 1)))
+  high = omega (arith, w .high, ap (λ (q : Order). q .key) (last ∙ eo), node-key bs (a + 12 * (j - 1)) _ refl)
 
   together : (b : Bool) → v .writes ≡ b → steps (all-under s bs 0 (nodes-from j (drop a bs))) (scan v x) ≡ scan (jumped v j o) (rowed b x (12 * v .found) (nodes-from j (drop a bs)))
   together b eb =
@@ -168,40 +161,6 @@ module _ (s : Sizes) (bs : List ℕ) (a j : ℕ) (v : Visit) (x : List ℕ) (k :
   whole-writes e b z ez =
       let l : length (drop a bs) ≡ length bs - a = length-drop a bs in
       ap (scan (jumped v j o)) (ez ∙ ap (sets x (12 * v .found)) (sym (nodes-again j (drop a bs) (omega arith) (bytes-drop a bs b)))) ∙ sym (together true e)
-
--- ONE AFTER THE OTHER: k of the j nodes from a on are left, from a place on
-pub record Coming (bs : List ℕ) (a j : ℕ) (x : Scan) (k place : ℕ) (y : Scan) : Type 0 where
-  pub room : place + 12 * k ≤ length bs
-  pub long : length (y .output) ≡ length (x .output)
-  pub rest : steps (nodes-from j (drop a bs)) x ≡ steps (nodes-from k (drop place bs)) y
-
-module _ (bs : List ℕ) (a j : ℕ) where
-  pub coming-start : (v : Visit) (z : List ℕ) → a + 12 * j ≤ length bs → Coming bs a j (scan v z) j a (scan v z)
-  coming-start v z h = record { room = h; long = refl; rest = refl }
-
-  module _ (x : Scan) (k place : ℕ) (w : Visit) (z : List ℕ) (p : Coming bs a j x k place (scan w z)) where
-    pub coming-more : 0 < k → (n : Order) → n ≡ node-of bs place → (w′ : Visit) (z′ : List ℕ) → scan w′ z′ ≡ step-by n (scan w z) → Coming bs a j x (k - 1) (place + 12) (scan w′ z′)
-    unfolding steps
-    coming-more h n en w′ z′ ew =
-        let e : k ≡ suc (k - 1) = omega arith in
-        record {
-          room = omega (arith, p .room);
-          long = step-long n w w′ z z′ ew ∙ p .long;
-          rest =
-              p .rest
-              ∙ ap (λ (i : ℕ). steps (nodes-from i (drop place bs)) (scan w z)) e
-              ∙ ap (λ (ns : List Order). steps ns (scan w z)) (nodes-split bs place (k - 1))
-              ∙ ap (steps (nodes-from (k - 1) (drop (place + 12) bs))) (sym (ew ∙ ap (λ (o : Order). step-by o (scan w z)) en));
-        }
-
-    pub coming-end : (s : Sizes) → k ≤ 0 → scan w z ≡ steps (all-under s bs 0 (nodes-from j (drop a bs))) x
-    unfolding steps rows-in
-    coming-end s h =
-        let e : k ≡ 0 = omega arith in
-        sym
-        (ap (λ (ns : List Order). steps ns x) (all-orders s bs (nodes-from j (drop a bs)))
-        ∙ p .rest
-        ∙ ap (λ (i : ℕ). steps (nodes-from i (drop place bs)) (scan w z)) e)
 
 -- what `whole` says
 module _ (bs : List ℕ) (a j : ℕ) (v : Visit) (m : ℕ) where

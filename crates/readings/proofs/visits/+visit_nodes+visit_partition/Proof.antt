@@ -7,8 +7,8 @@ use mathlib.Core.Path.{_∙_}
 use mathlib.Core.List.{[]}
 use native.Mathlib.Omega.{arith}
 use Rattle.placement.proofs.Laws.Loops.{search-below}
-use Rattle.readings.specs.Visit.{scan}
-use Rattle.readings.proofs.Laws.Tours.{length-kept, row-one, two-least, Nodding, nodding-begin, nodding-orders, nodding-ended, nodding-end, nodding-more, Going, going-start, going-ended, going-none, going-end, chunk-room, chunk-row, going-stop, going-more}
+use Rattle.readings.specs.Visit.{scan, all-under}
+use Rattle.readings.proofs.Laws.Tours.{length-kept, row-one, two-least, Nodding, begun, nodding-orders, nodding-ended, nodding-end, nodding-more, Going, going-start, going-ended, going-none, going-end, chunk-room, chunk-row, going-stop, going-more}
 use borrow.Fn.Kinds.{In}
 use borrow.Fn.PlainCycle.{Measures, is, falls, and}
 use Rattle.readings.proofs.visits.visit_nodes.Reads as visit-nodes
@@ -53,7 +53,7 @@ abbrev visit-partition-μ-loop : visit-partition-lts.MeasureT-loop
 visit-partition-μ-loop table s level o output₀ w₀ number₀ output w number = 65536 - number
 
 abbrev visit-nodes-Inv-loop : visit-nodes-lts.InvT-loop
-visit-nodes-Inv-loop table s level at left output₀ n place₀ k₀ w₀ output place k w = Nodding s table level at left (scan w₀ output₀) k place (scan w output)
+visit-nodes-Inv-loop table s level at left output₀ n place₀ k₀ w₀ output place k w = Nodding (all-under s table (level - 1)) table at left (scan w₀ output₀) k place (scan w output)
 
 abbrev visit-nodes-μ-loop : visit-nodes-lts.MeasureT-loop
 visit-nodes-μ-loop table s level at left output₀ n place₀ k₀ w₀ output place k w = k
@@ -71,53 +71,53 @@ pub +visit-nodes+visit-partition-spec : {M : Type 1} → statement M
     (λ c κs.
     let a = c .before .before .before .before .before in
     let p = a .pre in
-    let b = nodding-begin _ _ _ _ _ (a .args .v) [] (p .1 .0) (p .1 .1) (p .1 .4) (p .1 .3) (p .1 .5) _ (c .before .before .skipped .ensures .0) in
-    (p .1 .0, b .room, row-one _ _ _ _ (c .before .if1 .taken) (b .row)))
+    let b = begun _ _ _ _ _ (scan (a .args .v) []) (p .1 .0) (p .1 .1) (p .1 .3) (p .1 .4) (p .1 .5) _ (c .before .before .skipped .ensures .0) in
+    (p .1 .0, b .nodes .room, row-one _ _ _ _ (c .before .if1 .taken) (b .row)))
     (λ c. length-kept _ _ _ _ _ (c .before .before .visit-orders .ensures))
     (λ c.
     let p = c .before .before .before .before .before .before .before .before .pre in
-    nodding-orders _ _ _ _ _ _ _ _ _ _ (nodding-begin _ _ _ _ _ _ _ (p .1 .0) (p .1 .1) (p .1 .4) (p .1 .3) (p .1 .5) _ (c .before .before .before .before .before .skipped .ensures .0)) (c .before .before .before .before .if1 .taken) _ _ (c .before .before .visit-orders .ensures))
+    nodding-orders _ _ _ _ _ _ _ _ _ (begun _ _ _ _ _ _ (p .1 .0) (p .1 .1) (p .1 .3) (p .1 .4) (p .1 .5) _ (c .before .before .before .before .before .skipped .ensures .0) .nodes) (c .before .before .before .before .if1 .taken) _ (c .before .before .visit-orders .ensures))
     (λ c.
     let p = c .before .before .before .before .pre in
-    nodding-begin _ _ _ _ _ _ _ (p .1 .0) (p .1 .1) (p .1 .4) (p .1 .3) (p .1 .5) _ (c .before .skipped .ensures .0))
-    (λ c. c .before .before .loop .inv .long)
-    (λ c. nodding-ended _ _ _ _ _ _ _ _ _ _ (c .before .before .loop .inv) (c .if2 .taken))
+    begun _ _ _ _ _ _ (p .1 .0) (p .1 .1) (p .1 .3) (p .1 .4) (p .1 .5) _ (c .before .skipped .ensures .0) .nodes)
+    (λ c. c .before .before .loop .inv .left .keeps .long)
+    (λ c. nodding-ended _ _ _ _ _ _ _ _ (c .before .before .loop .inv) (c .if2 .taken))
     (λ c. search laws)
     (λ c κs. omega (arith, c .before .before .loop .inv .room, c .before .loop-test .taken))
     (λ c κs.
     let d = c .before .before .before .before in
     let p = d .before .before .before .before .before .pre in
-    (omega (arith, p .0, p .1 .1), (p .1 .0, two-least _ (p .1 .1) (d .before .if1 .left), omega (arith, p .1 .2), d .loop .inv .range)))
+    (omega (arith, p .0, p .1 .1), (p .1 .0, two-least _ (p .1 .1) (d .before .if1 .left), omega (arith, p .1 .2), d .loop .inv .left .keeps .range (p .1 .3))))
     (λ c. search laws)
     (λ c. search laws)
     (λ c. search laws)
-    (λ c. nodding-more _ _ _ _ _ _ _ _ _ _ (c .before .before .before .before .before .before .before .loop .inv) (c .before .before .before .before .before .before .loop-test .taken) _ (c .before .before .before .before .node-of .ensures) _ _ (c .before .before .visit-partition .ensures))
-    (λ c. c .before .loop .inv .long)
-    (λ c. nodding-end _ _ _ _ _ _ _ _ _ _ (c .before .loop .inv) (c .loop-test .left)))
+    (λ c. nodding-more _ _ _ _ _ _ _ _ _ (c .before .before .before .before .before .before .before .loop .inv) (c .before .before .before .before .before .before .loop-test .taken) _ (c .before .before .before .before .node-of .ensures) _ (c .before .before .visit-partition .ensures))
+    (λ c. c .before .loop .inv .left .keeps .long)
+    (λ c. nodding-end _ _ _ _ _ _ _ _ _ (c .before .loop .inv) (c .loop-test .left)))
     λ t. visit-partition-lts.spec (find-reads.Asked, find-reads.Learnt, offset-reads.Asked, offset-reads.Learnt, count-at-reads.Asked, count-at-reads.Learnt, visit-nodes-below t, visit-nodes.Post)
     (visit-partition-at t) visit-partition.Post visit-partition-Inv-loop visit-partition-μ-loop
-    (λ c. let p = c .before .before .pre in going-start _ _ _ _ _ _ (p .1 .1) (p .1 .3))
-    (λ c. c .before .before .loop .inv .long)
-    (λ c. going-ended _ _ _ _ _ _ _ _ _ (c .before .before .loop .inv) (c .if1 .taken))
+    (λ c. let p = c .before .before .pre in going-start _ _ _ _ _ (p .1 .1))
+    (λ c. c .before .before .loop .inv .left .keeps .long)
+    (λ c. going-ended _ _ _ _ _ _ _ (c .before .before .loop .inv) (c .if1 .taken))
     (λ c κs. search laws)
     (λ c. search laws)
     (λ c. search laws)
-    (λ c. c .before .before .before .before .before .loop .inv .long)
+    (λ c. c .before .before .before .before .before .loop .inv .left .keeps .long)
     (λ c.
     let p = c .before .before .before .before .before .before .before .before .pre in
-    going-none _ _ _ _ _ _ _ _ _ (c .before .before .before .before .before .loop .inv) (p .1 .0) (p .1 .2) _ (c .before .before .find .ensures) (c .enum-told .given .1))
+    going-none _ _ _ _ _ _ _ (c .before .before .before .before .before .loop .inv) (p .1 .0) (p .1 .2) _ (c .before .before .find .ensures) (c .enum-told .given .1))
     (λ c κs. search laws)
     (λ c κs. search laws)
     (λ c. search laws)
     (λ c κs.
     let p = c .before .before .before .before .before .before .before .before .before .before .before .before .pre in
-    (omega (arith, p .0), (p .1 .0, p .1 .1, p .1 .2, c .before .before .before .before .before .before .before .before .before .loop .inv .range, chunk-room _ _ _ _ _ _ _ _ _ (c .before .before .before .before .before .before .before .before .before .loop .inv) (c .before .before .before .before .before .before .before .before .before .before .before .before .pre .1 .0) (c .before .before .before .before .before .before .before .before .before .before .before .before .pre .1 .2) _ (c .before .before .before .before .before .before .find .ensures) _ (c .before .before .before .before .i .given .1) _ _ (c .before .before .offset .ensures .0) (c .before .count-at .ensures .0) (c .before .before .offset .ensures .1), chunk-row _ _ _ _ _ _ _ _ _ (c .before .before .before .before .before .before .before .before .before .loop .inv) (c .before .before .before .before .before .before .before .before .before .before .before .before .pre .1 .0) (c .before .before .before .before .before .before .before .before .before .before .before .before .pre .1 .2) _ (c .before .before .before .before .before .before .find .ensures) _ (c .before .before .before .before .i .given .1) _ _ (c .before .before .offset .ensures .0) (c .before .count-at .ensures .0))))
-    (λ c. length-kept _ _ _ _ _ (c .before .before .before .before .visit-nodes .ensures) ∙ c .before .before .before .before .before .before .before .before .before .before .before .before .before .before .loop .inv .long)
-    (λ c. going-stop _ _ _ _ _ _ _ _ _ (c .before .before .before .before .before .before .before .before .before .before .before .before .before .before .loop .inv) (c .before .before .before .before .before .before .before .before .before .before .before .before .before .before .before .before .before .pre .1 .0) (c .before .before .before .before .before .before .before .before .before .before .before .before .before .before .before .before .before .pre .1 .2) _ (c .before .before .before .before .before .before .before .before .before .before .before .find .ensures) _ (c .before .before .before .before .before .before .before .before .before .i .given .1) _ _ (c .before .before .before .before .before .before .before .offset .ensures .0) (c .before .before .before .before .before .before .count-at .ensures .0) _ _ (c .before .before .before .before .visit-nodes .ensures) (c .if2 .taken))
+    (omega (arith, p .0), (p .1 .0, p .1 .1, p .1 .2, c .before .before .before .before .before .before .before .before .before .loop .inv .left .keeps .range (p .1 .3), chunk-room _ _ _ _ _ _ _ (c .before .before .before .before .before .before .before .before .before .loop .inv) (c .before .before .before .before .before .before .before .before .before .before .before .before .pre .1 .0) (c .before .before .before .before .before .before .before .before .before .before .before .before .pre .1 .2) _ (c .before .before .before .before .before .before .find .ensures) _ (c .before .before .before .before .i .given .1) _ _ (c .before .before .offset .ensures .0) (c .before .count-at .ensures .0) (c .before .before .offset .ensures .1), chunk-row _ _ _ _ _ _ _ (c .before .before .before .before .before .before .before .before .before .loop .inv) (c .before .before .before .before .before .before .before .before .before .before .before .before .pre .1 .0) (c .before .before .before .before .before .before .before .before .before .before .before .before .pre .1 .2) _ (c .before .before .before .before .before .before .find .ensures) _ (c .before .before .before .before .i .given .1) _ _ (c .before .before .offset .ensures .0) (c .before .count-at .ensures .0))))
+    (λ c. length-kept _ _ _ _ _ (c .before .before .before .before .visit-nodes .ensures) ∙ c .before .before .before .before .before .before .before .before .before .before .before .before .before .before .loop .inv .left .keeps .long)
+    (λ c. going-stop _ _ _ _ _ _ _ (c .before .before .before .before .before .before .before .before .before .before .before .before .before .before .loop .inv) (c .before .before .before .before .before .before .before .before .before .before .before .before .before .before .before .before .before .pre .1 .0) (c .before .before .before .before .before .before .before .before .before .before .before .before .before .before .before .before .before .pre .1 .2) _ (c .before .before .before .before .before .before .before .before .before .before .before .find .ensures) _ (c .before .before .before .before .before .before .before .before .before .i .given .1) _ _ (c .before .before .before .before .before .before .before .offset .ensures .0) (c .before .before .before .before .before .before .count-at .ensures .0) _ (c .before .before .before .before .visit-nodes .ensures) (c .if2 .taken))
     (λ c. search laws)
     (λ c. search laws)
-    (λ c. going-more _ _ _ _ _ _ _ _ _ (c .before .before .before .before .before .before .before .before .before .before .before .before .before .before .loop .inv) (c .before .before .before .before .before .before .before .before .before .before .before .before .before .before .before .before .before .pre .1 .0) (c .before .before .before .before .before .before .before .before .before .before .before .before .before .before .before .before .before .pre .1 .2) _ (c .before .before .before .before .before .before .before .before .before .before .before .find .ensures) _ (c .before .before .before .before .before .before .before .before .before .i .given .1) _ _ (c .before .before .before .before .before .before .before .offset .ensures .0) (c .before .before .before .before .before .before .count-at .ensures .0) _ _ (c .before .before .before .before .visit-nodes .ensures))
-    (λ c. c .before .loop .inv .long)
+    (λ c. going-more _ _ _ _ _ _ _ (c .before .before .before .before .before .before .before .before .before .before .before .before .before .before .loop .inv) (c .before .before .before .before .before .before .before .before .before .before .before .before .before .before .before .before .before .pre .1 .0) (c .before .before .before .before .before .before .before .before .before .before .before .before .before .before .before .before .before .pre .1 .2) _ (c .before .before .before .before .before .before .before .before .before .before .before .find .ensures) _ (c .before .before .before .before .before .before .before .before .before .i .given .1) _ _ (c .before .before .before .before .before .before .before .offset .ensures .0) (c .before .before .before .before .before .before .count-at .ensures .0) _ (c .before .before .before .before .visit-nodes .ensures))
+    (λ c. c .before .loop .inv .left .keeps .long)
     (λ c.
     let p = c .before .before .before .before .pre in
-    going-end _ _ _ _ _ _ _ _ _ (c .before .loop .inv) (p .1 .0) (p .1 .2) (c .loop-test .left))
+    going-end _ _ _ _ _ _ _ (c .before .loop .inv) (p .1 .0) (p .1 .2) (c .loop-test .left))
