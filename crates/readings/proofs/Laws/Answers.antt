@@ -79,7 +79,7 @@ visit-whole bs s l v x k e p h w z q =
     q
     ∙ ap (λ (i : ℕ). steps (under s bs i front) (scan v x)) e
     ∙ ap (λ (os : List Order). steps os (scan v x)) (walk-all s (orders-in bs) (orders-up s bs k))
-    ∙ ap (steps (orders-in bs)) (step-below front (scan v x) h (omega arith))
+    ∙ ap (steps (orders-in bs)) (step-below front (scan v x) (omega arith) (omega arith))
 
 -- COUNTING AND WRITING
 pub between-few : (lo hi : ℕ) (os : List Order) → length (between lo hi os) ≤ length os
@@ -101,7 +101,7 @@ module _ (bs : List ℕ) (image : is-image bs ≡ true) (lo hi : ℕ) where
   pub counted-all : (w : Visit) (x z : List ℕ) → scan w z ≡ steps (orders-in bs) (scan (starting lo hi 0 false false) x) →
       (w .found ≡ length (between lo hi (orders-in bs))) × (z ≡ x)
   counted-all w x z e =
-      let t = tally (orders-in bs) 1 (orders-up (sizes-in bs) bs (known-image bs image)) (starting lo hi 0 false false) x refl refl (omega (arith, few)) (λ q. absurd (omega (arith, no q))) in
+      let t = tally (starting lo hi 0 false false) x refl (orders-in bs) 1 (orders-up (sizes-in bs) bs (known-image bs image)) refl (omega (arith, few)) (λ q. absurd (omega (arith, no q))) in
       (ap (λ (y : Scan). y .visit .found) e ∙ t .found ∙ omega arith, ap (λ (y : Scan). y .output) e ∙ t .output)
     where
       no : false ≡ true → _≡_ {A = ℕ} 0 1
@@ -112,7 +112,7 @@ module _ (bs : List ℕ) (image : is-image bs ≡ true) (lo hi : ℕ) where
       (w .found ≡ length (between lo hi (orders-in bs))) × (z ≡ nodes-bytes (between lo hi (orders-in bs)) ++ drop (12 * length (between lo hi (orders-in bs))) x)
   written-all w x z room e =
       let os = between lo hi (orders-in bs) in
-      let t = tally (orders-in bs) 1 (orders-up (sizes-in bs) bs (known-image bs image)) (starting lo hi 0 true false) x refl refl (omega (arith, few)) (λ q. omega arith) in
+      let t = tally (starting lo hi 0 true false) x refl (orders-in bs) 1 (orders-up (sizes-in bs) bs (known-image bs image)) refl (omega (arith, few)) (λ q. omega arith) in
       let l = nodes-long (between lo hi (orders-in bs)) in
       let n : 0 + length (nodes-bytes (between lo hi (orders-in bs))) ≡ 12 * length (between lo hi (orders-in bs)) = omega arith in (
         ap (λ (y : Scan). y .visit .found) e ∙ t .found ∙ omega arith,
@@ -126,7 +126,7 @@ module _ (bs : List ℕ) (image : is-image bs ≡ true) (lo hi : ℕ) where
     answer : answer-of w ≡ first-enough least (between lo hi (orders-in bs))
     answer =
         ap (λ (y : Scan). answer-of (y .visit)) e
-        ∙ sought (orders-in bs) 1 (orders-up (sizes-in bs) bs (known-image bs image)) (starting lo hi least false true) x refl refl refl
+        ∙ sought (starting lo hi least false true) x refl refl refl (orders-in bs) 1 (orders-up (sizes-in bs) bs (known-image bs image))
 
     pub sought-none : w .found ≡ 0 → Nothing ≡ first-enough least (between lo hi (orders-in bs))
     sought-none f = sym (ap (λ (t : Bool). cond t Nothing (Is (record { key = w .key; total = w .total; displayed = w .displayed }))) (eq-eqb (w .found) 0 f)) ∙ answer

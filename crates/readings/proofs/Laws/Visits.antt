@@ -13,8 +13,9 @@ use Rattle.placement.specs.Chunks.{node-bytes}
 use Rattle.placement.specs.declared.Order.{Order}
 use Rattle.sizes.proofs.Laws.Numbers.{length-big}
 use Rattle.sizes.proofs.Laws.Parts.{sets-append}
+use Rattle.sizes.proofs.Laws.Sizes.{and-parts}
 use Rattle.skiplist.specs.Questions.{reserve}
-use Rattle.skiplist.proofs.Laws.Parts.{and-left, and-right, below}
+use Rattle.skiplist.proofs.Laws.Parts.{below}
 use Rattle.readings.specs.declared.Visit.{Visit}
 use Rattle.readings.specs.Visit.{Scan, scan, next-found, more-found, ended-visit, wanted-by, row-in, step-by, steps, passed-in}
 
@@ -133,26 +134,27 @@ row-length x a o = go (leb (a + 12) (length x))
     go true = length-sets x a (node-bytes o)
     go false = refl
 
--- a visit keeps that its range is one, and the output's length
+-- a visit keeps its range and the output's length
 pub record Keeps (x y : Scan) : Type 0 where
-  pub range : x .visit .lo ≤ x .visit .hi → y .visit .lo ≤ y .visit .hi
+  pub lo : y .visit .lo ≡ x .visit .lo
+  pub hi : y .visit .hi ≡ x .visit .hi
   pub long : length (y .output) ≡ length (x .output)
 
 pub keeps-all : (x : Scan) → Keeps x x
-keeps-all x = record { range = λ h. h; long = refl }
+keeps-all x = record { lo = refl; hi = refl; long = refl }
 
 pub keeps-on : (x y z : Scan) → Keeps x y → Keeps y z → Keeps x z
-keeps-on x y z p q = record { range = λ h. q .range (p .range h); long = q .long ∙ p .long }
+keeps-on x y z p q = record { lo = q .lo ∙ p .lo; hi = q .hi ∙ p .hi; long = q .long ∙ p .long }
 
-step-keeps : (o : Order) (x : Scan) → Keeps x (step-by o x)
+pub step-keeps : (o : Order) (x : Scan) → Keeps x (step-by o x)
 unfolding step-by more-found ended-visit
 step-keeps o x = go (x .visit .ended) (ltb (x .visit .hi) (o .key)) (wanted-by (x .visit) o) (x .visit .writes)
   where
     go : (a b c d : Bool) → Keeps x (as-told o (x .visit) (x .output) a b c d)
     go true b c d = keeps-all x
-    go false true c d = record { range = λ h. h; long = refl }
-    go false false true true = record { range = λ h. h; long = row-length (x .output) (12 * x .visit .found) o }
-    go false false true false = record { range = λ h. h; long = refl }
+    go false true c d = record { lo = refl; hi = refl; long = refl }
+    go false false true true = record { lo = refl; hi = refl; long = row-length (x .output) (12 * x .visit .found) o }
+    go false false true false = record { lo = refl; hi = refl; long = refl }
     go false false false d = keeps-all x
 
 pub steps-keep : (os : List Order) (x : Scan) → Keeps x (steps os x)
@@ -161,9 +163,9 @@ steps-keep [] x = keeps-all x
 steps-keep (o ∷ os) x = keeps-on x (step-by o x) (steps os (step-by o x)) (step-keeps o x) (steps-keep os (step-by o x))
 
 -- orders below the range do nothing
-pub step-below : (o : Order) (x : Scan) → x .visit .lo ≤ x .visit .hi → o .key < x .visit .lo → step-by o x ≡ x
+pub step-below : (o : Order) (x : Scan) → o .key < x .visit .lo → o .key ≤ x .visit .hi → step-by o x ≡ x
 unfolding step-by wanted-by
-step-below o x h l = rw (le-ltb (x .visit .hi) (o .key) (omega arith), lt-leb (x .visit .lo) (o .key) l) (go (x .visit .ended))
+step-below o x l h = rw (le-ltb (x .visit .hi) (o .key) h, lt-leb (x .visit .lo) (o .key) l) (go (x .visit .ended))
   where
     go : (t : Bool) → cond t x x ≡ x
     go true = refl
@@ -173,5 +175,6 @@ pub steps-below : (os : List Order) (k : ℕ) (x : Scan) → x .visit .lo ≤ x 
 unfolding steps below
 steps-below [] k x h l e = refl
 steps-below (o ∷ os) k x h l e =
-    ap (steps os) (step-below o x h (omega (arith, ltb-true (o .key) k (and-left (ltb (o .key) k) (below k os) e))))
-    ∙ steps-below os k x h l (and-right (ltb (o .key) k) (below k os) e)
+    let w = and-parts (ltb (o .key) k) (below k os) e in
+    let low = ltb-true (o .key) k (w .0) in
+    ap (steps os) (step-below o x (omega arith) (omega arith)) ∙ steps-below os k x h l (w .1)

@@ -47,22 +47,30 @@ row-up s os l ns u r =
     subst (Up 0) (sym (r .is)) (up-masked l 0 (r .own) (up-front (r .own) (r .behind) 0 (up-behind (r .before) (r .own ++ r .behind) 0 (subst (Up 0) (r .there) w))))
 
 -- the one that comes last
-last-of : Order → List Order → Order
+pub last-of : Order → List Order → Order
 last-of o [] = o
 last-of o (p ∷ ps) = last-of p ps
 
-last-up : (o : Order) (os : List Order) (a : ℕ) → Up a (o ∷ os) → o .key ≤ last-of o os .key
+-- ALL IN A RANGE
+abbrev pub Within : (lo hi : ℕ) → List Order → Type 0
+Within lo hi [] = Unit {0}
+Within lo hi (o ∷ os) = (lo ≤ o .key) × (o .key ≤ hi) × Within lo hi os
+
+-- .. where keys rise, by the first and the last of them
+within-last : (lo hi : ℕ) (o : Order) (os : List Order) → Up lo (o ∷ os) → last-of o os .key ≤ hi → Within lo hi (o ∷ os)
 unfolding last-of
-last-up o [] a u = omega arith
-last-up o (p ∷ ps) a u = let h = last-up p ps (suc (o .key)) (u .1) in omega (arith, u .1 .0)
+within-last lo hi o [] u h = (u .0, h, tt)
+within-last lo hi o (p ∷ ps) u h =
+    let w = within-last lo hi p ps (up-from (p ∷ ps) (omega (arith, u .0)) (u .1)) h in
+    (u .0, omega (arith, w .1, u .1 .0), w)
 
 -- so many more are found, the last of them this one
-abbrev jumped : Visit → (n : ℕ) → Order → Visit
+abbrev pub jumped : Visit → (n : ℕ) → Order → Visit
 jumped v n o =
     record { lo = v .lo; hi = v .hi; least = v .least; writes = v .writes; seeks = v .seeks; found = v .found + n; ended = v .ended; key = o .key; total = o .total; displayed = o .displayed }
 
 -- rows are written, or not
-abbrev rowed : Bool → List ℕ → (at : ℕ) → List Order → List ℕ
+abbrev pub rowed : Bool → List ℕ → (at : ℕ) → List Order → List ℕ
 rowed b x a ns = cond b (sets x a (nodes-bytes ns)) x
 
 -- ONE that is in the range
@@ -70,7 +78,7 @@ module _ (o : Order) (v : Visit) (x : List ℕ) (seeks : v .seeks ≡ false) (go
     (room : v .writes ≡ true → 12 * (v .found + 1) ≤ length x) where
   found-one : more-found o v ≡ jumped v 1 o
   unfolding more-found
-  found-one = λ i. record { lo = v .lo; hi = v .hi; least = v .least; writes = v .writes; seeks = v .seeks; found = sym (next-more (v .found) few) i; ended = (seeks ∙ sym goes-on) i; key = o .key; total = o .total; displayed = o .displayed }
+  found-one = rw (← next-more (v .found) few, seeks, goes-on)
 
   one-row : (b : Bool) → v .writes ≡ b → cond b (row-in x (12 * v .found) o) x ≡ rowed b x (12 * v .found) (o ∷ [])
   unfolding row-in rows
@@ -88,28 +96,25 @@ rows-join : (b : Bool) (x : List ℕ) (n : ℕ) (o : Order) (os : List Order) �
 unfolding rows
 rows-join false x n o os = refl
 rows-join true x n o os =
-    let e : 12 * n + 12 ≡ 12 * (n + 1) = omega arith in
-    rw append-nil (sym (sets-append x (12 * n) (node-bytes o) (nodes-bytes os) ∙ ap (λ (k : ℕ). sets (sets x (12 * n) (node-bytes o)) (12 * n + k) (nodes-bytes os)) (node-long o) ∙ ap (λ (k : ℕ). sets (sets x (12 * n) (node-bytes o)) k (nodes-bytes os)) e))
+    let e : 12 * (n + 1) ≡ 12 * n + length (node-bytes o) = omega (arith, node-long o) in
+    rw (append-nil, e) (sym (sets-append x (12 * n) (node-bytes o) (nodes-bytes os)))
 
 row-room : (b : Bool) (x : List ℕ) (a : ℕ) (ns : List Order) → length (rowed b x a ns) ≡ length x
 row-room false x a ns = refl
 row-room true x a ns = length-sets x a (nodes-bytes ns)
 
 -- ALL OF THEM
-steps-whole : (o : Order) (os : List Order) (v : Visit) (x : List ℕ) (b : Bool) → v .writes ≡ b → v .seeks ≡ false → v .ended ≡ false → Up (v .lo) (o ∷ os) → last-of o os .key ≤ v .hi →
+pub steps-whole : (o : Order) (os : List Order) (v : Visit) (x : List ℕ) (b : Bool) → v .writes ≡ b → v .seeks ≡ false → v .ended ≡ false → Within (v .lo) (v .hi) (o ∷ os) →
     v .found + suc (length os) ≤ 65535 → (v .writes ≡ true → 12 * (v .found + suc (length os)) ≤ length x) →
     steps (o ∷ os) (scan v x) ≡ scan (jumped v (suc (length os)) (last-of o os)) (rowed b x (12 * v .found) (o ∷ os))
 unfolding steps last-of
-steps-whole o [] v x b eb k g u h f r = step-one o v x k g (u .0) h (omega arith) (λ e. omega (arith, r e)) b eb
-steps-whole o (p ∷ ps) v x b eb k g u h f r =
-    let one = step-one o v x k g (u .0) (omega (arith, last-up o (p ∷ ps) (v .lo) u)) (omega arith) (λ e. omega (arith, r e)) b eb in
+steps-whole o [] v x b eb k g w f r = step-one o v x k g (w .0) (w .1) (omega arith) (λ e. omega (arith, r e)) b eb
+steps-whole o (p ∷ ps) v x b eb k g w f r =
+    let one = step-one o v x k g (w .0) (w .1) (omega arith) (λ e. omega (arith, r e)) b eb in
     let y = rowed b x (12 * v .found) (o ∷ []) in
-    let more = steps-whole p ps (jumped v 1 o) y b eb k g (up-from (p ∷ ps) (omega (arith, u .0)) (u .1)) h (omega arith) (λ e. omega (arith, r e, row-room b x (12 * v .found) (o ∷ []))) in
+    let more = steps-whole p ps (jumped v 1 o) y b eb k g (w .2) (omega arith) (λ e. omega (arith, r e, row-room b x (12 * v .found) (o ∷ []))) in
     let n : v .found + 1 + suc (length ps) ≡ v .found + suc (suc (length ps)) = omega arith in
-    ap (steps (p ∷ ps)) one
-    ∙ more
-    ∙ ap (λ (z : List ℕ). scan (jumped (jumped v 1 o) (suc (length ps)) (last-of p ps)) z) (rows-join b x (v .found) o (p ∷ ps))
-    ∙ (λ i. scan (record { lo = v .lo; hi = v .hi; least = v .least; writes = v .writes; seeks = v .seeks; found = n i; ended = v .ended; key = last-of p ps .key; total = last-of p ps .total; displayed = last-of p ps .displayed }) (rowed b x (12 * v .found) (o ∷ p ∷ ps)))
+    ap (steps (p ∷ ps)) one ∙ more ∙ rw (n, rows-join b x (v .found) o (p ∷ ps))
 
 -- NODES IN BYTES: the last of them
 last-node : (bs : List ℕ) (a j : ℕ) → last-of (node-of bs a) (nodes-from j (drop (a + 12) bs)) ≡ node-of bs (a + 12 * j)
@@ -148,7 +153,7 @@ module _ (s : Sizes) (bs : List ℕ) (a j : ℕ) (v : Visit) (x : List ℕ) (k :
   together : (b : Bool) → v .writes ≡ b → steps (all-under s bs 0 (nodes-from j (drop a bs))) (scan v x) ≡ scan (jumped v j o) (rowed b x (12 * v .found) (nodes-from j (drop a bs)))
   together b eb =
       ap (λ (z : List Order). steps z (scan v x)) (all-orders s bs (nodes-from j (drop a bs)) ∙ parts)
-      ∙ steps-whole (node-of bs a) ns v x b eb (w .counts) (w .goes-on) rising high (omega (arith, w .few, many)) (λ e. omega (arith, w .held e, many))
+      ∙ steps-whole (node-of bs a) ns v x b eb (w .counts) (w .goes-on) (within-last _ _ _ _ rising high) (omega (arith, w .few, many)) (λ e. omega (arith, w .held e, many))
       ∙ ap (λ (z : List Order). scan (jumped v (suc (length ns)) (last-of (node-of bs a) ns)) (rowed b x (12 * v .found) z)) (sym parts)
       ∙ ap (λ (q : Order). scan (jumped v (suc (length ns)) q) (rowed b x (12 * v .found) (nodes-from j (drop a bs)))) last
       ∙ ap (λ (n : ℕ). scan (jumped v n o) (rowed b x (12 * v .found) (nodes-from j (drop a bs)))) many

@@ -87,7 +87,7 @@ pub +visit-nodes+visit-partition-spec : {M : Type 1} → statement M
     (λ c κs.
     let d = c .before .before .before .before in
     let p = d .before .before .before .before .before .pre in
-    (omega (arith, p .0, p .1 .1), (p .1 .0, two-least _ (p .1 .1) (d .before .if1 .left), omega (arith, p .1 .2), d .loop .inv .left .keeps .range (p .1 .3))))
+    (omega (arith, p .0, p .1 .1), (p .1 .0, two-least _ (p .1 .1) (d .before .if1 .left), omega (arith, p .1 .2), omega (arith, p .1 .3, d .loop .inv .left .keeps .lo, d .loop .inv .left .keeps .hi))))
     (λ c. search laws)
     (λ c. search laws)
     (λ c. search laws)
@@ -111,7 +111,7 @@ pub +visit-nodes+visit-partition-spec : {M : Type 1} → statement M
     (λ c. search laws)
     (λ c κs.
     let p = c .before .before .before .before .before .before .before .before .before .before .before .before .pre in
-    (omega (arith, p .0), (p .1 .0, p .1 .1, p .1 .2, c .before .before .before .before .before .before .before .before .before .loop .inv .left .keeps .range (p .1 .3), chunk-room _ _ _ _ _ _ _ (c .before .before .before .before .before .before .before .before .before .loop .inv) (c .before .before .before .before .before .before .before .before .before .before .before .before .pre .1 .0) (c .before .before .before .before .before .before .before .before .before .before .before .before .pre .1 .2) _ (c .before .before .before .before .before .before .find .ensures) _ (c .before .before .before .before .i .given .1) _ _ (c .before .before .offset .ensures .0) (c .before .count-at .ensures .0) (c .before .before .offset .ensures .1), chunk-row _ _ _ _ _ _ _ (c .before .before .before .before .before .before .before .before .before .loop .inv) (c .before .before .before .before .before .before .before .before .before .before .before .before .pre .1 .0) (c .before .before .before .before .before .before .before .before .before .before .before .before .pre .1 .2) _ (c .before .before .before .before .before .before .find .ensures) _ (c .before .before .before .before .i .given .1) _ _ (c .before .before .offset .ensures .0) (c .before .count-at .ensures .0))))
+    (omega (arith, p .0), (p .1 .0, p .1 .1, p .1 .2, omega (arith, p .1 .3, c .before .before .before .before .before .before .before .before .before .loop .inv .left .keeps .lo, c .before .before .before .before .before .before .before .before .before .loop .inv .left .keeps .hi), chunk-room _ _ _ _ _ _ _ (c .before .before .before .before .before .before .before .before .before .loop .inv) (c .before .before .before .before .before .before .before .before .before .before .before .before .pre .1 .0) (c .before .before .before .before .before .before .before .before .before .before .before .before .pre .1 .2) _ (c .before .before .before .before .before .before .find .ensures) _ (c .before .before .before .before .i .given .1) _ _ (c .before .before .offset .ensures .0) (c .before .count-at .ensures .0) (c .before .before .offset .ensures .1), chunk-row _ _ _ _ _ _ _ (c .before .before .before .before .before .before .before .before .before .loop .inv) (c .before .before .before .before .before .before .before .before .before .before .before .before .pre .1 .0) (c .before .before .before .before .before .before .before .before .before .before .before .before .pre .1 .2) _ (c .before .before .before .before .before .before .find .ensures) _ (c .before .before .before .before .i .given .1) _ _ (c .before .before .offset .ensures .0) (c .before .count-at .ensures .0))))
     (λ c. length-kept _ _ _ _ _ (c .before .before .before .before .visit-nodes .ensures) ∙ c .before .before .before .before .before .before .before .before .before .before .before .before .before .before .loop .inv .left .keeps .long)
     (λ c. going-stop _ _ _ _ _ _ _ (c .before .before .before .before .before .before .before .before .before .before .before .before .before .before .loop .inv) (c .before .before .before .before .before .before .before .before .before .before .before .before .before .before .before .before .before .pre .1 .0) (c .before .before .before .before .before .before .before .before .before .before .before .before .before .before .before .before .before .pre .1 .2) _ (c .before .before .before .before .before .before .before .before .before .before .before .find .ensures) _ (c .before .before .before .before .before .before .before .before .before .i .given .1) _ _ (c .before .before .before .before .before .before .before .offset .ensures .0) (c .before .before .before .before .before .before .count-at .ensures .0) _ (c .before .before .before .before .visit-nodes .ensures) (c .if2 .taken))
     (λ c. search laws)
