@@ -6,42 +6,39 @@ use Prim.Native.Nat.{ℕ, zero, suc, _*_, _≤_, _<_}
 use native.Mathlib.Omega.{arith}
 use lib.Dec.{ltb, leb, eqb}
 use lib.ListN.{length}
-use borrow.Author.Tests.{leb-true, eqb-true, eq-eqb, ne-eqb, le-leb, lt-leb}
+use borrow.Author.Tests.{leb-true, leb-false, eq-eqb, ne-eqb, le-leb, lt-leb}
 use Rattle.sizes.specs.Sizes.{prime}
 use Rattle.sizes.specs.Header.{sizes-in}
 use Rattle.placement.specs.declared.Order.{Order}
 use Rattle.skiplist.specs.Image.{is-image, orders-in}
-use Rattle.skiplist.specs.Questions.{Question, ask, first-no, is-key, held, between, reserve, any-reserve, asks-image, asks-key, asks-range, asks-span, asks-seek}
-use Rattle.skiplist.specs.Book.{asks, refusal}
+use Rattle.skiplist.specs.Questions.{ask, first-no, is-key, held, between, reserve, any-reserve, asks-image, asks-key, asks-range, asks-span, asks-seek}
+use Rattle.skiplist.specs.Book.{check, asks, refusal}
 use Rattle.skiplist.proofs.Laws.Parts.{Up, and-left, up-past}
 use Rattle.skiplist.proofs.Laws.Shapes.{held-there}
 use Rattle.skiplist.proofs.Laws.Opens.{Spot, nothing}
+use Rattle.skiplist.proofs.Laws.Questions.{passes}
+use Rattle.skiplist.proofs.Laws.Third.{taken}
 use Rattle.readings.specs.declared.Visit.{Visit}
 use Rattle.table.specs.declared.Reply.{Reply}
 use Rattle.readings.specs.declared.calls.Sought.{Sought}
 use Rattle.readings.specs.declared.calls.Sought.the-variants.{Is, Nothing}
-use Rattle.table.specs.Calls.{says, check-number, total-of, displayed-of, Look-as, Look-says, Span-as, Span-says, Seek-as, Seek-says}
+use Rattle.table.specs.Calls.{says, check-number, Look-as, Look-says, Span-as, Span-says, Seek-as, Seek-says}
+use Rattle.table.proofs.Laws.Alike.{Tells, here, there}
 use Rattle.readings.specs.Visit.{scan, starting, steps, first-enough, reply-of}
 use Rattle.readings.proofs.Laws.Chunked.{orders-up}
 use Rattle.readings.proofs.Laws.Answers.{known-image, counted-all, written-all}
 
 -- QUESTION 4
-check-is : (bs : List ℕ) (t : Bool) → is-image bs ≡ t → check-number bs ≡ cond t 0 4
-unfolding check-number refusal asks first-no asks-image
-check-is bs t e = rw e
-
 pub checked-yes : (bs : List ℕ) (n : ℕ) → n ≡ check-number bs → n ≡ 0 → is-image bs ≡ true
-checked-yes bs n e z = go (is-image bs) refl
-  where
-    go : (t : Bool) → is-image bs ≡ t → t ≡ true
-    go true q = refl
-    go false q = absurd (omega (arith, check-is bs false q))
+unfolding check-number
+checked-yes bs n e z = taken check bs (sym e ∙ z) .0
 
 pub checked-no : (bs : List ℕ) (n : ℕ) → n ≡ check-number bs → (n ≡ 0 → ⊥) → is-image bs ≡ false
-checked-no bs n e z = go (is-image bs) refl
+unfolding check-number refusal asks first-no asks-image
+checked-no bs n e z = go (is-image bs) e
   where
-    go : (t : Bool) → is-image bs ≡ t → t ≡ false
-    go true q = absurd (z (e ∙ check-is bs true q))
+    go : (t : Bool) → n ≡ cond t 0 4 → t ≡ false
+    go true q = absurd (z q)
     go false q = refl
 
 pub key-least : (k : ℕ) (b : Bool) → b ≡ is-key k → b ≡ true → 1 ≤ k
@@ -112,22 +109,16 @@ between-inside lo hi o B (q ∷ os) A e = go (between-inside lo hi o B os) (leb 
 pub spot-inside : (lo hi : ℕ) (o : Order) (os : List Order) → Spot o (between lo hi os) → Inside lo hi o os
 spot-inside lo hi o os w = between-inside lo hi o (w .behind) os (w .before) (w .is)
 
-own-total : (xs : List Order) (y : Order) (zs : List Order) (a : ℕ) → Up a (xs ++ y ∷ zs) → total-of (y .key) (xs ++ y ∷ zs) ≡ y .total
-unfolding total-of
-own-total [] y zs a u = rw (eq-eqb (y .key) (y .key) refl)
-own-total (x ∷ xs) y zs a u = rw (ne-eqb (x .key) (y .key) (omega (arith, up-past xs y zs _ (u .1)))) (own-total xs y zs _ (u .1))
+-- what the orders tell of the key of one of them
+own-tells : (xs : List Order) (y : Order) (zs : List Order) (a : ℕ) → Up a (xs ++ y ∷ zs) → Tells (y .key) (y .total) (y .displayed) (xs ++ y ∷ zs)
+own-tells [] y zs a u = here y zs
+own-tells (x ∷ xs) y zs a u =
+    let t = there (y .key) x (xs ++ y ∷ zs) (λ e. omega (arith, up-past xs y zs _ (u .1))) in
+    let w = own-tells xs y zs _ (u .1) in
+    (t .0 ∙ w .0, t .1 ∙ w .1, t .2 ∙ w .2)
 
-own-displayed : (xs : List Order) (y : Order) (zs : List Order) (a : ℕ) → Up a (xs ++ y ∷ zs) → displayed-of (y .key) (xs ++ y ∷ zs) ≡ y .displayed
-unfolding displayed-of
-own-displayed [] y zs a u = rw (eq-eqb (y .key) (y .key) refl)
-own-displayed (x ∷ xs) y zs a u = rw (ne-eqb (x .key) (y .key) (omega (arith, up-past xs y zs _ (u .1)))) (own-displayed xs y zs _ (u .1))
-
-module _ (os : List Order) (a : ℕ) (u : Up a os) (o : Order) (w : Spot o os) where
-  pub spot-total : o .total ≡ total-of (o .key) os
-  spot-total = sym (ap (total-of (o .key)) (w .is) ∙ own-total (w .before) o (w .behind) a (subst (Up a) (w .is) u))
-
-  pub spot-displayed : o .displayed ≡ displayed-of (o .key) os
-  spot-displayed = sym (ap (displayed-of (o .key)) (w .is) ∙ own-displayed (w .before) o (w .behind) a (subst (Up a) (w .is) u))
+spot-tells : (os : List Order) (a : ℕ) → Up a os → (o : Order) → Spot o os → Tells (o .key) (o .total) (o .displayed) os
+spot-tells os a u o w = subst (Tells (o .key) (o .total) (o .displayed)) (sym (w .is)) (own-tells (w .before) o (w .behind) a (subst (Up a) (w .is) u))
 
 pub spot-held : (o : Order) (os : List Order) → Spot o os → held (o .key) os ≡ true
 spot-held o os w = ap (held (o .key)) (w .is) ∙ held-there (w .before) o (w .behind)
@@ -135,43 +126,33 @@ spot-held o os w = ap (held (o .key)) (w .is) ∙ held-there (w .before) o (w .b
 pub none-held : (k : ℕ) (os : List Order) → between k k os ≡ [] → held k os ≡ false
 unfolding between held
 none-held k [] e = refl
-none-held k (o ∷ os) e = go (none-held k os) (eqb (o .key) k) refl
+none-held k (o ∷ os) e = go (none-held k os) (leb k (o .key)) refl (leb (o .key) k) refl e
   where
-    go : (between k k os ≡ [] → held k os ≡ false) → (t : Bool) → eqb (o .key) k ≡ t → (t || held k os) ≡ false
-    go ih true q =
-        let z = eqb-true (o .key) k q in
-        let f : (leb k (o .key) && leb (o .key) k) ≡ true = rw (le-leb k (o .key) (omega arith), le-leb (o .key) k (omega arith)) in
-        absurd (omega (arith, ap length (rw f at e)))
-    go ih false q = ih (skip (leb k (o .key) && leb (o .key) k) e)
-      where
-        skip : (t : Bool) → cond t (o ∷ between k k os) (between k k os) ≡ [] → between k k os ≡ []
-        skip true f = absurd (omega (arith, ap length f))
-        skip false f = f
+    go : (between k k os ≡ [] → held k os ≡ false) → (a : Bool) → leb k (o .key) ≡ a → (b : Bool) → leb (o .key) k ≡ b →
+        cond (a && b) (o ∷ between k k os) (between k k os) ≡ [] → (eqb (o .key) k || held k os) ≡ false
+    go ih true p true q e = absurd (omega (arith, ap length e))
+    go ih true p false q e = rw (ne-eqb (o .key) k (λ z. omega (arith, leb-false (o .key) k q))) (ih e)
+    go ih false p b q e = rw (ne-eqb (o .key) k (λ z. omega (arith, leb-false k (o .key) p))) (ih e)
 
 -- LOOKUP
 module _ (bs : List ℕ) (k : ℕ) (r : Reply) where
-  look-number : (a b c : Bool) → is-image bs ≡ a → is-key k ≡ b → held k (orders-in bs) ≡ c →
-      first-no (asks-image bs ++ asks-key k (orders-in bs)) ≡ cond a (cond b (cond c 0 9) 5) 4
-  unfolding first-no asks-image asks-key
-  look-number a b c ea eb ec = rw (ea, eb, ec)
-
-  look-by : (n : ℕ) → first-no (asks-image bs ++ asks-key k (orders-in bs)) ≡ n → Look-as n k (orders-in bs) r → Look-says bs k r
-  unfolding Look-says refusal asks
-  look-by n e h = subst (λ (i : ℕ). Look-as i k (orders-in bs) r) (sym e) h
+  look-by : (a b c : Bool) → is-image bs ≡ a → is-key k ≡ b → held k (orders-in bs) ≡ c → Look-as (cond a (cond b (cond c 0 9) 5) 4) k (orders-in bs) r → Look-says bs k r
+  unfolding Look-says refusal asks first-no asks-image asks-key
+  look-by a b c ea eb ec h = rw (ea, eb, ec) h
 
   pub look-4 : is-image bs ≡ false → says 4 0 0 0 r → Look-says bs k r
   unfolding Look-as
-  look-4 e h = look-by 4 (look-number false _ _ e refl refl) h
+  look-4 e h = look-by false _ _ e refl refl h
 
   module _ (image : is-image bs ≡ true) (b : Bool) (eb : b ≡ is-key k) where
     pub look-5 : b ≡ false → says 5 0 0 0 r → Look-says bs k r
     unfolding Look-as
-    look-5 e h = look-by 5 (look-number true false _ image (sym eb ∙ e) refl) h
+    look-5 e h = look-by true false _ image (sym eb ∙ e) refl h
 
     module _ (e : b ≡ true) (q : Sought) (eq : q ≡ first-enough 0 (between k k (orders-in bs))) where
       pub look-9 : q ≡ Nothing → says 9 0 0 0 r → Look-says bs k r
       unfolding Look-as
-      look-9 z h = look-by 9 (look-number true true false image (sym eb ∙ e) (none-held k (orders-in bs) (first-empty (between k k (orders-in bs)) (sym z ∙ eq)))) h
+      look-9 z h = look-by true true false image (sym eb ∙ e) (none-held k (orders-in bs) (first-empty (between k k (orders-in bs)) (sym z ∙ eq))) h
 
       pub look-found : (o : Order) → q ≡ Is o → r ≡ reply-of o → Look-says bs k r
       unfolding Look-as says
@@ -179,13 +160,8 @@ module _ (bs : List ℕ) (k : ℕ) (r : Reply) where
           let f = first-is 0 (between k k (orders-in bs)) o (sym z ∙ eq) in
           let w = spot-inside k k o (orders-in bs) (f .spot) in
           let s : o .key ≡ k = omega (arith, w .low, w .high) in
-          let u = orders-up (sizes-in bs) bs (known-image bs image) in
-          look-by 0 (look-number true true true image (sym eb ∙ e) (ap (λ (i : ℕ). held i (orders-in bs)) (sym s) ∙ spot-held o (orders-in bs) (w .spot))) (
-            ap (λ (x : Reply). x .number) h,
-            ap (λ (x : Reply). x .key) h ∙ s,
-            ap (λ (x : Reply). x .total) h ∙ spot-total (orders-in bs) 1 u o (w .spot) ∙ ap (λ (i : ℕ). total-of i (orders-in bs)) s,
-            ap (λ (x : Reply). x .displayed) h ∙ spot-displayed (orders-in bs) 1 u o (w .spot) ∙ ap (λ (i : ℕ). displayed-of i (orders-in bs)) s,
-          )
+          let t = rw s at (spot-tells (orders-in bs) 1 (orders-up (sizes-in bs) bs (known-image bs image)) o (w .spot)) in
+          look-by true true true image (sym eb ∙ e) (t .0) (rw h (refl, s, sym (t .1), sym (t .2)))
 
 -- THE QUESTIONS OF A RANGE, which span and seek share
 module _ (bs : List ℕ) (lo hi : ℕ) where
@@ -211,42 +187,31 @@ module _ (bs : List ℕ) (lo hi : ℕ) where
       pub range-good : c ≡ true → lo ≤ hi → 0 ≡ first-no (asks-image bs ++ asks-range lo hi)
       range-good f l = sym (range-number true true true true image (sym eb ∙ e) (sym ec ∙ f) (le-leb lo hi l))
 
-  -- a range that no question turns down
-  pub record In-range : Type 0 where
-    pub image : is-image bs ≡ true
-    pub low : is-key lo ≡ true
-    pub high : is-key hi ≡ true
-    pub rising : lo ≤ hi
-
+  -- .. and what they leave of one question more
   module _ (n : ℕ) (en : n ≡ first-no (asks-image bs ++ asks-range lo hi)) where
-    pub in-range : n ≡ 0 → In-range
-    in-range z = go (is-image bs) refl (is-key lo) refl (is-key hi) refl (leb lo hi) refl
-      where
-        go : (a : Bool) → is-image bs ≡ a → (b : Bool) → is-key lo ≡ b → (c : Bool) → is-key hi ≡ c → (d : Bool) → leb lo hi ≡ d → In-range
-        go true ea true eb true ec true ed = record { image = ea; low = eb; high = ec; rising = leb-true lo hi ed }
-        go true ea true eb true ec false ed = absurd (omega (arith, range-number true true true false ea eb ec ed))
-        go true ea true eb false ec d ed = absurd (omega (arith, range-number true true false d ea eb ec ed))
-        go true ea false eb c ec d ed = absurd (omega (arith, range-number true false c d ea eb ec ed))
-        go false ea b eb c ec d ed = absurd (omega (arith, range-number false b c d ea eb ec ed))
-
     pub range-asked : n ≡ 0 → (is-image bs ≡ true) × (1 ≤ lo) × (lo ≤ hi)
-    range-asked z = let w = in-range z in (w .image, key-least lo true (sym (w .low)) refl, w .rising)
+    unfolding first-no asks-image asks-range
+    range-asked z =
+        let a = passes 3 (is-image bs) _ (sym en ∙ z) in
+        let b = passes 4 (is-key lo && is-key hi) _ (a .1) in
+        let c = passes 9 (leb lo hi) 0 (b .1) in
+        (a .0, key-least lo (is-key lo) refl (and-left (is-key lo) (is-key hi) (b .0)), leb-true lo hi (c .0))
 
--- the first question that turns a call down is the first of more questions too
-turned-down : (qs rs : List Question) → (first-no qs ≡ 0 → ⊥) → first-no (qs ++ rs) ≡ first-no qs
-unfolding first-no
-turned-down [] rs h = absurd (h refl)
-turned-down (ask n t ∷ qs) rs h = go (turned-down qs rs) t h
-  where
-    go : ((first-no qs ≡ 0 → ⊥) → first-no (qs ++ rs) ≡ first-no qs) → (t : Bool) → (cond t (first-no qs) n ≡ 0 → ⊥) → cond t (first-no (qs ++ rs)) n ≡ cond t (first-no qs) n
-    go ih true h = ih h
-    go ih false h = refl
+    range-more : (m : ℕ) (t : Bool) → first-no (asks-image bs ++ (asks-range lo hi ++ ask m t ∷ [])) ≡ cond (eqb n 0) (cond t 0 m) n
+    unfolding first-no asks-image asks-range
+    range-more m t = go (is-image bs) (is-key lo && is-key hi) (leb lo hi) en
+      where
+        go : (a b c : Bool) → n ≡ cond a (cond b (cond c 0 10) 5) 4 → cond a (cond b (cond c (cond t 0 m) 10) 5) 4 ≡ cond (eqb n 0) (cond t 0 m) n
+        go true true true e = rw e
+        go true true false e = rw e
+        go true false c e = rw e
+        go false b c e = rw e
 
 -- SEEK
 module _ (bs : List ℕ) (lo hi least : ℕ) (r : Reply) (n : ℕ) (en : n ≡ first-no (asks-image bs ++ asks-range lo hi)) where
-  seek-by : (i : ℕ) → first-no (asks-image bs ++ asks-seek lo hi least (orders-in bs)) ≡ i → Seek-as i (orders-in bs) lo hi least r → Seek-says bs lo hi least r
-  unfolding Seek-says refusal asks
-  seek-by i e h = subst (λ (j : ℕ). Seek-as j (orders-in bs) lo hi least r) (sym e) h
+  seek-by : (i : ℕ) → cond (eqb n 0) (cond (any-reserve least (between lo hi (orders-in bs))) 0 12) n ≡ i → Seek-as i (orders-in bs) lo hi least r → Seek-says bs lo hi least r
+  unfolding Seek-says refusal asks asks-seek
+  seek-by i e h = subst (λ (j : ℕ). Seek-as j (orders-in bs) lo hi least r) (sym (range-more bs lo hi n en 12 _ ∙ e)) h
 
   refused-seek : (i : ℕ) → (i ≡ 0 → ⊥) → says i 0 0 0 r → Seek-as i (orders-in bs) lo hi least r
   unfolding Seek-as
@@ -254,38 +219,33 @@ module _ (bs : List ℕ) (lo hi least : ℕ) (r : Reply) (n : ℕ) (en : n ≡ f
   refused-seek (suc i) z h = h
 
   pub seek-turned : (n ≡ 0 → ⊥) → says n 0 0 0 r → Seek-says bs lo hi least r
-  unfolding asks-image asks-seek
-  seek-turned z h =
-      seek-by n (turned-down (asks-image bs ++ asks-range lo hi) (ask 12 (any-reserve least (between lo hi (orders-in bs))) ∷ []) (λ q. z (en ∙ q)) ∙ sym en) (refused-seek n z h)
+  seek-turned z h = seek-by n (rw (ne-eqb n 0 z)) (refused-seek n z h)
 
   module _ (z : n ≡ 0) (q : Sought) (eq : q ≡ first-enough least (between lo hi (orders-in bs))) where
-    seek-number : (f : Bool) → any-reserve least (between lo hi (orders-in bs)) ≡ f → first-no (asks-image bs ++ asks-seek lo hi least (orders-in bs)) ≡ cond f 0 12
-    unfolding first-no asks-image asks-seek asks-range
-    seek-number f ef = let w = in-range bs lo hi n en z in rw (w .image, w .low, w .high, le-leb lo hi (w .rising), ef)
-
     pub seek-12 : q ≡ Nothing → says 12 0 0 0 r → Seek-says bs lo hi least r
-    seek-12 e h = seek-by 12 (seek-number false (first-none least (between lo hi (orders-in bs)) (sym e ∙ eq))) (refused-seek 12 (omega arith) h)
+    seek-12 e h = seek-by 12 (rw (eq-eqb n 0 z, first-none least (between lo hi (orders-in bs)) (sym e ∙ eq))) (refused-seek 12 (omega arith) h)
 
     pub seek-found : (o : Order) → q ≡ Is o → r ≡ reply-of o → Seek-says bs lo hi least r
     unfolding Seek-as
     seek-found o e h =
         let g = first-is least (between lo hi (orders-in bs)) o (sym e ∙ eq) in
         let w = spot-inside lo hi o (orders-in bs) (g .spot) in
-        let u = orders-up (sizes-in bs) bs (known-image bs (in-range bs lo hi n en z .image)) in
-        seek-by 0 (seek-number true (g .any))
+        let t = spot-tells (orders-in bs) 1 (orders-up (sizes-in bs) bs (known-image bs (range-asked bs lo hi n en z .0))) o (w .spot) in
+        seek-by 0 (rw (eq-eqb n 0 z, g .any))
         (subst (λ (x : Reply). Seek-as 0 (orders-in bs) lo hi least x) (sym h) (record {
           number = refl;
           held-there = spot-held o (between lo hi (orders-in bs)) (g .spot);
-          own-total = spot-total (orders-in bs) 1 u o (w .spot);
-          own-displayed = spot-displayed (orders-in bs) 1 u o (w .spot);
+          own-total = sym (t .1);
+          own-displayed = sym (t .2);
           enough = g .enough;
         }))
 
 -- SPAN
 module _ (bs : List ℕ) (lo hi : ℕ) (r : Reply) (x : List ℕ) (n : ℕ) (en : n ≡ first-no (asks-image bs ++ asks-range lo hi)) where
-  span-by : (z : List ℕ) (i : ℕ) → first-no (asks-image bs ++ asks-span lo hi (length x) (orders-in bs)) ≡ i → Span-as i (between lo hi (orders-in bs)) r x z → Span-says bs lo hi r x z
-  unfolding Span-says refusal asks
-  span-by z i e h = subst (λ (j : ℕ). Span-as j (between lo hi (orders-in bs)) r x z) (sym e) h
+  span-by : (z : List ℕ) (i : ℕ) → cond (eqb n 0) (cond (leb (12 * length (between lo hi (orders-in bs))) (length x)) 0 11) n ≡ i →
+      Span-as i (between lo hi (orders-in bs)) r x z → Span-says bs lo hi r x z
+  unfolding Span-says refusal asks asks-span
+  span-by z i e h = subst (λ (j : ℕ). Span-as j (between lo hi (orders-in bs)) r x z) (sym (range-more bs lo hi n en 11 _ ∙ e)) h
 
   refused-span : (i : ℕ) → (i ≡ 0 → ⊥) → says i 0 0 0 r → (z : List ℕ) → z ≡ x → Span-as i (between lo hi (orders-in bs)) r x z
   unfolding Span-as
@@ -293,31 +253,25 @@ module _ (bs : List ℕ) (lo hi : ℕ) (r : Reply) (x : List ℕ) (n : ℕ) (en 
   refused-span (suc i) p h z e = (h, e)
 
   pub span-turned : (n ≡ 0 → ⊥) → says n 0 0 0 r → Span-says bs lo hi r x x
-  unfolding asks-image asks-span
-  span-turned p h =
-      span-by x n (turned-down (asks-image bs ++ asks-range lo hi) (ask 11 (leb (12 * length (between lo hi (orders-in bs))) (length x)) ∷ []) (λ q. p (en ∙ q)) ∙ sym en) (refused-span n p h x refl)
+  span-turned p h = span-by x n (rw (ne-eqb n 0 p)) (refused-span n p h x refl)
 
   -- it counts, and then writes into the output that it has left as it was
   module _ (p : n ≡ 0) (v : Visit) (y : List ℕ) (ev : scan v y ≡ steps (orders-in bs) (scan (starting lo hi 0 false false) x)) where
-    span-number : (f : Bool) → leb (12 * length (between lo hi (orders-in bs))) (length x) ≡ f → first-no (asks-image bs ++ asks-span lo hi (length x) (orders-in bs)) ≡ cond f 0 11
-    unfolding first-no asks-image asks-span asks-range
-    span-number f ef = let w = in-range bs lo hi n en p in rw (w .image, w .low, w .high, le-leb lo hi (w .rising), ef)
-
     many : (v .found ≡ length (between lo hi (orders-in bs))) × (y ≡ x)
-    many = counted-all bs (in-range bs lo hi n en p .image) lo hi v x y ev
+    many = counted-all bs (range-asked bs lo hi n en p .0) lo hi v x y ev
 
     pub span-11 : length y < 12 * v .found → says 11 0 0 0 r → Span-says bs lo hi r x y
     span-11 h g =
         let short : length x < 12 * length (between lo hi (orders-in bs)) = omega (arith, many .0, ap length (many .1)) in
-        span-by y 11 (span-number false (lt-leb _ _ short)) (refused-span 11 (omega arith) g y (many .1))
+        span-by y 11 (rw (eq-eqb n 0 p, lt-leb _ _ short)) (refused-span 11 (omega arith) g y (many .1))
 
     pub span-written : 12 * v .found ≤ length y → (w : Visit) (z : List ℕ) → scan w z ≡ steps (orders-in bs) (scan (starting lo hi 0 true false) y) →
         r ≡ record { number = 0; key = 0; total = w .found; displayed = 0 } → Span-says bs lo hi r x z
     unfolding Span-as says
     span-written h w z ew er =
         let room : 12 * length (between lo hi (orders-in bs)) ≤ length x = omega (arith, many .0, ap length (many .1)) in
-        let g = written-all bs (in-range bs lo hi n en p .image) lo hi w x z room (ew ∙ ap (λ (q : List ℕ). steps (orders-in bs) (scan (starting lo hi 0 true false) q)) (many .1)) in
-        span-by z 0 (span-number true (le-leb _ _ room)) (
-          (ap (λ (q : Reply). q .number) er, ap (λ (q : Reply). q .key) er, ap (λ (q : Reply). q .total) er ∙ g .0, ap (λ (q : Reply). q .displayed) er),
+        let g = written-all bs (range-asked bs lo hi n en p .0) lo hi w x z room (rw (many .1) at ew) in
+        span-by z 0 (rw (eq-eqb n 0 p, le-leb _ _ room)) (
+          rw er (refl, refl, g .0, refl),
           g .1,
         )
