@@ -1,6 +1,6 @@
 -- A visit of a whole table, and what it answers: the number of orders in a range, their rows, the first that has a reserve.
 use mathlib.Core.Path.{_≡_, refl, sym, ap, _∙_, subst}
-use mathlib.Core.Bool.{Bool, true, false, _&&_, cond}
+use mathlib.Core.Bool.{Bool, true, false, _&&_, cond, false≢true}
 use mathlib.Core.List.{List, [], _∷_, _++_}
 use Prim.Native.Nat.{ℕ, _+_, _*_, _≤_, _<_}
 use native.Mathlib.Omega.{arith}
@@ -9,27 +9,26 @@ use lib.ListN.{length, drop}
 use lib.Seq.{sets-eq}
 use borrow.Author.Tests.{eq-eqb, ne-eqb, le-leb}
 use Rattle.sizes.specs.Sizes.{prime, beta}
-use Rattle.sizes.specs.Header.{header, sizes-in}
+use Rattle.sizes.specs.Header.{sizes-in}
 use Rattle.placement.specs.Chunks.{nodes-bytes}
-use Rattle.placement.specs.Maps.{map-of, Table}
 use Rattle.sizes.specs.declared.Sizes.{Sizes}
 use Rattle.placement.specs.declared.Order.{Order}
 use Rattle.sizes.proofs.Laws.Sizes.{limits}
 use Rattle.placement.proofs.Laws.Bridge.{nodes-long}
 use Rattle.placement.proofs.Laws.Tables.{shaped}
-use Rattle.skiplist.specs.Lists.{front, chunks}
+use Rattle.skiplist.specs.Lists.{front}
 use Rattle.skiplist.specs.Image.{is-image, orders-in}
 use Rattle.skiplist.specs.Questions.{is-key, between}
 use Rattle.skiplist.proofs.Laws.Walk.{walk-all}
 use Rattle.skiplist.proofs.Laws.Kept.{fits-parts}
-use Rattle.skiplist.proofs.Laws.Image.{image-keeps}
 use Rattle.skiplist.proofs.Laws.Third.{image-parts}
 use Rattle.readings.specs.declared.Visit.{Visit}
 use Rattle.readings.specs.declared.calls.Sought.the-variants.{Is, Nothing}
 use Rattle.table.specs.Calls.{says}
 use Rattle.readings.specs.Visit.{Scan, scan, starting, steps, Known, under, first-enough}
 use Rattle.readings.proofs.Laws.Visits.{step-below}
-use Rattle.readings.proofs.Laws.Chunked.{orders-up}
+use Rattle.readings.proofs.Laws.Chunked.{kept-by, orders-up}
+use Rattle.readings.proofs.Laws.Wholes.{rowed}
 use Rattle.readings.proofs.Laws.Tallies.{answer-of, tally, sought}
 
 -- SMALL FUNCTIONS
@@ -49,16 +48,12 @@ refusal-made n = (refl, refl, refl, refl)
 pub known-image : (bs : List ℕ) → is-image bs ≡ true → Known (sizes-in bs) bs
 known-image bs e =
     let w = image-parts bs e in
-    let s = sizes-in bs in
-    let os = orders-in bs in
-    let t : Table s (map-of (chunks s os)) (length (chunks s os)) (header s (length os)) bs =
-    subst (λ (z : List ℕ). Table s (map-of (chunks s os)) (length (chunks s os)) (header s (length os)) z) (w .bytes)
-    (image-keeps s os (w .sizes-made) (w .orders-kept .good) (w .orders-kept .fit)) in
+    let k = w .orders-kept in
     record {
-      shaped = shaped s (map-of (chunks s os)) (length (chunks s os)) (header s (length os)) bs t;
+      shaped = shaped _ _ _ _ bs (kept-by (sizes-in bs) bs (w .sizes-made) (k .good) (k .fit) (w .bytes));
       sizes-made = w .sizes-made;
-      good = w .orders-kept .good;
-      fit = w .orders-kept .fit;
+      good = k .good;
+      fit = k .fit;
       bytes = w .bytes;
     }
 
@@ -97,29 +92,26 @@ module _ (bs : List ℕ) (image : is-image bs ≡ true) (lo hi : ℕ) where
       let k = known-image bs image in
       omega (arith, between-few lo hi (orders-in bs), fits-parts (sizes-in bs) (orders-in bs) (k .fit) .few, limits (sizes-in bs) (k .sizes-made) .orders-most)
 
+  tallied : (b : Bool) (w : Visit) (x z : List ℕ) → (b ≡ true → 12 * length (between lo hi (orders-in bs)) ≤ length x) →
+      scan w z ≡ steps (orders-in bs) (scan (starting lo hi 0 b false) x) → (w .found ≡ length (between lo hi (orders-in bs))) × (z ≡ rowed b x 0 (between lo hi (orders-in bs)))
+  tallied b w x z room e =
+      let t = tally (starting lo hi 0 b false) x refl (orders-in bs) 1 (orders-up (sizes-in bs) bs (known-image bs image)) refl (omega (arith, few)) (λ q. omega (arith, room q)) in
+      (ap (λ (y : Scan). y .visit .found) e ∙ t .found ∙ omega arith, ap (λ (y : Scan). y .output) e ∙ t .output)
+
   -- counting
   pub counted-all : (w : Visit) (x z : List ℕ) → scan w z ≡ steps (orders-in bs) (scan (starting lo hi 0 false false) x) →
       (w .found ≡ length (between lo hi (orders-in bs))) × (z ≡ x)
-  counted-all w x z e =
-      let t = tally (starting lo hi 0 false false) x refl (orders-in bs) 1 (orders-up (sizes-in bs) bs (known-image bs image)) refl (omega (arith, few)) (λ q. absurd (omega (arith, no q))) in
-      (ap (λ (y : Scan). y .visit .found) e ∙ t .found ∙ omega arith, ap (λ (y : Scan). y .output) e ∙ t .output)
-    where
-      no : false ≡ true → _≡_ {A = ℕ} 0 1
-      no q = cc
+  counted-all w x z e = tallied false w x z (λ q. absurd (false≢true q)) e
 
   -- writing, where there is room
   pub written-all : (w : Visit) (x z : List ℕ) → 12 * length (between lo hi (orders-in bs)) ≤ length x → scan w z ≡ steps (orders-in bs) (scan (starting lo hi 0 true false) x) →
       (w .found ≡ length (between lo hi (orders-in bs))) × (z ≡ nodes-bytes (between lo hi (orders-in bs)) ++ drop (12 * length (between lo hi (orders-in bs))) x)
   written-all w x z room e =
       let os = between lo hi (orders-in bs) in
-      let t = tally (starting lo hi 0 true false) x refl (orders-in bs) 1 (orders-up (sizes-in bs) bs (known-image bs image)) refl (omega (arith, few)) (λ q. omega arith) in
-      let l = nodes-long (between lo hi (orders-in bs)) in
-      let n : 0 + length (nodes-bytes (between lo hi (orders-in bs))) ≡ 12 * length (between lo hi (orders-in bs)) = omega arith in (
-        ap (λ (y : Scan). y .visit .found) e ∙ t .found ∙ omega arith,
-        ap (λ (y : Scan). y .output) e ∙ t .output
-            ∙ sets-eq (nodes-bytes os) x 0 (omega arith)
-            ∙ ap (λ (i : ℕ). nodes-bytes os ++ drop i x) n,
-      )
+      let t = tallied true w x z (λ q. room) e in
+      let l = nodes-long os in
+      let n : 0 + length (nodes-bytes os) ≡ 12 * length os = omega arith in
+      (t .0, t .1 ∙ sets-eq (nodes-bytes os) x 0 (omega arith) ∙ ap (λ (i : ℕ). nodes-bytes os ++ drop i x) n)
 
   -- seeking
   module _ (least : ℕ) (w : Visit) (x z : List ℕ) (e : scan w z ≡ steps (orders-in bs) (scan (starting lo hi least false true) x)) where
@@ -129,7 +121,7 @@ module _ (bs : List ℕ) (image : is-image bs ≡ true) (lo hi : ℕ) where
         ∙ sought (starting lo hi least false true) x refl refl refl (orders-in bs) 1 (orders-up (sizes-in bs) bs (known-image bs image))
 
     pub sought-none : w .found ≡ 0 → Nothing ≡ first-enough least (between lo hi (orders-in bs))
-    sought-none f = sym (ap (λ (t : Bool). cond t Nothing (Is (record { key = w .key; total = w .total; displayed = w .displayed }))) (eq-eqb (w .found) 0 f)) ∙ answer
+    sought-none f = rw (eq-eqb (w .found) 0 f) at answer
 
     pub sought-some : (w .found ≡ 0 → ⊥) → Is (record { key = w .key; total = w .total; displayed = w .displayed }) ≡ first-enough least (between lo hi (orders-in bs))
-    sought-some f = sym (ap (λ (t : Bool). cond t Nothing (Is (record { key = w .key; total = w .total; displayed = w .displayed }))) (ne-eqb (w .found) 0 f)) ∙ answer
+    sought-some f = rw (ne-eqb (w .found) 0 f) at answer

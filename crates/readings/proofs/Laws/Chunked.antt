@@ -1,12 +1,13 @@
 -- What the search for a chunk finds in an image: the next piece of a partition, as its bytes say.
 use mathlib.Core.Path.{_≡_, refl, sym, ap, _∙_, subst}
+use mathlib.Core.Bool.{true}
 use mathlib.Core.List.{List, [], _∷_, map}
 use Prim.Native.Nat.{ℕ, zero, suc, _+_, _*_, _-_, _≤_, _<_}
 use native.Mathlib.Omega.{arith}
 use lib.ListN.{length, getD, take, drop, length-map}
 use lib.Seq.{drop-drop}
 use Rattle.sizes.specs.Numbers.{field, rows-in}
-use Rattle.sizes.specs.Sizes.{beta}
+use Rattle.sizes.specs.Sizes.{made, beta}
 use Rattle.sizes.specs.Header.{header, block-long}
 use Rattle.placement.specs.Decode.{node-in, nodes-from}
 use Rattle.placement.specs.Place.{search-in}
@@ -20,7 +21,7 @@ use Rattle.sizes.proofs.Laws.Sizes.{limits}
 use Rattle.placement.proofs.Laws.Tables.{find-told}
 use Rattle.placement.proofs.Laws.Reading.{node-at, count-read, key-read, total-read, displayed-read}
 use Rattle.skiplist.specs.Lists.{masked, chunks}
-use Rattle.skiplist.specs.Image.{orders-in}
+use Rattle.skiplist.specs.Image.{image, orders-in, orders-good, fits}
 use Rattle.skiplist.proofs.Laws.Parts.{Up, good-up, part}
 use Rattle.skiplist.proofs.Laws.Faithful.{map-is}
 use Rattle.skiplist.proofs.Laws.Image.{image-keeps}
@@ -59,8 +60,12 @@ pub record Read (s : Sizes) (bs : List ℕ) (l b : ℕ) (own : List Order) : Typ
   pub count : getD bs (53 + b * block-long s + 1) 0 ≡ length own
   pub nodes : nodes-from (length own) (drop (53 + b * block-long s + 8) bs) ≡ map (masked l) own
 
-abbrev told-by : Sizes → List ℕ → Map
+abbrev pub told-by : Sizes → List ℕ → Map
 told-by s bs = map-of (chunks s (orders-in bs))
+
+pub kept-by : (s : Sizes) (bs : List ℕ) → made s ≡ true → orders-good 1 (orders-in bs) ≡ true → fits s (orders-in bs) ≡ true → image s (orders-in bs) ≡ bs →
+    Table s (told-by s bs) (length (chunks s (orders-in bs))) (header s (length (orders-in bs))) bs
+kept-by s bs m g f e = rw e at (image-keeps s (orders-in bs) m g f)
 
 -- piece i of the partition that f heads
 abbrev pub piece : Sizes → List ℕ → (l f i : ℕ) → List Order
@@ -70,10 +75,8 @@ module _ (s : Sizes) (bs : List ℕ) (w : Known s bs) where
   pub orders-up : Up 1 (orders-in bs)
   orders-up = good-up 1 (orders-in bs) (w .good)
 
-  kept : Table s (told-by s bs) (length (chunks s (orders-in bs))) (header s (length (orders-in bs))) bs
-  kept =
-      subst (λ (z : List ℕ). Table s (told-by s bs) (length (chunks s (orders-in bs))) (header s (length (orders-in bs))) z) (w .bytes)
-      (image-keeps s (orders-in bs) (w .sizes-made) (w .good) (w .fit))
+  pub kept : Table s (told-by s bs) (length (chunks s (orders-in bs))) (header s (length (orders-in bs))) bs
+  kept = kept-by s bs (w .sizes-made) (w .good) (w .fit) (w .bytes)
 
   module _ (l f i : ℕ) (low : 1 ≤ l) (high : l ≤ beta s) where
     told : told-by s bs l f i ≡ map (masked l) (piece s bs l f i)

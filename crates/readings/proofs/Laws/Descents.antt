@@ -1,6 +1,6 @@
 -- The way down to one key: what stands at a place of a partition of level 1, and which order a key has.
 use mathlib.Core.Path.{_≡_, refl, sym, ap, _∙_}
-use mathlib.Core.Bool.{Bool, true, false, cond, and-false}
+use mathlib.Core.Bool.{Bool, true, false, cond}
 use mathlib.Core.List.{List, [], _∷_, _++_}
 use Prim.Native.Nat.{ℕ, zero, suc, _+_, _*_, _/_, _%_, _≤_, _<_}
 use native.Mathlib.Nat.{div-add-mod', mod-lt}
@@ -18,11 +18,12 @@ use Rattle.sizes.specs.declared.Sizes.{Sizes}
 use Rattle.placement.specs.declared.Order.{Order}
 use Rattle.placement.specs.declared.Found.{Found}
 use Rattle.placement.specs.declared.Found.the-variants.{At, Nothing}
-use Rattle.sizes.proofs.Laws.Sizes.{limits}
+use Rattle.sizes.proofs.Laws.Sizes.{and-parts, limits}
 use Rattle.skiplist.specs.Image.{orders-in}
 use Rattle.skiplist.specs.Questions.{between, reserve}
-use Rattle.skiplist.proofs.Laws.Parts.{Up, and-left, and-right, up-from, below, below-here, part}
+use Rattle.skiplist.proofs.Laws.Parts.{Up, up-from, below, below-here, part}
 use Rattle.skiplist.proofs.Laws.Shapes.{Place, there, absent, place, held-absent, up-behind, part-none}
+use Rattle.skiplist.proofs.Laws.Segment.{between-above}
 use Rattle.skiplist.proofs.Laws.Descent.{tail-above}
 use Rattle.skiplist.proofs.Laws.Edits.{beta-least, level-least, head-part, tail-part, part-at, part-right, tail-same}
 use Rattle.table.specs.Walk.{node-of}
@@ -83,27 +84,22 @@ module _ (s : Sizes) (bs : List ℕ) (w : Known s bs) (some : 0 < s .nodes) (f m
       there-short h =
           empty-left (sym cut ∙ drop-past (m % s .nodes) chunk-on (omega (arith, h, mod-lt m some, simp length-take at count-is)))
 
-      there-is : m % s .nodes < c → (a : ℕ) → a ≡ 53 + b * block-long s → (o : Order) → o ≡ node-of bs (a + (8 + 12 * (m % s .nodes))) → with-key k left ≡ cond (eqb (o .key) k) (Is o) sought.Nothing
-      unfolding with-key
-      there-is h a ea o eo =
-          ap (with-key k)
-          (sym cut ∙ ap (drop (m % s .nodes)) (sym (take-append-drop (s .nodes) chunk-on))
-          ∙ drop-append-le (m % s .nodes) (take (s .nodes) chunk-on) (drop (s .nodes) chunk-on) (omega (arith, h, count-is))
-          ∙ ap (λ (z : List Order). z ++ drop (s .nodes) chunk-on) (here ∙ ap (λ (z : Order). z ∷ drop (suc (m % s .nodes)) (take (s .nodes) chunk-on)) (sym eo)))
-        where
-          at-is : 53 + b * block-long s + 8 + 12 * (m % s .nodes) ≡ a + (8 + 12 * (m % s .nodes))
-          at-is = omega (arith, ea)
+      module _ (h : m % s .nodes < c) (a : ℕ) (ea : a ≡ 53 + b * block-long s) (o : Order) (eo : o ≡ node-of bs (a + (8 + 12 * (m % s .nodes)))) where
+        there-is : with-key k left ≡ cond (eqb (o .key) k) (Is o) sought.Nothing
+        unfolding with-key
+        there-is =
+            let e : 53 + b * block-long s + 8 + 12 * (m % s .nodes) ≡ a + (8 + 12 * (m % s .nodes)) = omega (arith, ea) in
+            let here = node-here bs (take (s .nodes) chunk-on) (53 + b * block-long s + 8) (m % s .nodes) (omega (arith, h, count-is)) (got .nodes ∙ masked-one (take (s .nodes) chunk-on)) in
+            ap (with-key k)
+            (sym cut ∙ ap (drop (m % s .nodes)) (sym (take-append-drop (s .nodes) chunk-on))
+            ∙ drop-append-le (m % s .nodes) (take (s .nodes) chunk-on) (drop (s .nodes) chunk-on) (omega (arith, h, count-is))
+            ∙ ap (λ (z : List Order). z ++ drop (s .nodes) chunk-on) (rw (e, ← eo) at here))
 
-          here : drop (m % s .nodes) (take (s .nodes) chunk-on) ≡ node-of bs (a + (8 + 12 * (m % s .nodes))) ∷ drop (suc (m % s .nodes)) (take (s .nodes) chunk-on)
-          here =
-              rw at-is at
-              (node-here bs (take (s .nodes) chunk-on) (53 + b * block-long s + 8) (m % s .nodes) (omega (arith, h, count-is)) (got .nodes ∙ masked-one (take (s .nodes) chunk-on)))
+        pub there-other : (o .key ≡ k → ⊥) → sought.Nothing ≡ with-key k left
+        there-other n = sym (there-is ∙ rw (ne-eqb (o .key) k n))
 
-      pub there-other : m % s .nodes < c → (a : ℕ) → a ≡ 53 + b * block-long s → (o : Order) → o ≡ node-of bs (a + (8 + 12 * (m % s .nodes))) → (o .key ≡ k → ⊥) → sought.Nothing ≡ with-key k left
-      there-other h a ea o eo n = sym (there-is h a ea o eo ∙ rw (ne-eqb (o .key) k n))
-
-      pub there-found : m % s .nodes < c → (a : ℕ) → a ≡ 53 + b * block-long s → (o : Order) → o ≡ node-of bs (a + (8 + 12 * (m % s .nodes))) → o .key ≡ k → Is o ≡ with-key k left
-      there-found h a ea o eo z = sym (there-is h a ea o eo ∙ rw (eq-eqb (o .key) k z))
+        pub there-found : o .key ≡ k → Is o ≡ with-key k left
+        there-found z = sym (there-is ∙ rw (eq-eqb (o .key) k z))
 
 -- what the functions ask of the sizes of an image
 pub known-gamma : (bs : List ℕ) (s : Sizes) → Known s bs → 0 < s .gamma
@@ -117,26 +113,20 @@ unfolding block-long
 node-room bs s h m some a q = omega (arith, q, h .long, h .width, mod-lt m some)
 
 -- THE ORDER OF A KEY
-between-absent : (k : ℕ) (xs zs : List Order) → below k xs ≡ true → Up (suc k) zs → between k k (xs ++ zs) ≡ []
+between-behind : (lo hi : ℕ) (xs zs : List Order) → below lo xs ≡ true → between lo hi (xs ++ zs) ≡ between lo hi zs
 unfolding between below
-between-absent k [] [] e u = refl
-between-absent k [] (z ∷ zs) e u = rw (lt-leb (z .key) k (u .0), and-false) (between-absent k [] zs refl (up-from zs (omega (arith, u .0)) (u .1)))
-between-absent k (x ∷ xs) zs e u =
-    rw (lt-leb k (x .key) (ltb-true (x .key) k (and-left (ltb (x .key) k) (below k xs) e))) (between-absent k xs zs (and-right (ltb (x .key) k) (below k xs) e) u)
+between-behind lo hi [] zs e = refl
+between-behind lo hi (x ∷ xs) zs e =
+    let w = and-parts (ltb (x .key) lo) (below lo xs) e in
+    rw (lt-leb lo (x .key) (ltb-true (x .key) lo (w .0))) (between-behind lo hi xs zs (w .1))
 
-between-there : (xs : List Order) (y : Order) (zs : List Order) → below (y .key) xs ≡ true → Up (suc (y .key)) zs → between (y .key) (y .key) (xs ++ y ∷ zs) ≡ y ∷ []
-unfolding between below
-between-there [] y zs e u = rw (le-leb (y .key) (y .key) (omega arith), between-absent (y .key) [] zs refl u)
-between-there (x ∷ xs) y zs e u =
-    rw (lt-leb (y .key) (x .key) (ltb-true (x .key) (y .key) (and-left (ltb (x .key) (y .key)) (below (y .key) xs) e))) (between-there xs y zs (and-right (ltb (x .key) (y .key)) (below (y .key) xs) e) u)
+first-there : (xs : List Order) (y : Order) (zs : List Order) → below (y .key) xs ≡ true → first-enough 0 (between (y .key) (y .key) (xs ++ y ∷ zs)) ≡ Is y
+unfolding between first-enough
+first-there xs y zs e = rw (between-behind (y .key) (y .key) xs (y ∷ zs) e, le-leb (y .key) (y .key) (omega arith), le-leb 0 (reserve y) (omega arith))
 
-first-one : (y : Order) → first-enough 0 (y ∷ []) ≡ Is y
+first-absent : (k : ℕ) (xs zs : List Order) → below k xs ≡ true → Up (suc k) zs → first-enough 0 (between k k (xs ++ zs)) ≡ sought.Nothing
 unfolding first-enough
-first-one y = rw (le-leb 0 (reserve y) (omega arith))
-
-first-nothing : first-enough 0 [] ≡ sought.Nothing
-unfolding first-enough
-first-nothing = refl
+first-absent k xs zs e u = rw (between-behind k k xs zs e, between-above k k (suc k) zs (omega arith) u)
 
 -- what stands first behind the way to a key
 with-there : (y : Order) (qs : List Order) → with-key (y .key) (y ∷ qs) ≡ Is y
@@ -158,11 +148,11 @@ module _ (s : Sizes) (bs : List ℕ) (w : Known s bs) (k : ℕ) (pos : 1 ≤ k) 
           let up : 1 < level s (y .key) = omega (arith, level-least s k, eqb-false (level s k) 1 (sym eb ∙ h), ap (level s) z) in
           rw (q, ← z)
           (ap (with-key (y .key)) (part-right s 1 xs y zs (rw q at u) up) ∙ with-there y (tail-part s 1 zs)
-          ∙ sym (ap (first-enough 0) (between-there xs y zs (below-here xs y zs 1 (rw q at u)) (up-behind xs y zs 1 (rw q at u))) ∙ first-one y))
+          ∙ sym (first-there xs y zs (below-here xs y zs 1 (rw q at u))))
       go os u (absent xs zs q b v) =
           rw q
           (ap (with-key k) (part-none s (xs ++ zs) 1 k (rw q at u) (omega arith) (held-absent k xs zs b v)) ∙ with-absent k [] tt
-          ∙ sym (ap (first-enough 0) (between-absent k xs zs b v) ∙ first-nothing))
+          ∙ sym (first-absent k xs zs b v))
 
   -- .. and one of level 1 stands behind the nodes below it
   pub order-low : (b : Bool) → b ≡ eqb (level s k) 1 → b ≡ true → (f : ℕ) → Leads s bs 1 k f → (x : Spot) → Reaches s bs 1 f k x →
@@ -188,7 +178,7 @@ module _ (s : Sizes) (bs : List ℕ) (w : Known s bs) (k : ℕ) (pos : 1 ≤ k) 
           let v = up-behind xs y zs 1 u in
           let low : level s (y .key) ≡ 1 = omega (arith, eqb-true (level s k) 1 (sym eb ∙ h), ap (level s) z) in
           ap (with-key k) (behind xs (y ∷ zs) q (rw z at b) (omega (arith, z), v) ∙ tail-same s 1 y zs (omega (arith, z)) low)
-          ∙ rw (← z) (with-there y (tail-part s 1 zs) ∙ sym (ap (first-enough 0) (ap (between (y .key) (y .key)) q ∙ between-there xs y zs b v) ∙ first-one y))
+          ∙ rw (← z, q) (with-there y (tail-part s 1 zs) ∙ sym (first-there xs y zs b))
       go (absent xs zs q b v) =
           ap (with-key k) (behind xs zs q b (up-from zs (omega arith) v)) ∙ with-absent k (tail-part s 1 zs) (tail-above s 1 (suc k) zs v)
-          ∙ sym (ap (first-enough 0) (ap (between k k) q ∙ between-absent k xs zs b v) ∙ first-nothing)
+          ∙ rw q (sym (first-absent k xs zs b v))

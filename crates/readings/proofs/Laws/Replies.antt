@@ -9,13 +9,14 @@ use lib.ListN.{length}
 use borrow.Author.Tests.{leb-true, leb-false, eq-eqb, ne-eqb, le-leb, lt-leb}
 use Rattle.sizes.specs.Sizes.{prime}
 use Rattle.sizes.specs.Header.{sizes-in}
+use Rattle.sizes.proofs.Laws.Sizes.{and-parts}
 use Rattle.placement.specs.declared.Order.{Order}
 use Rattle.skiplist.specs.Image.{is-image, orders-in}
 use Rattle.skiplist.specs.Questions.{ask, first-no, is-key, held, between, reserve, any-reserve, asks-image, asks-key, asks-range, asks-span, asks-seek}
 use Rattle.skiplist.specs.Book.{check, asks, refusal}
-use Rattle.skiplist.proofs.Laws.Parts.{Up, and-left, up-past}
+use Rattle.skiplist.proofs.Laws.Parts.{Up, up-past}
 use Rattle.skiplist.proofs.Laws.Shapes.{held-there}
-use Rattle.skiplist.proofs.Laws.Opens.{Spot, nothing}
+use Rattle.skiplist.proofs.Laws.Opens.{Spot}
 use Rattle.skiplist.proofs.Laws.Questions.{passes}
 use Rattle.skiplist.proofs.Laws.Third.{taken}
 use Rattle.readings.specs.declared.Visit.{Visit}
@@ -25,6 +26,7 @@ use Rattle.readings.specs.declared.calls.Sought.the-variants.{Is, Nothin
 use Rattle.table.specs.Calls.{says, check-number, Look-as, Look-says, Span-as, Span-says, Seek-as, Seek-says}
 use Rattle.table.proofs.Laws.Alike.{Tells, here, there}
 use Rattle.readings.specs.Visit.{scan, starting, steps, first-enough, reply-of}
+use Rattle.readings.proofs.Laws.Rows.{spot-here, spot-more, passed-spot}
 use Rattle.readings.proofs.Laws.Chunked.{orders-up}
 use Rattle.readings.proofs.Laws.Answers.{known-image, counted-all, written-all}
 
@@ -43,7 +45,7 @@ checked-no bs n e z = go (is-image bs) e
 
 pub key-least : (k : ℕ) (b : Bool) → b ≡ is-key k → b ≡ true → 1 ≤ k
 unfolding is-key
-key-least k b e t = leb-true 1 k (and-left (leb 1 k) (ltb k prime) (sym e ∙ t))
+key-least k b e t = leb-true 1 k (and-parts (leb 1 k) (ltb k prime) (sym e ∙ t) .0)
 
 -- THE FIRST ORDER WITH A RESERVE
 pub record First (l : ℕ) (ys : List Order) (o : Order) : Type 0 where
@@ -59,10 +61,10 @@ first-is l (y ∷ ys) o e = go (first-is l ys o) (leb l (reserve y)) refl e
     go : (Is o ≡ first-enough l ys → First l ys o) → (t : Bool) → leb l (reserve y) ≡ t → Is o ≡ cond t (Is y) (first-enough l ys) → First l (y ∷ ys) o
     go ih true q e =
         let w : y ≡ o = cc in
-        record { spot = record { before = []; behind = ys; is = ap (λ (z : Order). z ∷ ys) w }; enough = subst (λ (z : Order). l ≤ reserve z) w (leb-true l (reserve y) q); any = rw q }
+        subst (First l (y ∷ ys)) w (record { spot = spot-here y ys; enough = leb-true l (reserve y) q; any = rw q })
     go ih false q e =
         let f = ih e in
-        record { spot = record { before = y ∷ f .spot .before; behind = f .spot .behind; is = ap (λ (z : List Order). y ∷ z) (f .spot .is) }; enough = f .enough; any = rw q (f .any) }
+        record { spot = spot-more o y ys (f .spot); enough = f .enough; any = rw q (f .any) }
 
 pub first-none : (l : ℕ) (ys : List Order) → Nothing ≡ first-enough l ys → any-reserve l ys ≡ false
 unfolding first-enough any-reserve
@@ -88,26 +90,12 @@ pub record Inside (lo hi : ℕ) (o : Order) (os : List Order) : Type 0 where
   pub low : lo ≤ o .key
   pub high : o .key ≤ hi
 
-inside-more : (lo hi : ℕ) (o q : Order) (os : List Order) → Inside lo hi o os → Inside lo hi o (q ∷ os)
-inside-more lo hi o q os w =
-    record { spot = record { before = q ∷ w .spot .before; behind = w .spot .behind; is = ap (λ (z : List Order). q ∷ z) (w .spot .is) }; low = w .low; high = w .high }
-
-between-inside : (lo hi : ℕ) (o : Order) (B os A : List Order) → between lo hi os ≡ A ++ o ∷ B → Inside lo hi o os
-unfolding between
-between-inside lo hi o B [] A e = absurd (nothing A o B e)
-between-inside lo hi o B (q ∷ os) A e = go (between-inside lo hi o B os) (leb lo (q .key)) refl (leb (q .key) hi) refl A e
-  where
-    go : ((A : List Order) → between lo hi os ≡ A ++ o ∷ B → Inside lo hi o os) → (a : Bool) → leb lo (q .key) ≡ a → (b : Bool) → leb (q .key) hi ≡ b →
-        (A : List Order) → cond (a && b) (q ∷ between lo hi os) (between lo hi os) ≡ A ++ o ∷ B → Inside lo hi o (q ∷ os)
-    go ih true x true y [] e =
-        let w : q ≡ o = cc in
-        subst (λ (z : Order). Inside lo hi z (q ∷ os)) w (record { spot = record { before = []; behind = os; is = refl }; low = leb-true lo (q .key) x; high = leb-true (q .key) hi y })
-    go ih true x true y (z ∷ A) e = inside-more lo hi o q os (ih A (cc))
-    go ih true x false y A e = inside-more lo hi o q os (ih A e)
-    go ih false x b y A e = inside-more lo hi o q os (ih A e)
-
 pub spot-inside : (lo hi : ℕ) (o : Order) (os : List Order) → Spot o (between lo hi os) → Inside lo hi o os
-spot-inside lo hi o os w = between-inside lo hi o (w .behind) os (w .before) (w .is)
+unfolding between
+spot-inside lo hi o os w =
+    let p = passed-spot (λ q. leb lo (q .key) && leb (q .key) hi) (between lo hi) refl (λ x xs. refl) o (w .behind) os (w .before) (w .is) in
+    let t = and-parts (leb lo (o .key)) (leb (o .key) hi) (p .1) in
+    record { spot = p .0; low = leb-true lo (o .key) (t .0); high = leb-true (o .key) hi (t .1) }
 
 -- what the orders tell of the key of one of them
 own-tells : (xs : List Order) (y : Order) (zs : List Order) (a : ℕ) → Up a (xs ++ y ∷ zs) → Tells (y .key) (y .total) (y .displayed) (xs ++ y ∷ zs)
@@ -195,7 +183,7 @@ module _ (bs : List ℕ) (lo hi : ℕ) where
         let a = passes 3 (is-image bs) _ (sym en ∙ z) in
         let b = passes 4 (is-key lo && is-key hi) _ (a .1) in
         let c = passes 9 (leb lo hi) 0 (b .1) in
-        (a .0, key-least lo (is-key lo) refl (and-left (is-key lo) (is-key hi) (b .0)), leb-true lo hi (c .0))
+        (a .0, key-least lo (is-key lo) refl (and-parts (is-key lo) (is-key hi) (b .0) .0), leb-true lo hi (c .0))
 
     range-more : (m : ℕ) (t : Bool) → first-no (asks-image bs ++ (asks-range lo hi ++ ask m t ∷ [])) ≡ cond (eqb n 0) (cond t 0 m) n
     unfolding first-no asks-image asks-range

@@ -3,8 +3,8 @@
 use mathlib.Core.Path.{_≡_, refl, sym, ap, _∙_, subst}
 use mathlib.Core.Bool.{Bool, true, false, cond}
 use mathlib.Core.List.{List, [], _∷_, _++_, map, append-assoc, append-nil}
-use mathlib.Core.Logic.{_⊎_, inl, inr}
-use Prim.Native.Nat.{ℕ, zero, suc, _<_}
+use mathlib.Core.Logic.{inl, inr}
+use Prim.Native.Nat.{ℕ, zero, suc}
 use native.Mathlib.Omega.{arith}
 use borrow.Author.Tests.{eqb-true, leb-true}
 use lib.Dec.{leb, eqb}
@@ -17,7 +17,7 @@ use Rattle.skiplist.proofs.Laws.Parts.{Up, Heads, pick, part, pick-past, below,
 use Rattle.skiplist.proofs.Laws.Edits.{parts-heads}
 use Rattle.skiplist.proofs.Laws.Walk.{each, spread, each-append, flat, spread-all}
 use Rattle.skiplist.proofs.Laws.Nodes.{nodes-list}
-use Rattle.skiplist.proofs.Laws.Opens.{Spot, nothing, shape, walks-part}
+use Rattle.skiplist.proofs.Laws.Opens.{Spot, Heading, nothing, shape, walks-part}
 use Rattle.readings.specs.Visit.{Row}
 
 -- STRETCHES of a list
@@ -89,30 +89,33 @@ row-tail s os l n ns r =
       is = b .rest;
     }
 
--- A NODE of a list: the front, or an order of that level
-abbrev pub Node : Sizes → (orders : List Order) → (k : ℕ) → Order → Type 0
-Node s os k y = (y ≡ front) ⊎ (Spot y os × (k < level s (y .key)))
+-- AN ORDER of a list, and of those of a list that pass a test
+pub spot-here : (o : Order) (os : List Order) → Spot o (o ∷ os)
+spot-here o os = record { before = []; behind = os; is = refl }
 
-at-spot : (s : Sizes) (k : ℕ) (y : Order) (B os zs pre A : List Order) → os ≡ pre ++ zs → at-least s (suc k) zs ≡ A ++ y ∷ B → Spot y os × (k < level s (y .key))
-unfolding at-least
-at-spot s k y B os [] pre A e h = absurd (nothing A y B h)
-at-spot s k y B os (z ∷ zs) pre A e h =
-    go (λ A′ h′. at-spot s k y B os zs (pre ++ z ∷ []) A′ (e ∙ sym (append-assoc pre (z ∷ []) zs)) h′) (leb (suc k) (level s (z .key))) refl A h
-  where
-    go : ((A′ : List Order) → at-least s (suc k) zs ≡ A′ ++ y ∷ B → Spot y os × (k < level s (y .key))) → (t : Bool) → leb (suc k) (level s (z .key)) ≡ t →
-        (A : List Order) → cond t (z ∷ at-least s (suc k) zs) (at-least s (suc k) zs) ≡ A ++ y ∷ B → Spot y os × (k < level s (y .key))
-    go ih true q [] h =
-        let w : z ≡ y = cc in (
-          record { before = pre; behind = zs; is = e ∙ ap (λ (o : Order). pre ++ o ∷ zs) w },
-          subst (λ (o : Order). k < level s (o .key)) w (omega (arith, leb-true (suc k) (level s (z .key)) q)),
-        )
-    go ih true q (a ∷ A) h = ih A (cc)
-    go ih false q A h = ih A h
+pub spot-more : (o x : Order) (xs : List Order) → Spot o xs → Spot o (x ∷ xs)
+spot-more o x xs w = record { before = x ∷ w .before; behind = w .behind; is = ap (λ (z : List Order). x ∷ z) (w .is) }
 
-pub node-there : (s : Sizes) (os : List Order) (k : ℕ) (y : Order) (B A : List Order) → list-at s (suc k) os ≡ A ++ y ∷ B → Node s os k y
-unfolding list-at
-node-there s os k y B [] e = inl (cc)
-node-there s os k y B (a ∷ A) e = inr (at-spot s k y B os os [] A refl (cc))
+module _ (test : Order → Bool) (F : List Order → List Order) (none : F [] ≡ []) (more : (x : Order) (xs : List Order) → F (x ∷ xs) ≡ cond (test x) (x ∷ F xs) (F xs)) where
+  pub passed-spot : (y : Order) (B os A : List Order) → F os ≡ A ++ y ∷ B → Spot y os × (test y ≡ true)
+  passed-spot y B [] A e = absurd (nothing A y B (sym none ∙ e))
+  passed-spot y B (x ∷ xs) A e = go (passed-spot y B xs) (test x) refl A (sym (more x xs) ∙ e)
+    where
+      go : ((A : List Order) → F xs ≡ A ++ y ∷ B → Spot y xs × (test y ≡ true)) → (t : Bool) → test x ≡ t →
+          (A : List Order) → cond t (x ∷ F xs) (F xs) ≡ A ++ y ∷ B → Spot y (x ∷ xs) × (test y ≡ true)
+      go ih true q [] h =
+          let w : x ≡ y = cc in
+          subst (λ (o : Order). Spot o (x ∷ xs) × (test o ≡ true)) w (spot-here x xs, q)
+      go ih true q (a ∷ A) h = let w = ih A (cc) in (spot-more y x xs (w .0), w .1)
+      go ih false q A h = let w = ih A h in (spot-more y x xs (w .0), w .1)
+
+-- A NODE of a level above heads a partition of this one
+heading : (s : Sizes) (os : List Order) (l : ℕ) (y : Order) (B A : List Order) → list-at s (suc l) os ≡ A ++ y ∷ B → Heading s os l y
+unfolding list-at at-least
+heading s os l y B [] e = inl (cc)
+heading s os l y B (a ∷ A) e =
+    let w = passed-spot (λ z. leb (suc l) (level s (z .key))) (at-least s (suc l)) refl (λ x xs. refl) y B os A (cc) in
+    inr (w .0, omega (arith, leb-true (suc l) (level s (y .key)) (w .1)))
 
 -- THE ORDERS UNDER A NODE come before the next node
 below-mid : (P xs : List Order) (z : Order) (zs : List Order) (a : ℕ) → Up a (P ++ (xs ++ z ∷ zs)) → below (z .key) xs ≡ true
@@ -128,7 +131,7 @@ module _ (s : Sizes) (os : List Order) (u : Up 1 os) where
   unfolding each
   next-below l x y A B e =
       let f = spread s os l in
-      let n : Node s os l y = node-there s os l y B (A ++ x ∷ []) (e ∙ sym (append-assoc A (x ∷ []) (y ∷ B))) in
+      let n = heading s os l y B (A ++ x ∷ []) (e ∙ sym (append-assoc A (x ∷ []) (y ∷ B))) in
       let p = shape s (part s os) l y (f y) (walks-part s os u l y n) in
       let w : front ∷ os ≡ each f A ++ (f x ++ p .head ∷ (p .rest ++ each f B)) =
       sym (spread-all s os u l) ∙ ap (each f) e ∙ each-append f A (x ∷ y ∷ B) ∙ ap (λ (z : List Order). each f A ++ (f x ++ (z ++ each f B))) (p .whole) in
