@@ -1,5 +1,5 @@
 -- What is printed for a reply is what its line has to print.
-use mathlib.Core.Path.{_≡_, refl, sym, _∙_, subst}
+use mathlib.Core.Path.{_≡_, refl, sym}
 use mathlib.Core.Logic.{_≢_}
 use mathlib.Core.List.{List, [], _∷_, map}
 use Prim.Native.Nat.{ℕ, zero, suc}
@@ -40,10 +40,10 @@ module _ (old : List ℕ) (used : ℕ) (new : List ℕ) (p : ℕ) where
         go (suc n) s = rw (s .0)
 
     pub show-no : r .number ≢ 0 → Said old used (row (r .number) [] ∷ []) new p → Said old used (show-lines x k) new p
-    show-no e s = subst (λ (ls : List (List ℕ)). Said old used ls new p) (sym (show-is ∙ no-lines (r .number) _ [] e)) s
+    show-no e s = rw (show-is, no-lines) s
 
     pub show-yes : r .number ≡ 0 → Said old used (row 0 (r .total ∷ r .displayed ∷ []) ∷ []) new p → Said old used (show-lines x k) new p
-    show-yes e s = subst (λ (ls : List (List ℕ)). Said old used ls new p) (sym (show-is ∙ yes-lines (r .number) _ [] e)) s
+    show-yes e s = rw (show-is, yes-lines) s
 
   -- SEEK
   module _ (x : List ℕ) (lo hi l : ℕ) (r : Reply) (h : Seek-says x lo hi l r) where
@@ -67,8 +67,8 @@ module _ (x : List ℕ) (lo hi : ℕ) (r : Reply) (o z : List ℕ) (h : Span-say
 
   module _ (old : List ℕ) (used : ℕ) (new : List ℕ) (p : ℕ) where
     pub span-no : r .number ≢ 0 → Said old used (row (r .number) [] ∷ []) new p → Said old used (span-lines x lo hi (length o)) new p
-    span-no e s = subst (λ (ls : List (List ℕ)). Said old used ls new p) (sym (span-is ∙ no-lines (r .number) _ _ e)) s
+    span-no e s = rw (span-is, no-lines) s
 
     pub span-yes : r .number ≡ 0 → (mid : List ℕ) (q : ℕ) → Said old used (row 0 (r .total ∷ []) ∷ []) mid q
         → Said mid q (map order-line (nodes-from (r .total) z)) new p → Said old used (span-lines x lo hi (length o)) new p
-    span-yes e mid q a b = subst (λ (ls : List (List ℕ)). Said old used ls new p) (sym (span-is ∙ yes-lines (r .number) _ _ e)) (said-on old mid new used q p _ _ a b)
+    span-yes e mid q a b = rw (span-is, yes-lines) (said-on old mid new used q p _ _ a b)

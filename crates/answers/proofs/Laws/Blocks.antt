@@ -17,7 +17,6 @@ use Rattle.placement.specs.Blocks.{Block, empty, holds}
 use Rattle.placement.specs.Labels.{label}
 use Rattle.placement.specs.Chunks.{Chunk, block-bytes}
 use Rattle.placement.specs.Decode.{node-in, nodes-from, head-label, chunk-of, block-of, cut, blocks-in}
-use Rattle.placement.specs.Maps.{Table, map-of}
 use Rattle.sizes.specs.Parts.{block-in}
 use Rattle.placement.specs.declared.Order.{Order}
 use Rattle.sizes.specs.declared.Sizes.{Sizes}
@@ -29,13 +28,12 @@ use Rattle.placement.proofs.Laws.Bridge.{Good, free, held, good-at}
 use Rattle.placement.proofs.Laws.Tables.{sound-blocks}
 use Rattle.placement.proofs.Laws.Edits.{block-bytes-at}
 use Rattle.sizes.proofs.Laws.Bytes.{offset-end}
-use Rattle.skiplist.specs.Lists.{chunks}
-use Rattle.skiplist.specs.Image.{image, is-image, orders-in}
-use Rattle.skiplist.proofs.Laws.Image.{image-keeps}
+use Rattle.skiplist.specs.Image.{is-image, orders-in}
+use Rattle.readings.proofs.Laws.Chunked.{kept}
 use Rattle.readings.proofs.Laws.Answers.{known-image}
 use Rattle.table.specs.Calls.{check-number}
 use Rattle.table.proofs.Laws.Standing.{block-at, nodes-part}
-use Rattle.answers.specs.Answers.{answer-lines, keys-of, block-line, block-lines, image-lines, blocks-lines}
+use Rattle.answers.specs.Answers.{keys-of, block-line, block-lines, image-lines, blocks-lines}
 use Rattle.answers.specs.Lent.{Lent, Laid}
 use Rattle.answers.specs.Output.{Said}
 use Rattle.answers.proofs.Laws.Orders.{nodes-more}
@@ -51,18 +49,11 @@ second-most s empty free =
 second-most s (holds c) (held k) = k .nodes
 
 module _ (bs : List ℕ) (e : is-image bs ≡ true) where
-  kept : Table (sizes-in bs) (map-of (chunks (sizes-in bs) (orders-in bs))) (length (chunks (sizes-in bs) (orders-in bs))) (header (sizes-in bs) (length (orders-in bs))) bs
-  kept =
-      let s = sizes-in bs in
-      let os = orders-in bs in
-      let k = known-image bs e in
-      subst (λ (z : List ℕ). Table s (map-of (chunks s os)) (length (chunks s os)) (header s (length os)) z) (k .bytes) (image-keeps s os (k .sizes-made) (k .good) (k .fit))
-
   count-most : (i : ℕ) → i < sizes-in bs .blocks → getD bs (53 + i * (8 + 12 * sizes-in bs .nodes) + 1) 0 ≤ sizes-in bs .nodes
   unfolding block-in block-long
   count-most i h =
       let s = sizes-in bs in
-      let t = kept in
+      let t = kept s bs (known-image bs e) in
       let all = sound-blocks s _ _ (t .blocks) (t .sound) (t .keeps) in
       let w = 8 + 12 * s .nodes in
       let here : take w (drop (53 + i * w) bs) ≡ block-bytes s (getD (t .blocks) i empty) =
@@ -207,18 +198,8 @@ module _ (x : List ℕ) (n : ℕ) (h : n ≡ check-number x) where
   module _ (old : List ℕ) (used : ℕ) (new : List ℕ) (r : ℕ) where
     pub blocks-no : n ≢ 0 → Said old used (row n [] ∷ []) new r → Said old used (blocks-lines x) new r
     unfolding blocks-lines
-    blocks-no e s = subst (λ (ls : List (List ℕ)). Said old used ls new r) (sym (ap (λ (k : ℕ). answer-lines k [] (image-lines x)) (sym h) ∙ no-lines n [] (image-lines x) e)) s
+    blocks-no e s = rw (← h, no-lines) s
 
     pub blocks-yes : n ≡ 0 → (mid : List ℕ) (p : ℕ) → Said old used (row n [] ∷ []) mid p → Said mid p (image-lines x) new r → Said old used (blocks-lines x) new r
     unfolding blocks-lines
-    blocks-yes e mid p a b =
-        subst (λ (ls : List (List ℕ)). Said old used ls new r) (sym (ap (λ (k : ℕ). answer-lines k [] (image-lines x)) (sym h) ∙ yes-lines n [] (image-lines x) e))
-        (said-on old mid new used p r _ _ (subst (λ (k : ℕ). Said old used (row k [] ∷ []) mid p) e a) b)
-
--- a part that starts at 0 is the first bytes
-module _ (n : ℕ) (x : List ℕ) where
-  pub front-image : is-image (take n x) ≡ true → is-image (take (n - 0) x) ≡ true
-  front-image h = rw sub-zero h
-
-  pub front-lines : (old : List ℕ) (used : ℕ) (new : List ℕ) (r : ℕ) → Said old used (image-lines (take (n - 0) x)) new r → Said old used (image-lines (take n x)) new r
-  front-lines old used new r h = subst (λ (m : ℕ). Said old used (image-lines (take m x)) new r) (sub-zero n) h
+    blocks-yes e mid p a b = rw (← h, yes-lines) (said-on old mid new used p r _ _ (rw e at a) b)

@@ -1,58 +1,35 @@
 -- What a span found fits the output that it was lent; and the first bytes of a buffer, lent to a call, come back.
 use mathlib.Core.Path.{_≡_, refl, subst, _∙_}
-use mathlib.Core.Bool.{Bool, true, false, _&&_, cond}
+use mathlib.Core.Bool.{_&&_}
 use mathlib.Core.List.{List, _++_}
-use Prim.Native.Nat.{ℕ, _*_, _-_, _≤_}
+use Prim.Native.Nat.{ℕ, zero, suc, _*_, _-_, _≤_}
 use native.Mathlib.Nat.{sub-zero}
 use native.Mathlib.Omega.{arith}
 use lib.Dec.{leb}
 use lib.ListN.{length, take, drop}
 use lib.Seq.{length-take-le, length-front, take-at, drop-at}
 use borrow.Author.Tests.{leb-true}
-use Rattle.skiplist.specs.Image.{is-image, orders-in}
-use Rattle.skiplist.specs.Questions.{first-no, is-key, between, asks-image, asks-range, asks-span}
-use Rattle.skiplist.specs.Book.{asks, refusal}
+use Rattle.skiplist.specs.Image.{orders-in}
+use Rattle.skiplist.specs.Questions.{first-no, is-key, between, asks-range, asks-span}
+use Rattle.skiplist.specs.Book.{span, asks, book-refusal, refusal}
+use Rattle.skiplist.proofs.Laws.Questions.{passes}
+use Rattle.skiplist.proofs.Laws.Third.{taken}
 use Rattle.table.specs.declared.Reply.{Reply}
 use Rattle.answers.specs.Lent.{Front}
-use Rattle.table.specs.Calls.{says, check-number, Look-says, Span-as, Span-says, Seek-says}
+use Rattle.table.specs.Calls.{says, Span-as, Span-says}
 
 module _ (x : List ℕ) (lo hi : ℕ) (r : Reply) (o z : List ℕ) where
   pub span-room : Span-says x lo hi r o z → 12 * r .total ≤ length o
-  unfolding Span-says refusal asks Span-as says asks-image asks-span asks-range first-no
-  span-room h = go (is-image x) (is-key lo && is-key hi) (leb lo hi) (leb (12 * length (between lo hi (orders-in x))) (length o)) refl h
+  unfolding Span-says Span-as says book-refusal asks asks-span asks-range first-no
+  span-room h = go (refusal (span lo hi o) x) refl h
     where
-      go : (a b c d : Bool) → leb (12 * length (between lo hi (orders-in x))) (length o) ≡ d
-          → Span-as (cond a (cond b (cond c (cond d 0 11) 10) 5) 4) (between lo hi (orders-in x)) r o z → 12 * r .total ≤ length o
-      go true true true true e k =
-          let l : 12 * length (between lo hi (orders-in x)) ≤ length o = leb-true (12 * length (between lo hi (orders-in x))) (length o) e in
-          let t : r .total ≡ length (between lo hi (orders-in x)) = k .0 .2 in
-          rw t l
-      go true true true false e k =
-          let t : r .total ≡ 0 = k .0 .2 in
-          omega arith
-      go true true false d e k =
-          let t : r .total ≡ 0 = k .0 .2 in
-          omega arith
-      go true false c d e k =
-          let t : r .total ≡ 0 = k .0 .2 in
-          omega arith
-      go false b c d e k =
-          let t : r .total ≡ 0 = k .0 .2 in
-          omega arith
-
--- a part that starts at 0 is the first bytes
-module _ (n : ℕ) (x : List ℕ) where
-  pub front-check : (r : ℕ) → r ≡ check-number (take (n - 0) x) → r ≡ check-number (take n x)
-  front-check r h = subst (λ (m : ℕ). r ≡ check-number (take m x)) (sub-zero n) h
-
-  pub front-look : (k : ℕ) (r : Reply) → Look-says (take (n - 0) x) k r → Look-says (take n x) k r
-  front-look k r h = subst (λ (m : ℕ). Look-says (take m x) k r) (sub-zero n) h
-
-  pub front-span : (lo hi : ℕ) (r : Reply) (o z : List ℕ) → Span-says (take (n - 0) x) lo hi r o z → Span-says (take n x) lo hi r o z
-  front-span lo hi r o z h = subst (λ (m : ℕ). Span-says (take m x) lo hi r o z) (sub-zero n) h
-
-  pub front-seek : (lo hi l : ℕ) (r : Reply) → Seek-says (take (n - 0) x) lo hi l r → Seek-says (take n x) lo hi l r
-  front-seek lo hi l r h = subst (λ (m : ℕ). Seek-says (take m x) lo hi l r) (sub-zero n) h
+      go : (n : ℕ) → refusal (span lo hi o) x ≡ n → Span-as n (between lo hi (orders-in x)) r o z → 12 * r .total ≤ length o
+      go zero e k =
+          let a = passes 4 (is-key lo && is-key hi) _ (taken (span lo hi o) x e .1) in
+          let b = passes 9 (leb lo hi) _ (a .1) in
+          let c = passes 10 (leb (12 * length (between lo hi (orders-in x))) (length o)) 0 (b .1) in
+          omega (arith, k .0 .2, leb-true (12 * length (between lo hi (orders-in x))) (length o) (c .0))
+      go (suc n) e k = omega (arith, k .0 .2)
 
 -- a part that starts at 0 is lent, and comes back as z
 module _ (n : ℕ) (x z : List ℕ) (Says : (table table-now : List ℕ) → Type 0) where

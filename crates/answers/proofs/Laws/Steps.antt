@@ -1,10 +1,10 @@
 -- The step of one line, put together from what its call did and what was printed.
 use mathlib.Core.Path.{_≡_, refl, ap, sym, _∙_, subst}
-use mathlib.Core.Logic.{_≢_, ⊎-elim}
+use mathlib.Core.Logic.{_≢_}
 use denote.Enum.Declared.{tagOf}
-use types.Run.{OneOf}
+use types.Run.{OneOf, miss}
 use mathlib.Core.Bool.{true, false, cond}
-use mathlib.Core.List.{List, [], _∷_, _++_}
+use mathlib.Core.List.{List, [], _∷_}
 use Prim.Native.Nat.{ℕ, zero, suc, _≤_, _<_}
 use native.Mathlib.Omega.{arith}
 use lib.Dec.{ltb, eqb}
@@ -70,7 +70,7 @@ module _ (p table out out′ : List ℕ) (room : ℕ) (d : Lengths) (u long : �
     make-refused z =
         let b = ne-eqb n 0 z in
         let front : take long new ≡ take long table = rw b at table-is in
-        let same : new ≡ table = sym (take-append-drop long new) ∙ ap (λ (x : List ℕ). x ++ drop long new) front ∙ ap (λ (x : List ℕ). take long table ++ x) (f .behind) ∙ take-append-drop long table in
+        let same : new ≡ table = sym (take-append-drop long new) ∙ rw (front, f .behind) (take-append-drop long table) in
         record {
           lines = row n [] ∷ [];
           answered = (ap (take (d .long)) same ∙ (rw b at (leaves (take (d .long) table))), lines-are);
@@ -141,14 +141,12 @@ step-make c p table out new out′ room d e h s = record { lines = s .lines; ans
 pub bad-left : (c : Call) → OneOf (0 ∷ 1 ∷ []) (tagOf the-type c) → (c ≡ Make → ⊥) → c ≡ Bad
 bad-left Bad k h = refl
 bad-left Make k h = absurd (h refl)
-bad-left Put k h = absurd (⊎-elim (λ e. omega (arith, e)) (λ e. omega (arith, e)) k)
-bad-left Cancel k h = absurd (⊎-elim (λ e. omega (arith, e)) (λ e. omega (arith, e)) k)
-bad-left Show k h = absurd (⊎-elim (λ e. omega (arith, e)) (λ e. omega (arith, e)) k)
-bad-left Span k h = absurd (⊎-elim (λ e. omega (arith, e)) (λ e. omega (arith, e)) k)
-bad-left Seek k h = absurd (⊎-elim (λ e. omega (arith, e)) (λ e. omega (arith, e)) k)
-bad-left Blocks k h = absurd (⊎-elim (λ e. omega (arith, e)) (λ e. omega (arith, e)) k)
+bad-left Put k h = absurd (miss (0 ∷ 1 ∷ []) 2 tt k)
+bad-left Cancel k h = absurd (miss (0 ∷ 1 ∷ []) 3 tt k)
+bad-left Show k h = absurd (miss (0 ∷ 1 ∷ []) 4 tt k)
+bad-left Span k h = absurd (miss (0 ∷ 1 ∷ []) 5 tt k)
+bad-left Seek k h = absurd (miss (0 ∷ 1 ∷ []) 6 tt k)
+bad-left Blocks k h = absurd (miss (0 ∷ 1 ∷ []) 7 tt k)
 
 pub not-make : (c : Call) → OneOf (0 ∷ 2 ∷ 3 ∷ 4 ∷ 5 ∷ 6 ∷ 7 ∷ []) (tagOf the-type c) → c ≡ Make → ⊥
-not-make c k e =
-    ⊎-elim (λ x. omega (arith, x)) (⊎-elim (λ x. omega (arith, x)) (⊎-elim (λ x. omega (arith, x)) (⊎-elim (λ x. omega (arith, x)) (⊎-elim (λ x. omega (arith, x)) (⊎-elim (λ x. omega (arith, x)) (λ x. omega (arith, x)))))))
-    (subst (λ (z : Call). OneOf (0 ∷ 2 ∷ 3 ∷ 4 ∷ 5 ∷ 6 ∷ 7 ∷ []) (tagOf the-type z)) e k)
+not-make c k e = miss (0 ∷ 2 ∷ 3 ∷ 4 ∷ 5 ∷ 6 ∷ 7 ∷ []) 1 tt (rw e at k)

@@ -1,11 +1,11 @@
 -- `answers::calls::span` meets its contract.
 use borrow.Author.Needs.{needs}
-use Rattle.answers.proofs.Laws.Found.{front-span}
+use native.Mathlib.Nat.{sub-zero}
 use Rattle.answers.proofs.calls.span.Statement.{statement}
 use Rattle.answers.proofs.calls.span.Tie as tie
 
 returns : tie.Need-returns
-returns c = front-span (c .before .before .before .before .before .before .before .args .long) _ _ _ _ _ _ (c .before .before .span .ensures .0)
+returns c = rw sub-zero at (c .before .before .span .ensures .0)
 
 pub span-spec : {M : Type 1} → statement M
 span-spec =
