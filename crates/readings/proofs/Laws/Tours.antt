@@ -41,7 +41,7 @@ left-start : (os : List Order) (x : Scan) → Left os x os x
 left-start os x = record { keeps = keeps-all x; rest = refl }
 
 module _ (os : List Order) (x : Scan) (ps : List Order) (y : Scan) (l : Left os x ps y) where
-  left-ended : y .visit .ended ≡ true → y ≡ steps os x
+  pub left-ended : y .visit .ended ≡ true → y ≡ steps os x
   left-ended e = sym (l .rest ∙ steps-ended ps y e)
 
   left-none : ps ≡ [] → y ≡ steps os x
@@ -57,14 +57,8 @@ module _ (os : List Order) (x : Scan) (ps : List Order) (y : Scan) (l : Left os 
 pub length-kept : (os : List Order) (v w : Visit) (x z : List ℕ) → scan w z ≡ steps os (scan v x) → length z ≡ length x
 length-kept os v w x z e = ap (λ (q : Scan). length (q .output)) e ∙ steps-keep os (scan v x) .long
 
--- at level 1, and above it
 pub row-one : (s : Sizes) (os : List Order) (l : ℕ) (ns : List Order) → l ≡ 1 → Row s os l ns → Row s os 1 ns
-row-one s os l ns e r = subst (λ (i : ℕ). Row s os i ns) e r
-
-pub two-least : (l : ℕ) → 1 ≤ l → (l ≡ 1 → ⊥) → 1 ≤ l - 1
-two-least zero h ne = absurd (omega arith)
-two-least (suc zero) h ne = absurd (ne refl)
-two-least (suc (suc l)) h ne = omega arith
+row-one s os l ns e r = rw e at r
 
 -- where the next node is not above the lowest key, nothing under this one is in the range
 module _ (s : Sizes) (bs : List ℕ) (l a j : ℕ) (x : Scan) (k : Known s bs) (low : 1 ≤ l) (range : x .visit .lo ≤ x .visit .hi)
@@ -96,9 +90,6 @@ module _ (F : List Order → List Order) (bs : List ℕ) (a j : ℕ) (x : Scan) 
   nodding-start h = record { room = h; left = left-start (F (nodes-from j (drop a bs))) x }
 
   module _ (k place : ℕ) (y : Scan) (p : Nodding F bs a j x k place y) where
-    pub nodding-ended : y .visit .ended ≡ true → y ≡ steps (F (nodes-from j (drop a bs))) x
-    nodding-ended e = left-ended _ _ _ _ (p .left) e
-
     nodding-none : F [] ≡ [] → k ≤ 0 → y ≡ steps (F (nodes-from j (drop a bs))) x
     unfolding rows-in
     nodding-none f h =
@@ -223,17 +214,13 @@ module _ (s : Sizes) (bs : List ℕ) (l : ℕ) (o : Order) (x : Scan) where
   unfolding under all-under spread
   own low =
       let e : suc (l - 1) ≡ l = omega arith in
-      ap (λ (i : ℕ). spread s (orders-in bs) i o) (sym e)
-      ∙ rw (e, zero-mul)
+      ap (λ (i : ℕ). spread s (orders-in bs) i o) (sym e) ∙ rw (e, zero-mul)
 
   pub going-start : 1 ≤ l → Going s bs l o x 0 x
   unfolding steps
   going-start low = record { above = low; left = left-more _ _ _ _ (left-start (under s bs l o) x) [] _ (own low) x refl }
 
   module _ (i : ℕ) (y : Scan) (g : Going s bs l o x i y) where
-    pub going-ended : y .visit .ended ≡ true → y ≡ steps (under s bs l o) x
-    going-ended e = left-ended _ _ _ _ (g .left) e
-
     nothing-left : left-of s bs l o i ≡ [] → y ≡ steps (under s bs l o) x
     unfolding all-under each
     nothing-left e = left-none _ _ _ _ (g .left) (ap (all-under s bs (l - 1)) e)
@@ -267,10 +254,8 @@ module _ (s : Sizes) (bs : List ℕ) (l : ℕ) (o : Order) (x : Scan) where
               opens-same : all-under s bs (l - 1) (nodes-from n (drop (at + 8) bs)) ≡ all-under s bs (l - 1) (piece s bs l (o .key) i)
               unfolding all-under
               opens-same =
-                  let e : l ≡ suc (l - 1) = omega (arith, g .above) in
-                  ap (each (spread s (orders-in bs) (l - 1))) nodes-are
-                  ∙ ap (λ (q : ℕ). each (spread s (orders-in bs) (l - 1)) (map (masked q) (piece s bs l (o .key) i))) e
-                  ∙ each-masked s (orders-in bs) (orders-up s bs k) (l - 1) (piece s bs l (o .key) i)
+                  let e : suc (l - 1) ≡ l = omega (arith, g .above) in
+                  rw nodes-are (rw e at (each-masked s (orders-in bs) (orders-up s bs k) (l - 1) (piece s bs l (o .key) i)))
 
               -- the chunk, and what is behind it
               behind : Left (under s bs l o) x (all-under s bs (l - 1) (drop (s .nodes) (left-of s bs l o i))) z
@@ -289,6 +274,5 @@ module _ (s : Sizes) (bs : List ℕ) (l : ℕ) (o : Order) (x : Scan) where
 
               pub going-more : Going s bs l o x (i + 1) z
               going-more =
-                  let e : i * s .nodes + s .nodes ≡ (i + 1) * s .nodes = sym (suc-mul i (s .nodes)) ∙ ap (λ (q : ℕ). q * s .nodes) (sym (add-one i)) in
-                  let d = drop-drop (s .nodes) (i * s .nodes) (part s (orders-in bs) l (o .key)) ∙ ap (λ (q : ℕ). drop q (part s (orders-in bs) l (o .key))) e in
-                  record { above = g .above; left = subst (λ (q : List Order). Left (under s bs l o) x (all-under s bs (l - 1) q) z) d behind }
+                  let e : i * s .nodes + s .nodes ≡ (i + 1) * s .nodes = rw (add-one, suc-mul) in
+                  record { above = g .above; left = rw (drop-drop, e) at behind }

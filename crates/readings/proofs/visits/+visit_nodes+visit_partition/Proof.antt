@@ -8,7 +8,7 @@ use mathlib.Core.List.{[]}
 use native.Mathlib.Omega.{arith}
 use Rattle.placement.proofs.Laws.Loops.{search-below}
 use Rattle.readings.specs.Visit.{scan, all-under}
-use Rattle.readings.proofs.Laws.Tours.{length-kept, row-one, two-least, Nodding, begun, nodding-orders, nodding-ended, nodding-end, nodding-more, Going, going-start, going-ended, going-none, going-end, chunk-room, chunk-row, going-stop, going-more}
+use Rattle.readings.proofs.Laws.Tours.{left-ended, length-kept, row-one, Nodding, begun, nodding-orders, nodding-end, nodding-more, Going, going-start, going-none, going-end, chunk-room, chunk-row, going-stop, going-more}
 use borrow.Fn.Kinds.{In}
 use borrow.Fn.PlainCycle.{Measures, is, falls, and}
 use Rattle.readings.proofs.visits.visit_nodes.Reads as visit-nodes
@@ -81,13 +81,13 @@ pub +visit-nodes+visit-partition-spec : {M : Type 1} → statement M
     let p = c .before .before .before .before .pre in
     begun _ _ _ _ _ _ (p .1 .0) (p .1 .1) (p .1 .3) (p .1 .4) (p .1 .5) _ (c .before .skipped .ensures .0) .nodes)
     (λ c. c .before .before .loop .inv .left .keeps .long)
-    (λ c. nodding-ended _ _ _ _ _ _ _ _ (c .before .before .loop .inv) (c .if2 .taken))
+    (λ c. left-ended _ _ _ _ (c .before .before .loop .inv .left) (c .if2 .taken))
     (λ c. search laws)
     (λ c κs. omega (arith, c .before .before .loop .inv .room, c .before .loop-test .taken))
     (λ c κs.
     let d = c .before .before .before .before in
     let p = d .before .before .before .before .before .pre in
-    (omega (arith, p .0, p .1 .1), (p .1 .0, two-least _ (p .1 .1) (d .before .if1 .left), omega (arith, p .1 .2), omega (arith, p .1 .3, d .loop .inv .left .keeps .lo, d .loop .inv .left .keeps .hi))))
+    (omega (arith, p .0, p .1 .1), (p .1 .0, omega (arith, p .1 .1, d .before .if1 .left), omega (arith, p .1 .2), omega (arith, p .1 .3, d .loop .inv .left .keeps .lo, d .loop .inv .left .keeps .hi))))
     (λ c. search laws)
     (λ c. search laws)
     (λ c. search laws)
@@ -98,7 +98,7 @@ pub +visit-nodes+visit-partition-spec : {M : Type 1} → statement M
     (visit-partition-at t) visit-partition.Post visit-partition-Inv-loop visit-partition-μ-loop
     (λ c. let p = c .before .before .pre in going-start _ _ _ _ _ (p .1 .1))
     (λ c. c .before .before .loop .inv .left .keeps .long)
-    (λ c. going-ended _ _ _ _ _ _ _ (c .before .before .loop .inv) (c .if1 .taken))
+    (λ c. left-ended _ _ _ _ (c .before .before .loop .inv .left) (c .if1 .taken))
     (λ c κs. search laws)
     (λ c. search laws)
     (λ c. search laws)
