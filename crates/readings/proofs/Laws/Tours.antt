@@ -241,14 +241,15 @@ module _ (s : Sizes) (bs : List ℕ) (l : ℕ) (o : Order) (x : Scan) where
             many : n ≡ length (piece s bs l (o .key) i)
             many = en ∙ got .count
 
-            pub chunk-room : at + block-long s ≤ 53 + s .blocks * block-long s → at + 8 + 12 * n ≤ length bs
-            chunk-room h = omega (arith, many, got .few, k .shaped .long, k .shaped .width)
-
             nodes-are : nodes-from n (drop (at + 8) bs) ≡ map (masked l) (piece s bs l (o .key) i)
             nodes-are = rw (many, ea) (got .nodes)
 
-            pub chunk-row : Row s (orders-in bs) l (nodes-from n (drop (at + 8) bs))
-            chunk-row = subst (Row s (orders-in bs) l) (sym nodes-are) (row-piece s (orders-in bs) l (o .key) (s .nodes) (i * s .nodes) (orders-up s bs k))
+            -- its nodes stand in the table, and one after the other in the list of the level
+            pub chunk-met : at + block-long s ≤ 53 + s .blocks * block-long s → (at + 8 + 12 * n ≤ length bs) × Row s (orders-in bs) l (nodes-from n (drop (at + 8) bs))
+            chunk-met h = (
+              omega (arith, many, got .few, k .shaped .long, k .shaped .width),
+              rw nodes-are (row-piece s (orders-in bs) l (o .key) (s .nodes) (i * s .nodes) (orders-up s bs k)),
+            )
 
             module _ (z : Scan) (ez : z ≡ steps (all-under s bs (l - 1) (nodes-from n (drop (at + 8) bs))) y) where
               opens-same : all-under s bs (l - 1) (nodes-from n (drop (at + 8) bs)) ≡ all-under s bs (l - 1) (piece s bs l (o .key) i)

@@ -8,7 +8,7 @@ use mathlib.Core.List.{[]}
 use native.Mathlib.Omega.{arith}
 use Rattle.placement.proofs.Laws.Loops.{search-below}
 use Rattle.readings.specs.Visit.{scan, all-under}
-use Rattle.readings.proofs.Laws.Tours.{left-ended, length-kept, row-one, Nodding, begun, nodding-orders, nodding-end, nodding-more, Going, going-start, going-none, going-end, chunk-room, chunk-row, going-stop, going-more}
+use Rattle.readings.proofs.Laws.Tours.{left-ended, length-kept, row-one, Nodding, begun, nodding-orders, nodding-end, nodding-more, Going, going-start, going-none, going-end, chunk-met, going-stop, going-more}
 use borrow.Fn.Kinds.{In}
 use borrow.Fn.PlainCycle.{Measures, is, falls, and}
 use Rattle.readings.proofs.visits.visit_nodes.Reads as visit-nodes
@@ -110,13 +110,26 @@ pub +visit-nodes+visit-partition-spec : {M : Type 1} → statement M
     (λ c κs. search laws)
     (λ c. search laws)
     (λ c κs.
-    let p = c .before .before .before .before .before .before .before .before .before .before .before .before .pre in
-    (omega (arith, p .0), (p .1 .0, p .1 .1, p .1 .2, omega (arith, p .1 .3, c .before .before .before .before .before .before .before .before .before .loop .inv .left .keeps .lo, c .before .before .before .before .before .before .before .before .before .loop .inv .left .keeps .hi), chunk-room _ _ _ _ _ _ _ (c .before .before .before .before .before .before .before .before .before .loop .inv) (c .before .before .before .before .before .before .before .before .before .before .before .before .pre .1 .0) (c .before .before .before .before .before .before .before .before .before .before .before .before .pre .1 .2) _ (c .before .before .before .before .before .before .find .ensures) _ (c .before .before .before .before .i .given .1) _ _ (c .before .before .offset .ensures .0) (c .before .count-at .ensures .0) (c .before .before .offset .ensures .1), chunk-row _ _ _ _ _ _ _ (c .before .before .before .before .before .before .before .before .before .loop .inv) (c .before .before .before .before .before .before .before .before .before .before .before .before .pre .1 .0) (c .before .before .before .before .before .before .before .before .before .before .before .before .pre .1 .2) _ (c .before .before .before .before .before .before .find .ensures) _ (c .before .before .before .before .i .given .1) _ _ (c .before .before .offset .ensures .0) (c .before .count-at .ensures .0))))
+    let d = c .before .before .before .before .before .before .before .before .before in
+    let p = d .before .before .before .pre in
+    let m = chunk-met _ _ _ _ _ _ _ (d .loop .inv) (p .1 .0) (p .1 .2) _ (c .before .before .before .before .before .before .find .ensures) _ (c .before .before .before .before .i .given .1)
+    _ _ (c .before .before .offset .ensures .0) (c .before .count-at .ensures .0) (c .before .before .offset .ensures .1) in
+    (omega (arith, p .0), (p .1 .0, p .1 .1, p .1 .2, omega (arith, p .1 .3, d .loop .inv .left .keeps .lo, d .loop .inv .left .keeps .hi), m .0, m .1)))
     (λ c. length-kept _ _ _ _ _ (c .before .before .before .before .visit-nodes .ensures) ∙ c .before .before .before .before .before .before .before .before .before .before .before .before .before .before .loop .inv .left .keeps .long)
-    (λ c. going-stop _ _ _ _ _ _ _ (c .before .before .before .before .before .before .before .before .before .before .before .before .before .before .loop .inv) (c .before .before .before .before .before .before .before .before .before .before .before .before .before .before .before .before .before .pre .1 .0) (c .before .before .before .before .before .before .before .before .before .before .before .before .before .before .before .before .before .pre .1 .2) _ (c .before .before .before .before .before .before .before .before .before .before .before .find .ensures) _ (c .before .before .before .before .before .before .before .before .before .i .given .1) _ _ (c .before .before .before .before .before .before .before .offset .ensures .0) (c .before .before .before .before .before .before .count-at .ensures .0) _ (c .before .before .before .before .visit-nodes .ensures) (c .if2 .taken))
+    (λ c.
+    let e = c .before .before .before .before .before in
+    let d = e .before .before .before .before .before .before .before .before .before in
+    let p = d .before .before .before .pre in
+    going-stop _ _ _ _ _ _ _ (d .loop .inv) (p .1 .0) (p .1 .2) _ (e .before .before .before .before .before .before .find .ensures) _ (e .before .before .before .before .i .given .1)
+    _ _ (e .before .before .offset .ensures .0) (e .before .count-at .ensures .0) _ (c .before .before .before .before .visit-nodes .ensures) (c .if2 .taken))
     (λ c. search laws)
     (λ c. search laws)
-    (λ c. going-more _ _ _ _ _ _ _ (c .before .before .before .before .before .before .before .before .before .before .before .before .before .before .loop .inv) (c .before .before .before .before .before .before .before .before .before .before .before .before .before .before .before .before .before .pre .1 .0) (c .before .before .before .before .before .before .before .before .before .before .before .before .before .before .before .before .before .pre .1 .2) _ (c .before .before .before .before .before .before .before .before .before .before .before .find .ensures) _ (c .before .before .before .before .before .before .before .before .before .i .given .1) _ _ (c .before .before .before .before .before .before .before .offset .ensures .0) (c .before .before .before .before .before .before .count-at .ensures .0) _ (c .before .before .before .before .visit-nodes .ensures))
+    (λ c.
+    let e = c .before .before .before .before .before in
+    let d = e .before .before .before .before .before .before .before .before .before in
+    let p = d .before .before .before .pre in
+    going-more _ _ _ _ _ _ _ (d .loop .inv) (p .1 .0) (p .1 .2) _ (e .before .before .before .before .before .before .find .ensures) _ (e .before .before .before .before .i .given .1)
+    _ _ (e .before .before .offset .ensures .0) (e .before .count-at .ensures .0) _ (c .before .before .before .before .visit-nodes .ensures))
     (λ c. c .before .loop .inv .left .keeps .long)
     (λ c.
     let p = c .before .before .before .before .pre in
