@@ -13,7 +13,7 @@ use Rattle.sizes.specs.Hash.{level}
 use Rattle.sizes.specs.declared.Sizes.{Sizes}
 use Rattle.placement.specs.declared.Order.{Order}
 use Rattle.skiplist.specs.Lists.{front, at-least, list-at, rest, partitions, first-key, masked}
-use Rattle.skiplist.proofs.Laws.Parts.{Up, Heads, pick, part, pick-past, below, below-here}
+use Rattle.skiplist.proofs.Laws.Parts.{Up, Heads, up-from, pick, part, pick-past, below, below-here}
 use Rattle.skiplist.proofs.Laws.Edits.{parts-heads}
 use Rattle.skiplist.proofs.Laws.Walk.{each, spread, each-append, flat, spread-all}
 use Rattle.skiplist.proofs.Laws.Nodes.{nodes-list}
@@ -21,7 +21,7 @@ use Rattle.skiplist.proofs.Laws.Opens.{Spot, Heading, nothing, shape, walks-par
 use Rattle.readings.specs.Visit.{Row}
 
 -- STRETCHES of a list
-pub record Stretch (whole xs : List Order) : Type 0 where
+record Stretch (whole xs : List Order) : Type 0 where
   pub before : List Order
   pub behind : List Order
   pub is : whole ≡ before ++ (xs ++ behind)
@@ -37,29 +37,27 @@ pick-stretch f a (p ∷ ps) u = go (pick-stretch f _ ps (u .1)) (eqb (first-key 
     go ih false e =
         record { before = p ++ ih .before; behind = ih .behind; is = ap (λ (z : List Order). p ++ z) (ih .is) ∙ sym (append-assoc p (ih .before) (pick f ps ++ ih .behind)) }
 
-pub part-stretch : (s : Sizes) (os : List Order) (l f : ℕ) → Up 1 os → Stretch (list-at s l os) (part s os l f)
+part-stretch : (s : Sizes) (os : List Order) (l f : ℕ) → Up 1 os → Stretch (list-at s l os) (part s os l f)
 unfolding part
 part-stretch s os l f u =
     subst (λ (z : List Order). Stretch z (pick f (partitions s l (list-at s l os)))) (nodes-list l s os)
     (pick-stretch f 0 (partitions s l (list-at s l os)) (parts-heads s l os u))
 
-pub stretch-piece : (w xs : List Order) (n m : ℕ) → Stretch w xs → Stretch w (take n (drop m xs))
-stretch-piece w xs n m t =
-    let d = drop m xs in
-    record {
-      before = t .before ++ take m xs;
-      behind = drop n d ++ t .behind;
-      is =
-          t .is
-          ∙ ap (λ (z : List Order). t .before ++ (z ++ t .behind)) (sym (take-append-drop m xs) ∙ ap (λ (z : List Order). take m xs ++ z) (sym (take-append-drop n d)))
-          ∙ simp append-assoc;
-    }
-
 -- ROWS
 pub row-piece : (s : Sizes) (os : List Order) (l f n m : ℕ) → Up 1 os → Row s os l (map (masked l) (take n (drop m (part s os l f))))
 row-piece s os l f n m u =
-    let t = stretch-piece (list-at s l os) (part s os l f) n m (part-stretch s os l f u) in
-    record { before = t .before; own = take n (drop m (part s os l f)); behind = t .behind; there = t .is; is = refl }
+    let t = part-stretch s os l f u in
+    let xs = part s os l f in
+    record {
+      before = t .before ++ take m xs;
+      own = take n (drop m xs);
+      behind = drop n (drop m xs) ++ t .behind;
+      there =
+          t .is
+          ∙ ap (λ (z : List Order). t .before ++ (z ++ t .behind)) (sym (take-append-drop m xs) ∙ ap (λ (z : List Order). take m xs ++ z) (sym (take-append-drop n (drop m xs))))
+          ∙ simp append-assoc;
+      is = refl;
+    }
 
 -- a row of at least one node
 pub record Begins (s : Sizes) (os : List Order) (l : ℕ) (n : Order) (ns : List Order) : Type 0 where
@@ -118,9 +116,9 @@ heading s os l y B (a ∷ A) e =
     inr (w .0, omega (arith, leb-true (suc l) (level s (y .key)) (w .1)))
 
 -- THE ORDERS UNDER A NODE come before the next node
-below-mid : (P xs : List Order) (z : Order) (zs : List Order) (a : ℕ) → Up a (P ++ (xs ++ z ∷ zs)) → below (z .key) xs ≡ true
-below-mid [] xs z zs a u = below-here xs z zs a u
-below-mid (p ∷ P) xs z zs a u = below-mid P xs z zs (suc (p .key)) (u .1)
+pub up-behind : (xs zs : List Order) (a : ℕ) → Up a (xs ++ zs) → Up 0 zs
+up-behind [] zs a u = up-from zs (omega arith) u
+up-behind (x ∷ xs) zs a u = up-behind xs zs (suc (x .key)) (u .1)
 
 module _ (s : Sizes) (os : List Order) (u : Up 1 os) where
   all-up : Up 0 (front ∷ os)
@@ -135,7 +133,7 @@ module _ (s : Sizes) (os : List Order) (u : Up 1 os) where
       let p = shape s (part s os) l y (f y) (walks-part s os u l y n) in
       let w : front ∷ os ≡ each f A ++ (f x ++ p .head ∷ (p .rest ++ each f B)) =
       sym (spread-all s os u l) ∙ ap (each f) e ∙ each-append f A (x ∷ y ∷ B) ∙ ap (λ (z : List Order). each f A ++ (f x ++ (z ++ each f B))) (p .whole) in
-      subst (λ (k : ℕ). below k (f x) ≡ true) (p .same) (below-mid (each f A) (f x) (p .head) (p .rest ++ each f B) 0 (subst (Up 0) w all-up))
+      subst (λ (k : ℕ). below k (f x) ≡ true) (p .same) (below-here (f x) (p .head) (p .rest ++ each f B) 0 (up-behind (each f A) _ 0 (subst (Up 0) w all-up)))
 
   -- masked nodes open the same
   pub spread-masked : (l : ℕ) (x : Order) → spread s os l (masked (suc l) x) ≡ spread s os l x

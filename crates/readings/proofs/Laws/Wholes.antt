@@ -28,18 +28,10 @@ use Rattle.table.proofs.Laws.MaskedKeys.{up-masked}
 use Rattle.readings.specs.declared.Visit.{Visit}
 use Rattle.readings.specs.Visit.{scan, more-found, row-in, step-by, steps, Known, Row, Whole, all-under}
 use Rattle.readings.proofs.Laws.Visits.{next-more, wanted-all, told}
+use Rattle.readings.proofs.Laws.Rows.{up-behind}
 use Rattle.readings.proofs.Laws.Chunked.{nodes-split, nodes-first, orders-up}
 
--- A NODE OF LEVEL 1 stands for itself
-pub all-orders : (s : Sizes) (bs : List ℕ) (ns : List Order) → all-under s bs 0 ns ≡ ns
-unfolding all-under spread
-all-orders s bs ns = each-one ns
-
 -- THEIR KEYS rise
-up-behind : (xs zs : List Order) (a : ℕ) → Up a (xs ++ zs) → Up 0 zs
-up-behind [] zs a u = up-from zs (omega arith) u
-up-behind (x ∷ xs) zs a u = up-behind xs zs (suc (x .key)) (u .1)
-
 row-up : (s : Sizes) (os : List Order) (l : ℕ) (ns : List Order) → Up 1 os → Row s os l ns → Up 0 ns
 unfolding list-at front
 row-up s os l ns u r =
@@ -88,8 +80,7 @@ module _ (o : Order) (v : Visit) (x : List ℕ) (seeks : v .seeks ≡ false) (go
   step-one : (b : Bool) → v .writes ≡ b → step-by o (scan v x) ≡ scan (jumped v 1 o) (rowed b x (12 * v .found) (o ∷ []))
   step-one b e =
       told o v x false false true b goes-on (le-ltb (v .hi) (o .key) high) (sym (wanted-all v o low seeks)) e
-      ∙ ap (λ (z : List ℕ). scan (more-found o v) z) (one-row b e)
-      ∙ ap (λ (w : Visit). scan w (rowed b x (12 * v .found) (o ∷ []))) found-one
+      ∙ rw (one-row b e, found-one)
 
 -- .. and more
 rows-join : (b : Bool) (x : List ℕ) (n : ℕ) (o : Order) (os : List Order) → rowed b (rowed b x (12 * n) (o ∷ [])) (12 * (n + 1)) os ≡ rowed b x (12 * n) (o ∷ os)
@@ -151,12 +142,11 @@ module _ (s : Sizes) (bs : List ℕ) (a j : ℕ) (v : Visit) (x : List ℕ) (k :
   high = omega (arith, w .high, ap (λ (q : Order). q .key) (last ∙ eo), node-key bs (a + 12 * (j - 1)) _ refl)
 
   together : (b : Bool) → v .writes ≡ b → steps (all-under s bs 0 (nodes-from j (drop a bs))) (scan v x) ≡ scan (jumped v j o) (rowed b x (12 * v .found) (nodes-from j (drop a bs)))
+  unfolding all-under spread
   together b eb =
-      ap (λ (z : List Order). steps z (scan v x)) (all-orders s bs (nodes-from j (drop a bs)) ∙ parts)
+      ap (λ (z : List Order). steps z (scan v x)) (each-one (nodes-from j (drop a bs)) ∙ parts)
       ∙ steps-whole (node-of bs a) ns v x b eb (w .counts) (w .goes-on) (within-last _ _ _ _ rising high) (omega (arith, w .few, many)) (λ e. omega (arith, w .held e, many))
-      ∙ ap (λ (z : List Order). scan (jumped v (suc (length ns)) (last-of (node-of bs a) ns)) (rowed b x (12 * v .found) z)) (sym parts)
-      ∙ ap (λ (q : Order). scan (jumped v (suc (length ns)) q) (rowed b x (12 * v .found) (nodes-from j (drop a bs)))) last
-      ∙ ap (λ (n : ℕ). scan (jumped v n o) (rowed b x (12 * v .found) (nodes-from j (drop a bs)))) many
+      ∙ rw (← parts, last, many)
 
   pub whole-counts : v .writes ≡ false → scan (jumped v j o) x ≡ steps (all-under s bs 0 (nodes-from j (drop a bs))) (scan v x)
   whole-counts e = sym (together false e)
