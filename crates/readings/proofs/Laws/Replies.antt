@@ -78,11 +78,9 @@ first-none l (y ∷ ys) e = go (first-none l ys) (leb l (reserve y)) e
 pub first-empty : (ys : List Order) → Nothing ≡ first-enough 0 ys → ys ≡ []
 unfolding first-enough
 first-empty [] e = refl
-first-empty (y ∷ ys) e = absurd (true≢false (go (leb 0 (reserve y)) (le-leb 0 (reserve y) (omega arith)) e))
-  where
-    go : (t : Bool) → t ≡ true → Nothing ≡ cond t (Is y) (first-enough 0 ys) → true ≡ false
-    go true q e = cc
-    go false q e = sym q
+first-empty (y ∷ ys) e =
+    let f = rw (le-leb 0 (reserve y) (omega arith)) at e in
+    absurd (true≢false (cc))
 
 -- AN ORDER IN A RANGE
 pub record Inside (lo hi : ℕ) (o : Order) (os : List Order) : Type 0 where
@@ -153,27 +151,10 @@ module _ (bs : List ℕ) (k : ℕ) (r : Reply) where
 
 -- THE QUESTIONS OF A RANGE, which span and seek share
 module _ (bs : List ℕ) (lo hi : ℕ) where
-  range-number : (a b c d : Bool) → is-image bs ≡ a → is-key lo ≡ b → is-key hi ≡ c → leb lo hi ≡ d →
-      first-no (asks-image bs ++ asks-range lo hi) ≡ cond a (cond (b && c) (cond d 0 10) 5) 4
+  pub range-number : (a b c d : Bool) → is-image bs ≡ a → is-key lo ≡ b → is-key hi ≡ c → leb lo hi ≡ d →
+      cond a (cond (b && c) (cond d 0 10) 5) 4 ≡ first-no (asks-image bs ++ asks-range lo hi)
   unfolding first-no asks-image asks-range
   range-number a b c d ea eb ec ed = rw (ea, eb, ec, ed)
-
-  pub range-4 : is-image bs ≡ false → 4 ≡ first-no (asks-image bs ++ asks-range lo hi)
-  range-4 e = sym (range-number false _ _ _ e refl refl refl)
-
-  module _ (image : is-image bs ≡ true) (b : Bool) (eb : b ≡ is-key lo) where
-    pub range-low : b ≡ false → 5 ≡ first-no (asks-image bs ++ asks-range lo hi)
-    range-low e = sym (range-number true false _ _ image (sym eb ∙ e) refl refl)
-
-    module _ (e : b ≡ true) (c : Bool) (ec : c ≡ is-key hi) where
-      pub range-high : c ≡ false → 5 ≡ first-no (asks-image bs ++ asks-range lo hi)
-      range-high f = sym (range-number true true false _ image (sym eb ∙ e) (sym ec ∙ f) refl)
-
-      pub range-10 : c ≡ true → hi < lo → 10 ≡ first-no (asks-image bs ++ asks-range lo hi)
-      range-10 f l = sym (range-number true true true false image (sym eb ∙ e) (sym ec ∙ f) (lt-leb lo hi l))
-
-      pub range-good : c ≡ true → lo ≤ hi → 0 ≡ first-no (asks-image bs ++ asks-range lo hi)
-      range-good f l = sym (range-number true true true true image (sym eb ∙ e) (sym ec ∙ f) (le-leb lo hi l))
 
   -- .. and what they leave of one question more
   module _ (n : ℕ) (en : n ≡ first-no (asks-image bs ++ asks-range lo hi)) where
