@@ -3,10 +3,11 @@ use mathlib.Core.Path.{_≡_, refl, sym, ap, _∙_, subst}
 use mathlib.Core.Bool.{true}
 use mathlib.Core.List.{List, [], _∷_, map}
 use Prim.Native.Nat.{ℕ, zero, suc, _+_, _*_, _-_, _≤_, _<_}
+use native.Mathlib.Nat.{pos-of-ne-zero}
 use native.Mathlib.Omega.{arith}
-use lib.ListN.{length, getD, take, drop, length-map}
+use lib.ListN.{length, getD, take, drop, length-map, length-take}
 use lib.Seq.{drop-drop}
-use Rattle.sizes.specs.Numbers.{field, rows-in}
+use Rattle.sizes.specs.Numbers.{rows-in}
 use Rattle.sizes.specs.Sizes.{made, beta}
 use Rattle.sizes.specs.Header.{header, block-long}
 use Rattle.placement.specs.Decode.{node-in, nodes-from}
@@ -19,15 +20,17 @@ use Rattle.placement.specs.declared.Found.{Found}
 use Rattle.placement.specs.declared.Found.the-variants.{At, Nothing}
 use Rattle.sizes.proofs.Laws.Sizes.{limits}
 use Rattle.placement.proofs.Laws.Tables.{find-told}
-use Rattle.placement.proofs.Laws.Reading.{node-at, count-read, key-read, total-read, displayed-read}
+use Rattle.placement.proofs.Laws.Cells.{length-zero}
+use Rattle.placement.proofs.Laws.Decoding.{nodes-count}
 use Rattle.skiplist.specs.Lists.{masked, chunks}
 use Rattle.skiplist.specs.Image.{image, orders-in, orders-good, fits}
 use Rattle.skiplist.proofs.Laws.Parts.{Up, good-up, part}
 use Rattle.skiplist.proofs.Laws.Faithful.{map-is}
 use Rattle.skiplist.proofs.Laws.Image.{image-keeps}
-use Rattle.table.specs.Walk.{node-of}
+use Rattle.table.specs.Walk.{node-of, spot, chunk-spot, count-in}
+use Rattle.table.proofs.Laws.Came.{chunk-read as nodes-read}
+use Rattle.table.proofs.Laws.Complete.{table-finds}
 use Rattle.readings.specs.Visit.{Known}
-use Rattle.table.proofs.Laws.Steps.{node-made}
 
 -- nodes read one after the other
 pub nodes-split : (bs : List ℕ) (a j : ℕ) → nodes-from (suc j) (drop a bs) ≡ node-of bs a ∷ nodes-from j (drop (a + 12) bs)
@@ -39,15 +42,6 @@ nodes-first bs a j h =
     let e : j ≡ suc (j - 1) = omega arith in
     ap (λ (i : ℕ). nodes-from i (drop a bs)) e ∙ nodes-split bs a (j - 1)
 
-pub nodes-list : (bs : List ℕ) (ns : List Order) (a : ℕ) → ((j : ℕ) → j < length ns → node-of bs (a + 12 * j) ≡ node-at ns j) → nodes-from (length ns) (drop a bs) ≡ ns
-unfolding rows-in
-nodes-list bs [] a h = refl
-nodes-list bs (o ∷ ns) a h =
-    let z : a + 12 * 0 ≡ a = omega arith in
-    nodes-split bs a (length ns)
-    ∙ ap (λ (q : Order). q ∷ nodes-from (length ns) (drop (a + 12) bs)) (rw z at (h 0 (omega arith)))
-    ∙ ap (λ (r : List Order). o ∷ r) (nodes-list bs ns (a + 12) (λ j l. let e : a + 12 + 12 * j ≡ a + 12 * suc j = omega arith in rw e (h (suc j) (omega arith))))
-
 none-left : (l b : ℕ) (d : List Order) → 0 < b → map (masked l) (take b d) ≡ [] → d ≡ []
 none-left l (suc b) [] h e = refl
 none-left l (suc b) (x ∷ d) h e = absurd (omega (arith, ap length e))
@@ -55,7 +49,6 @@ none-left l zero d h e = absurd (omega arith)
 
 -- what stands in a block that was found
 pub record Read (s : Sizes) (bs : List ℕ) (l b : ℕ) (own : List Order) : Type 0 where
-  pub inside : b < s .blocks
   pub few : length own ≤ s .nodes
   pub count : getD bs (53 + b * block-long s + 1) 0 ≡ length own
   pub nodes : nodes-from (length own) (drop (53 + b * block-long s + 8) bs) ≡ map (masked l) own
@@ -101,28 +94,14 @@ module _ (s : Sizes) (bs : List ℕ) (w : Known s bs) where
         go [] e = nothing-there e
         go (n ∷ ns) e = absurd (omega (arith, kept .sound l f i (λ z. omega (arith, ap length (sym e ∙ z))) .number))
 
-    pub chunk-read : (r : Found) → r ≡ search-in s bs (label l f i) → (b : ℕ) → r ≡ At b →
-        Read s bs l b (piece s bs l f i)
+    pub chunk-read : (r : Found) → r ≡ search-in s bs (label l f i) → (b : ℕ) → r ≡ At b → Read s bs l b (piece s bs l f i)
+    unfolding chunk-spot spot nodes-read count-in
     chunk-read r e b q = go (finds (At b) (sym q ∙ e))
       where
         go : Finds s (told-by s bs) (label l f i) bs (At b) → Read s bs l b (piece s bs l f i)
         go (is-at h full is) =
-            let t = kept .sound l f i full in
-            let ns = told-by s bs l f i in
-            let a = 53 + b * block-long s + 8 in
-            let each-node : (j : ℕ) → j < length ns → node-of bs (a + 12 * j) ≡ node-at ns j =
-            λ j k.
-            let e₀ : 53 + b * block-long s + 8 + 12 * j ≡ 53 + b * block-long s + (8 + (12 * j + 0)) = omega arith in
-            let e₄ : 53 + b * block-long s + 8 + 12 * j + 4 ≡ 53 + b * block-long s + (8 + (12 * j + 4)) = omega arith in
-            let e₈ : 53 + b * block-long s + 8 + 12 * j + 8 ≡ 53 + b * block-long s + (8 + (12 * j + 8)) = omega arith in
-            sym (node-made bs (a + 12 * j) (node-at ns j .key) (node-at ns j .total) (node-at ns j .displayed)
-            (sym (ap (λ (z : ℕ). field z 4 bs) e₀ ∙ key-read s bs b (label l f i) ns is (t .nodes) (t .fine) j k))
-            (sym (ap (λ (z : ℕ). field z 4 bs) e₄ ∙ total-read s bs b (label l f i) ns is (t .nodes) (t .fine) j k))
-            (sym (ap (λ (z : ℕ). field z 4 bs) e₈ ∙ displayed-read s bs b (label l f i) ns is (t .nodes) (t .fine) j k))) in
-            let c : length ns ≡ length (piece s bs l f i) = ap length told ∙ length-map (piece s bs l f i) (masked l) in
-            record {
-              inside = h;
-              few = subst (λ (z : ℕ). z ≤ s .nodes) c (t .nodes);
-              count = count-read s bs b (label l f i) ns is (t .nodes) (t .fine) ∙ c;
-              nodes = ap (λ (z : ℕ). nodes-from z (drop a bs)) (sym c) ∙ nodes-list bs ns a each-node ∙ told;
-            }
+            let some : 0 < length (told-by s bs l f i) = pos-of-ne-zero (λ z. full (length-zero (told-by s bs l f i) z)) in
+            let read : nodes-from (getD bs (53 + b * block-long s + 1) 0) (drop (53 + b * block-long s + 8) bs) ≡ map (masked l) (piece s bs l f i) =
+            (rw (sym e ∙ q) at (table-finds s (told-by s bs) _ _ bs kept l f i low .there some .1)) ∙ told in
+            let many : getD bs (53 + b * block-long s + 1) 0 ≡ length (piece s bs l f i) = sym (nodes-count _ _) ∙ ap length read ∙ length-map (piece s bs l f i) (masked l) in
+            record { few = omega (arith, length-take (s .nodes) (drop (i * s .nodes) (part s (orders-in bs) l f))); count = many; nodes = rw (← many) read }
