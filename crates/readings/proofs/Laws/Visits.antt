@@ -67,11 +67,8 @@ module _ (x : List ℕ) (a : ℕ) (o : Order) where
       x₃ ≡ sets x₂ (a + 8) (big 4 (o .displayed)) → x₃ ≡ row-in x a o
   unfolding row-in node-bytes
   row-made h x₁ x₂ x₃ e₁ e₂ e₃ =
-      rw (le-leb _ _ h, e₃, e₂, e₁, append-assoc, sets-append x a, length-big, sets-append, length-big) go
-    where
-      go : sets (sets (sets x a (big 4 (o .key))) (a + 4) (big 4 (o .total))) (a + 8) (big 4 (o .displayed))
-          ≡ sets (sets (sets x a (big 4 (o .key))) (a + 4) (big 4 (o .total))) (a + 4 + 4) (big 4 (o .displayed))
-      go = let e : a + 8 ≡ a + 4 + 4 = omega arith in rw e
+      let e : a + 8 ≡ a + 4 + 4 = omega arith in
+      rw (le-leb _ _ h, e₃, e₂, e₁, e, append-assoc, sets-append x a, length-big, sets-append, length-big)
 
 module _ (bs : List ℕ) (a j lo : ℕ) where
   pub passed-few : j < 2 → false ≡ passed-in bs a j lo
@@ -90,11 +87,7 @@ as-told o v x a b c d =
 module _ (o : Order) (v : Visit) (x : List ℕ) where
   pub told : (a b c d : Bool) → v .ended ≡ a → ltb (v .hi) (o .key) ≡ b → wanted-by v o ≡ c → v .writes ≡ d → step-by o (scan v x) ≡ as-told o v x a b c d
   unfolding step-by
-  told a b c d ea eb ec ed =
-      ap (λ (t : Bool). as-told o v x t (ltb (v .hi) (o .key)) (wanted-by v o) (v .writes)) ea
-      ∙ ap (λ (t : Bool). as-told o v x a t (wanted-by v o) (v .writes)) eb
-      ∙ ap (λ (t : Bool). as-told o v x a b t (v .writes)) ec
-      ∙ ap (as-told o v x a b c) ed
+  told a b c d ea eb ec ed = rw (ec, eb, ea, ed)
 
   pub step-ended : v .ended ≡ true → scan v x ≡ step-by o (scan v x)
   step-ended e = sym (told true _ _ _ e refl refl refl)
