@@ -57,7 +57,7 @@ module _ (p : List ℕ) where
 
 -- make is called with those bytes
 pub make-asked : (p seed x z : List ℕ) (r : ℕ) → seed ≡ seed-asked p → Make-says (parameters (piece p 1) (piece p 2) (piece p 3) (piece p 4) seed) r x z → Make-asked p r x z
-make-asked p seed x z r e h = subst (λ (ss : List ℕ). Make-says (parameters (piece p 1) (piece p 2) (piece p 3) (piece p 4) ss) r x z) e h
+make-asked p seed x z r e h = rw e at h
 
 -- THE LENGTH of the table that is asked for
 same-good : (s t : Sizes) → s .gamma ≡ t .gamma → s .nodes ≡ t .nodes → s .orders ≡ t .orders → s .blocks ≡ t .blocks → sizes-good s ≡ sizes-good t

@@ -128,8 +128,7 @@ module _ (old : List ℕ) (used : ℕ) (new : List ℕ) (r : ℕ) (table : List 
         let e : getD x 0 0 ≡ getD table at 0 = getD-part (8 + 12 * nodes) at table 0 (omega arith) ∙ rw add-zero in
         let full : block-line number (holds (chunk-of x)) ≡ row number (take (4 + n - 0) rows) =
         ap (λ (y : Chunk). block-line number (holds y)) chunk-is ∙ rw (rows-count 12 node-in n (drop (at + 8) table), sub-zero, er, eh) in
-        rw (ne-eqb (getD x 0 0) 0 (λ y. z (sym e ∙ y)))
-        (subst (λ (l : List ℕ). Said old used (l ∷ []) new r) (sym full) s)
+        rw (ne-eqb (getD x 0 0) 0 (λ y. z (sym e ∙ y)), full) s
 
 -- ALL BLOCKS
 lines-more : (j i : ℕ) (bl : List (Block Chunk)) → i < length bl → block-lines j (take (suc i) bl) ≡ block-lines j (take i bl) ++ (block-line (j + i) (getD bl i empty) ∷ [])
@@ -178,12 +177,12 @@ module _ (old : List ℕ) (used : ℕ) (bs : List ℕ) (nodes blocks : ℕ) wher
       walking-more new r s =
           let here : getD (blocks-in (sizes-in bs) bs) number empty ≡ block-of (take (8 + 12 * nodes) (drop at bs)) =
           block-at (sizes-in bs) bs number (omega (arith, l .blocks-are)) ∙ rw (w .at-is, l .nodes-are) in
-          let more : block-lines 0 (take (number + 1) (blocks-in (sizes-in bs) bs)) ≡ block-lines 0 (take number (blocks-in (sizes-in bs) bs)) ++ (block-line number (block-of (take (8 + 12 * nodes) (drop at bs))) ∷ []) =
-          rw add-one (lines-more 0 number (blocks-in (sizes-in bs) bs) (omega (arith, many)) ∙ rw (zero-add number, here)) in
           record {
             within = omega arith;
             at-is = rw (w .at-is, add-one, suc-mul) (omega arith);
-            said = subst (λ (ls : List (List ℕ)). Said old used ls new r) (sym more) (said-on old out new used place r _ _ (w .said) s);
+            said =
+                rw (add-one, lines-more 0 number (blocks-in (sizes-in bs) bs) (omega (arith, many)), zero-add number, here)
+                (said-on old out new used place r _ _ (w .said) s);
           }
 
 -- THE CALL

@@ -1,5 +1,5 @@
 -- Orders in bytes, printed one line each.
-use mathlib.Core.Path.{_≡_, refl, ap, sym, _∙_, subst}
+use mathlib.Core.Path.{_≡_, refl, ap, _∙_, subst}
 use mathlib.Core.Bool.{Bool, true, false, _&&_, cond}
 use mathlib.Core.List.{List, [], _∷_, _++_, map, map-append}
 use Prim.Native.Nat.{ℕ, zero, suc, _+_, _*_, _≤_, _<_}
@@ -17,9 +17,10 @@ use Rattle.placement.specs.Maps.{Fine, Fines}
 use Rattle.placement.specs.Decode.{node-in, nodes-from}
 use Rattle.placement.specs.declared.Order.{Order}
 use Rattle.sizes.proofs.Laws.Numbers.{field-drop}
+use Rattle.sizes.proofs.Laws.Sizes.{and-parts}
 use Rattle.skiplist.specs.Image.{quantities-good, orders-good, orders-in, is-image}
 use Rattle.skiplist.specs.Questions.{between}
-use Rattle.skiplist.proofs.Laws.Parts.{and-left, and-right, Good, good-parts}
+use Rattle.skiplist.proofs.Laws.Parts.{Good, good-parts}
 use Rattle.skiplist.proofs.Laws.Decode.{nodes-back}
 use Rattle.skiplist.proofs.Laws.Third.{image-parts}
 use Rattle.answers.specs.Answers.{order-line}
@@ -32,9 +33,7 @@ module _ (old : List ℕ) (used : ℕ) (found : List ℕ) (at : ℕ) (new : List
   pub order-said : (k t d : ℕ) → k ≡ field at 4 found → t ≡ field (at + 4) 4 found → d ≡ field (at + 8) 4 found
       → Said old used (row k (t ∷ d ∷ []) ∷ []) new r → Said old used (order-line (node-in (drop at found)) ∷ []) new r
   unfolding order-line node-in
-  order-said k t d ek et ed s =
-      subst (λ (l : List ℕ). Said old used (l ∷ []) new r)
-      (rw (field-drop 0 4 at found, field-drop 4 4 at found, field-drop 8 4 at found, ek, et, ed, add-zero)) s
+  order-said k t d ek et ed s = rw (field-drop 0 4 at found, field-drop 4 4 at found, field-drop 8 4 at found, add-zero, ← ek, ← et, ← ed) s
 
 -- one node more
 pub nodes-more : (n : ℕ) (bs : List ℕ) → nodes-from (n + 1) bs ≡ nodes-from n bs ++ (node-in (drop (12 * n) bs) ∷ [])
@@ -56,14 +55,7 @@ module _ (old : List ℕ) (used : ℕ) (found : List ℕ) (n : ℕ) where
 
   module _ (out : List ℕ) (place i : ℕ) (s : Saying old used found n out place i) where
     pub saying-more : (new : List ℕ) (r : ℕ) → i < n → Said out place (order-line (node-in (drop (12 * i) found)) ∷ []) new r → Saying old used found n new r (i + 1)
-    saying-more new r h a =
-        record {
-          within = omega arith;
-          said =
-              subst (λ (ls : List (List ℕ)). Said old used ls new r)
-              (sym (rw (nodes-more i found) (map-append order-line (nodes-from i found) (node-in (drop (12 * i) found) ∷ []))))
-              (said-on old out new used place r _ _ (s .said) a);
-        }
+    saying-more new r h a = record { within = omega arith; said = rw (nodes-more, map-append) (said-on old out new used place r _ _ (s .said) a) }
 
     pub saying-end : n ≤ i → Said old used (map order-line (nodes-from n found)) out place
     saying-end h = subst (λ (k : ℕ). Said old used (map order-line (nodes-from k found)) out place) (omega (arith, s .within)) (s .said)
@@ -72,9 +64,9 @@ module _ (old : List ℕ) (used : ℕ) (found : List ℕ) (n : ℕ) where
 fine : (a : ℕ) (o : Order) (os : List Order) → Good a o os → Fine o
 unfolding quantities-good
 fine a o os g =
-    let w = and-left (leb 1 (o .total) && leb (o .total) 4294967295) (leb (o .displayed) (o .total)) (g .quantity) in
-    let t = leb-true (o .total) 4294967295 (and-right (leb 1 (o .total)) (leb (o .total) 4294967295) w) in
-    let d = leb-true (o .displayed) (o .total) (and-right (leb 1 (o .total) && leb (o .total) 4294967295) (leb (o .displayed) (o .total)) (g .quantity)) in
+    let w = and-parts (leb 1 (o .total) && leb (o .total) 4294967295) (leb (o .displayed) (o .total)) (g .quantity) in
+    let t = leb-true (o .total) 4294967295 (and-parts (leb 1 (o .total)) (leb (o .total) 4294967295) (w .0) .1) in
+    let d = leb-true (o .displayed) (o .total) (w .1) in
     record { key = omega (arith, ltb-true (o .key) prime (g .key)); total = omega arith; displayed = omega arith }
 
 fines : (a lo hi : ℕ) (os : List Order) → orders-good a os ≡ true → Fines (between lo hi os)

@@ -1,5 +1,5 @@
 -- The step of one line, put together from what its call did and what was printed.
-use mathlib.Core.Path.{_≡_, refl, ap, sym, _∙_, subst}
+use mathlib.Core.Path.{_≡_, refl, ap, sym, _∙_}
 use mathlib.Core.Logic.{_≢_}
 use denote.Enum.Declared.{tagOf}
 use types.Run.{OneOf, miss}
@@ -52,18 +52,17 @@ module _ (p table out out′ : List ℕ) (room : ℕ) (d : Lengths) (u long : �
     unfolding Make-says sizes-asked
     table-is = f .says .1 ∙ ap (λ (k : ℕ). cond (eqb k 0) (image (sizes-asked p) []) (take long table)) (sym (f .says .0))
 
+    short : ltb 65536 (long-asked p) ≡ false
+    short = ap (ltb 65536) (sym e) ∙ le-ltb 65536 long h
+
     lines-are : row n [] ∷ [] ≡ make-lines p
     unfolding make-lines
-    lines-are =
-        let t : ltb 65536 (long-asked p) ≡ false = ap (ltb 65536) (sym e) ∙ le-ltb 65536 long h in
-        alone n ∙ sym (rw (t, number-is))
+    lines-are = alone n ∙ sym (rw (short, number-is))
 
     -- what it leaves, where it is refused and where not
     leaves : (x : List ℕ) → cond (eqb n 0) (image (sizes-asked p) []) x ≡ make-leaves p x
     unfolding make-leaves
-    leaves x =
-        let t : ltb 65536 (long-asked p) ≡ false = ap (ltb 65536) (sym e) ∙ le-ltb 65536 long h in
-        sym (rw (t, number-is))
+    leaves x = sym (rw (short, number-is))
 
     pub make-refused : n ≢ 0 → Step Make p room d table out (lengths (d .long) u) new out′
     unfolding Answered
@@ -75,7 +74,7 @@ module _ (p table out out′ : List ℕ) (room : ℕ) (d : Lengths) (u long : �
           lines = row n [] ∷ [];
           answered = (ap (take (d .long)) same ∙ (rw b at (leaves (take (d .long) table))), lines-are);
           behind = ap (drop (d .long)) same;
-          lent = subst (λ (x : List ℕ). Lent x (d .long)) (sym same) l;
+          lent = rw same l;
           said = s;
         }
 
