@@ -4,11 +4,11 @@ use mathlib.Core.Bool.{Bool, true, false, _&&_, cond, false≢true}
 use mathlib.Core.List.{List, [], _∷_, _++_}
 use Prim.Native.Nat.{ℕ, _+_, _*_, _≤_, _<_}
 use native.Mathlib.Omega.{arith}
-use lib.Dec.{ltb, leb}
+use lib.Dec.{leb}
 use lib.ListN.{length, drop}
 use lib.Seq.{sets-eq}
-use borrow.Author.Tests.{eq-eqb, ne-eqb, le-leb}
-use Rattle.sizes.specs.Sizes.{prime, beta}
+use borrow.Author.Tests.{eq-eqb, ne-eqb}
+use Rattle.sizes.specs.Sizes.{beta}
 use Rattle.sizes.specs.Header.{sizes-in}
 use Rattle.placement.specs.Chunks.{nodes-bytes}
 use Rattle.sizes.specs.declared.Sizes.{Sizes}
@@ -18,31 +18,17 @@ use Rattle.placement.proofs.Laws.Bridge.{nodes-long}
 use Rattle.placement.proofs.Laws.Tables.{shaped}
 use Rattle.skiplist.specs.Lists.{front}
 use Rattle.skiplist.specs.Image.{is-image, orders-in}
-use Rattle.skiplist.specs.Questions.{is-key, between}
+use Rattle.skiplist.specs.Questions.{between}
 use Rattle.skiplist.proofs.Laws.Walk.{walk-all}
 use Rattle.skiplist.proofs.Laws.Kept.{fits-parts}
 use Rattle.skiplist.proofs.Laws.Third.{image-parts}
 use Rattle.readings.specs.declared.Visit.{Visit}
 use Rattle.readings.specs.declared.calls.Sought.the-variants.{Is, Nothing}
-use Rattle.table.specs.Calls.{says}
 use Rattle.readings.specs.Visit.{Scan, scan, starting, steps, Known, under, first-enough}
 use Rattle.readings.proofs.Laws.Visits.{step-below}
 use Rattle.readings.proofs.Laws.Chunked.{kept-by, orders-up}
 use Rattle.readings.proofs.Laws.Wholes.{rowed}
 use Rattle.readings.proofs.Laws.Tallies.{answer-of, tally, sought}
-
--- SMALL FUNCTIONS
-pub key-zero : (k : ℕ) → k ≡ 0 → false ≡ is-key k
-unfolding is-key
-key-zero k e = rw e
-
-pub key-some : (k : ℕ) → (k ≡ 0 → ⊥) → ltb k prime ≡ is-key k
-unfolding is-key
-key-some k n = rw (le-leb 1 k (omega arith))
-
-pub refusal-made : (n : ℕ) → says n 0 0 0 (record { number = n; key = 0; total = 0; displayed = 0 })
-unfolding says
-refusal-made n = (refl, refl, refl, refl)
 
 -- AN IMAGE
 pub known-image : (bs : List ℕ) → is-image bs ≡ true → Known (sizes-in bs) bs

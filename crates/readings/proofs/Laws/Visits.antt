@@ -8,7 +8,7 @@ use lib.ListN.{length}
 use lib.Seq.{sets, length-sets}
 use borrow.Author.Tests.{ltb-true, ne-eqb, le-leb, lt-leb, le-ltb, lt-ltb}
 use native.Mathlib.Omega.{arith}
-use Rattle.sizes.specs.Numbers.{big, field}
+use Rattle.sizes.specs.Numbers.{big}
 use Rattle.placement.specs.Chunks.{node-bytes}
 use Rattle.placement.specs.declared.Order.{Order}
 use Rattle.sizes.proofs.Laws.Numbers.{length-big}
@@ -17,7 +17,7 @@ use Rattle.sizes.proofs.Laws.Sizes.{and-parts}
 use Rattle.skiplist.specs.Questions.{reserve}
 use Rattle.skiplist.proofs.Laws.Parts.{below}
 use Rattle.readings.specs.declared.Visit.{Visit}
-use Rattle.readings.specs.Visit.{Scan, scan, next-found, more-found, ended-visit, wanted-by, row-in, step-by, steps, passed-in}
+use Rattle.readings.specs.Visit.{Scan, scan, next-found, more-found, ended-visit, wanted-by, row-in, step-by, steps}
 
 -- SMALL FUNCTIONS
 pub next-more : (n : ℕ) → n < 65535 → n + 1 ≡ next-found n
@@ -27,13 +27,6 @@ next-more n h = rw (lt-ltb n 65535 h)
 pub next-same : (n : ℕ) → 65535 ≤ n → n ≡ next-found n
 unfolding next-found
 next-same n h = rw (le-ltb n 65535 h)
-
-pub found-made : (o : Order) (v : Visit) (n : ℕ) → n ≡ next-found (v .found) →
-    _≡_ {A = Visit}
-    (record { lo = v .lo; hi = v .hi; least = v .least; writes = v .writes; seeks = v .seeks; found = n; ended = v .seeks; key = o .key; total = o .total; displayed = o .displayed })
-    (more-found o v)
-unfolding more-found
-found-made o v n e = rw e
 
 least-none : (a : ℕ) → eqb a 0 ≡ leb a 0
 least-none zero = refl
@@ -69,15 +62,6 @@ module _ (x : List ℕ) (a : ℕ) (o : Order) where
   row-made h x₁ x₂ x₃ e₁ e₂ e₃ =
       let e : a + 8 ≡ a + 4 + 4 = omega arith in
       rw (le-leb _ _ h, e₃, e₂, e₁, e, append-assoc, sets-append x a, length-big, sets-append, length-big)
-
-module _ (bs : List ℕ) (a j lo : ℕ) where
-  pub passed-few : j < 2 → false ≡ passed-in bs a j lo
-  unfolding passed-in
-  passed-few h = rw (lt-leb _ _ h)
-
-  pub passed-next : 2 ≤ j → (k : ℕ) → k ≡ field (a + 12) 4 bs → leb k lo ≡ passed-in bs a j lo
-  unfolding passed-in
-  passed-next h k e = rw (le-leb _ _ h, e)
 
 -- AN ORDER COMES BY
 abbrev pub as-told : Order → Visit → List ℕ → (ended past wanted writes : Bool) → Scan
