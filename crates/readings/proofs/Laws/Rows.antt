@@ -60,31 +60,19 @@ row-piece s os l f n m u =
     }
 
 -- a row of at least one node
-pub record Begins (s : Sizes) (os : List Order) (l : ℕ) (n : Order) (ns : List Order) : Type 0 where
-  pub before : List Order
-  pub first : Order
-  pub others : List Order
-  pub behind : List Order
-  pub there : list-at s l os ≡ before ++ first ∷ (others ++ behind)
-  pub is : n ≡ masked l first
-  pub rest : ns ≡ map (masked l) others
-
-pub begins : (s : Sizes) (os : List Order) (l : ℕ) (n : Order) (ns : List Order) → Row s os l (n ∷ ns) → Begins s os l n ns
-begins s os l n ns r = go (r .own) (r .there) (r .is)
-  where
-    go : (own : List Order) → list-at s l os ≡ r .before ++ (own ++ r .behind) → n ∷ ns ≡ map (masked l) own → Begins s os l n ns
-    go [] t e = absurd (omega (arith, ap length e))
-    go (x ∷ xs) t e = record { before = r .before; first = x; others = xs; behind = r .behind; there = t; is = cc; rest = cc }
+first-own : (l : ℕ) (n : Order) (ns own : List Order) → n ∷ ns ≡ map (masked l) own → (x : Order) × (xs : List Order) × (own ≡ x ∷ xs) × (n ≡ masked l x) × (ns ≡ map (masked l) xs)
+first-own l n ns [] e = absurd (omega (arith, ap length e))
+first-own l n ns (x ∷ xs) e = (x, xs, refl, cc, cc)
 
 pub row-tail : (s : Sizes) (os : List Order) (l : ℕ) (n : Order) (ns : List Order) → Row s os l (n ∷ ns) → Row s os l ns
 row-tail s os l n ns r =
-    let b = begins s os l n ns r in
+    let f = first-own l n ns (r .own) (r .is) in
     record {
-      before = b .before ++ b .first ∷ [];
-      own = b .others;
-      behind = b .behind;
-      there = b .there ∙ sym (append-assoc (b .before) (b .first ∷ []) (b .others ++ b .behind));
-      is = b .rest;
+      before = r .before ++ f .0 ∷ [];
+      own = f .1;
+      behind = r .behind;
+      there = r .there ∙ ap (λ (z : List Order). r .before ++ (z ++ r .behind)) (f .2) ∙ sym (append-assoc (r .before) (f .0 ∷ []) (f .1 ++ r .behind));
+      is = f .4;
     }
 
 -- AN ORDER of a list, and of those of a list that pass a test
@@ -148,18 +136,10 @@ module _ (s : Sizes) (os : List Order) (u : Up 1 os) where
 
   pub row-below : (l : ℕ) (n m : Order) (ns : List Order) → Row s os (suc l) (n ∷ m ∷ ns) → below (m .key) (spread s os l n) ≡ true
   unfolding masked
-  row-below l n m ns r = go (b .others) (b .there) (b .rest)
-    where
-      b : Begins s os (suc l) n (m ∷ ns)
-      b = begins s os (suc l) n (m ∷ ns) r
-
-      same : spread s os l n ≡ spread s os l (b .first)
-      same = ap (spread s os l) (b .is) ∙ spread-masked l (b .first)
-
-      go : (others : List Order) → list-at s (suc l) os ≡ b .before ++ b .first ∷ (others ++ b .behind) → m ∷ ns ≡ map (masked (suc l)) others → below (m .key) (spread s os l n) ≡ true
-      go [] t e = absurd (omega (arith, ap length e))
-      go (y ∷ ys) t e =
-          let w : m ≡ masked (suc l) y = cc in
-          let k : y .key ≡ m .key = sym (ap (λ (o : Order). o .key) w) in
-          subst (λ (z : List Order). below (m .key) z ≡ true) (sym same)
-          (subst (λ (i : ℕ). below i (spread s os l (b .first)) ≡ true) k (next-below l (b .first) y (b .before) (ys ++ b .behind) t))
+  row-below l n m ns r =
+      let f = first-own (suc l) n (m ∷ ns) (r .own) (r .is) in
+      let g = first-own (suc l) m ns (f .1) (f .4) in
+      let e = r .there ∙ ap (λ (z : List Order). r .before ++ (z ++ r .behind)) (f .2 ∙ ap (λ (z : List Order). f .0 ∷ z) (g .2)) in
+      ap (below (m .key)) (ap (spread s os l) (f .3) ∙ spread-masked l (f .0))
+      ∙ ap (λ (o : Order). below (o .key) (spread s os l (f .0))) (g .3)
+      ∙ next-below l (f .0) (g .0) (r .before) (g .1 ++ r .behind) e
