@@ -60,22 +60,18 @@ pub make-asked : (p seed x z : List ℕ) (r : ℕ) → seed ≡ seed-asked p →
 make-asked p seed x z r e h = rw e at h
 
 -- THE LENGTH of the table that is asked for
-same-good : (s t : Sizes) → s .gamma ≡ t .gamma → s .nodes ≡ t .nodes → s .orders ≡ t .orders → s .blocks ≡ t .blocks → sizes-good s ≡ sizes-good t
-unfolding sizes-good beta
-same-good s t a b c d = cc
-
-same-long : (s t : Sizes) → s .nodes ≡ t .nodes → s .blocks ≡ t .blocks → table-long s ≡ table-long t
-unfolding table-long block-long
-same-long s t b d = cc
-
 module _ (p : List ℕ) (s : Sizes) (a : s .gamma ≡ piece p 1) (b : s .nodes ≡ piece p 2) (c : s .orders ≡ piece p 3) (d : s .blocks ≡ piece p 4) where
   asked-good : sizes-good (sizes-asked p) ≡ sizes-good s
-  unfolding sizes-asked sizes
-  asked-good = same-good (sizes-asked p) s (sym a) (sym b) (sym c) (sym d)
+  unfolding sizes-asked sizes sizes-good beta
+  asked-good = cc
+
+  asked-long : table-long (sizes-asked p) ≡ table-long s
+  unfolding sizes-asked sizes table-long block-long
+  asked-long = cc
 
   pub long-yes : (t : Bool) → t ≡ sizes-good s → t ≡ true → (r : ℕ) → r ≡ table-long s → r ≡ long-asked p
-  unfolding long-asked sizes-asked sizes
-  long-yes t g y r e = e ∙ sym (rw (asked-good ∙ sym g ∙ y) (same-long (sizes-asked p) s (sym b) (sym d)))
+  unfolding long-asked
+  long-yes t g y r e = e ∙ sym (rw (asked-good ∙ sym g ∙ y) asked-long)
 
   pub long-no : (t : Bool) → t ≡ sizes-good s → t ≡ false → 0 ≡ long-asked p
   unfolding long-asked
