@@ -3,7 +3,6 @@ pub mod Answers
 pub mod Asked
 pub mod Blocks
 pub mod Buffers
-pub mod Found
 pub mod Orders
 pub mod Output
 pub mod Steps

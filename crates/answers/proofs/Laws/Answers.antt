@@ -1,14 +1,19 @@
 -- What is printed for a reply is what its line has to print.
 use mathlib.Core.Path.{_≡_, refl, sym}
 use mathlib.Core.Logic.{_≢_}
+use mathlib.Core.Bool.{_&&_}
 use mathlib.Core.List.{List, [], _∷_, map}
-use Prim.Native.Nat.{ℕ, zero, suc}
+use Prim.Native.Nat.{ℕ, zero, suc, _*_, _≤_}
+use native.Mathlib.Omega.{arith}
+use lib.Dec.{leb}
 use lib.ListN.{length}
+use borrow.Author.Tests.{leb-true}
 use Rattle.lines.specs.Text.{row}
 use Rattle.placement.specs.Decode.{nodes-from}
 use Rattle.skiplist.specs.Image.{orders-in}
-use Rattle.skiplist.specs.Questions.{between}
-use Rattle.skiplist.specs.Book.{lookup, span, asks, refusal}
+use Rattle.skiplist.specs.Questions.{first-no, is-key, between, asks-range, asks-span}
+use Rattle.skiplist.specs.Book.{lookup, span, asks, book-refusal, refusal}
+use Rattle.skiplist.proofs.Laws.Questions.{passes}
 use Rattle.skiplist.proofs.Laws.Third.{taken}
 use Rattle.table.specs.declared.Reply.{Reply}
 use Rattle.table.specs.Calls.{says, total-of, displayed-of, Look-as, Look-says, Span-as, Span-says, Seek-says}
@@ -64,6 +69,19 @@ module _ (x : List ℕ) (lo hi : ℕ) (r : Reply) (o z : List ℕ) (h : Span-say
           ≡ answer-lines (r .number) (r .total ∷ []) (map order-line (nodes-from (r .total) z))
       go zero e s = rw (s .0 .0, s .0 .2, s .1, span-back x lo hi _ (taken (span lo hi o) x e .0))
       go (suc n) e s = rw (s .0 .0)
+
+  -- what it found fits the output that it was lent
+  pub span-room : 12 * r .total ≤ length o
+  unfolding Span-says Span-as says book-refusal asks asks-span asks-range first-no
+  span-room = go (refusal (span lo hi o) x) refl h
+    where
+      go : (n : ℕ) → refusal (span lo hi o) x ≡ n → Span-as n (between lo hi (orders-in x)) r o z → 12 * r .total ≤ length o
+      go zero e s =
+          let a = passes 4 (is-key lo && is-key hi) _ (taken (span lo hi o) x e .1) in
+          let b = passes 9 (leb lo hi) _ (a .1) in
+          let c = passes 10 (leb (12 * length (between lo hi (orders-in x))) (length o)) 0 (b .1) in
+          omega (arith, s .0 .2, leb-true (12 * length (between lo hi (orders-in x))) (length o) (c .0))
+      go (suc n) e s = omega (arith, s .0 .2)
 
   module _ (old : List ℕ) (used : ℕ) (new : List ℕ) (p : ℕ) where
     pub span-no : r .number ≢ 0 → Said old used (row (r .number) [] ∷ []) new p → Said old used (span-lines x lo hi (length o)) new p

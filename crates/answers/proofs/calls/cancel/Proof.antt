@@ -1,6 +1,6 @@
 -- `answers::calls::cancel` meets its contract.
 use borrow.Author.Needs.{needs}
-use Rattle.answers.proofs.Laws.Found.{front-back}
+use Rattle.answers.proofs.Laws.Buffers.{front-back}
 use Rattle.answers.proofs.calls.cancel.Statement.{statement}
 use Rattle.answers.proofs.calls.cancel.Tie as tie
 

@@ -1,7 +1,7 @@
 -- `answers::calls::make` meets its contract.
 use borrow.Author.Needs.{needs}
 use Rattle.answers.proofs.Laws.Asked.{make-asked}
-use Rattle.answers.proofs.Laws.Found.{front-back}
+use Rattle.answers.proofs.Laws.Buffers.{front-back}
 use Rattle.answers.proofs.calls.make.Statement.{statement}
 use Rattle.answers.proofs.calls.make.Tie as tie
 

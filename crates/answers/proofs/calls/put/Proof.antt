@@ -1,6 +1,6 @@
 -- `answers::calls::put` meets its contract.
 use borrow.Author.Needs.{needs}
-use Rattle.answers.proofs.Laws.Found.{front-back}
+use Rattle.answers.proofs.Laws.Buffers.{front-back}
 use Rattle.answers.proofs.calls.put.Statement.{statement}
 use Rattle.answers.proofs.calls.put.Tie as tie
 

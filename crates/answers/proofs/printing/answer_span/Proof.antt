@@ -1,8 +1,7 @@
 -- `answers::printing::answer_span` meets its contract.
 use borrow.Author.Needs.{needs}
 use native.Mathlib.Omega.{arith}
-use Rattle.answers.proofs.Laws.Answers.{span-no, span-yes}
-use Rattle.answers.proofs.Laws.Found.{span-room}
+use Rattle.answers.proofs.Laws.Answers.{span-room, span-no, span-yes}
 use Rattle.answers.proofs.printing.answer_span.Statement.{statement}
 use Rattle.answers.proofs.printing.answer_span.Tie as tie
 
