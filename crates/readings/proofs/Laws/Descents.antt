@@ -120,23 +120,16 @@ between-behind lo hi (x ∷ xs) zs e =
     let w = and-parts (ltb (x .key) lo) (below lo xs) e in
     rw (lt-leb lo (x .key) (ltb-true (x .key) lo (w .0))) (between-behind lo hi xs zs (w .1))
 
-first-there : (xs : List Order) (y : Order) (zs : List Order) → below (y .key) xs ≡ true → first-enough 0 (between (y .key) (y .key) (xs ++ y ∷ zs)) ≡ Is y
-unfolding between first-enough
-first-there xs y zs e = rw (between-behind (y .key) (y .key) xs (y ∷ zs) e, le-leb (y .key) (y .key) (omega arith), le-leb 0 (reserve y) (omega arith))
+-- .. is what stands first behind the way to the key, if it has the key
+same-there : (xs : List Order) (y : Order) (zs qs : List Order) → below (y .key) xs ≡ true → with-key (y .key) (y ∷ qs) ≡ first-enough 0 (between (y .key) (y .key) (xs ++ y ∷ zs))
+unfolding between first-enough with-key
+same-there xs y zs qs e =
+    rw (between-behind (y .key) (y .key) xs (y ∷ zs) e, le-leb (y .key) (y .key) (omega arith), le-leb 0 (reserve y) (omega arith), eq-eqb (y .key) (y .key) refl)
 
-first-absent : (k : ℕ) (xs zs : List Order) → below k xs ≡ true → Up (suc k) zs → first-enough 0 (between k k (xs ++ zs)) ≡ sought.Nothing
-unfolding first-enough
-first-absent k xs zs e u = rw (between-behind k k xs zs e, between-above k k (suc k) zs (omega arith) u)
-
--- what stands first behind the way to a key
-with-there : (y : Order) (qs : List Order) → with-key (y .key) (y ∷ qs) ≡ Is y
-unfolding with-key
-with-there y qs = rw (eq-eqb (y .key) (y .key) refl)
-
-with-absent : (k : ℕ) (qs : List Order) → Up (suc k) qs → with-key k qs ≡ sought.Nothing
-unfolding with-key
-with-absent k [] u = refl
-with-absent k (q ∷ qs) u = rw (ne-eqb (q .key) k (omega (arith, u .0)))
+same-absent : (k : ℕ) (xs zs qs : List Order) → below k xs ≡ true → Up (suc k) zs → Up (suc k) qs → with-key k qs ≡ first-enough 0 (between k k (xs ++ zs))
+unfolding first-enough with-key
+same-absent k xs zs [] e u v = rw (between-behind k k xs zs e, between-above k k (suc k) zs (omega arith) u)
+same-absent k xs zs (q ∷ qs) e u v = rw (between-behind k k xs zs e, between-above k k (suc k) zs (omega arith) u, ne-eqb (q .key) k (omega (arith, v .0)))
 
 module _ (s : Sizes) (bs : List ℕ) (w : Known s bs) (k : ℕ) (pos : 1 ≤ k) where
   -- a key of a higher level heads its partition
@@ -147,12 +140,10 @@ module _ (s : Sizes) (bs : List ℕ) (w : Known s bs) (k : ℕ) (pos : 1 ≤ k) 
       go os u (there xs y zs q z) =
           let up : 1 < level s (y .key) = omega (arith, level-least s k, eqb-false (level s k) 1 (sym eb ∙ h), ap (level s) z) in
           rw (q, ← z)
-          (ap (with-key (y .key)) (part-right s 1 xs y zs (rw q at u) up) ∙ with-there y (tail-part s 1 zs)
-          ∙ sym (first-there xs y zs (below-here xs y zs 1 (rw q at u))))
+          (ap (with-key (y .key)) (part-right s 1 xs y zs (rw q at u) up) ∙ same-there xs y zs (tail-part s 1 zs) (below-here xs y zs 1 (rw q at u)))
       go os u (absent xs zs q b v) =
           rw q
-          (ap (with-key k) (part-none s (xs ++ zs) 1 k (rw q at u) (omega arith) (held-absent k xs zs b v)) ∙ with-absent k [] tt
-          ∙ sym (first-absent k xs zs b v))
+          (ap (with-key k) (part-none s (xs ++ zs) 1 k (rw q at u) (omega arith) (held-absent k xs zs b v)) ∙ same-absent k xs zs [] b v tt)
 
   -- .. and one of level 1 stands behind the nodes below it
   pub order-low : (b : Bool) → b ≡ eqb (level s k) 1 → b ≡ true → (f : ℕ) → Leads s bs 1 k f → (x : Spot) → Reaches s bs 1 f k x →
@@ -178,7 +169,6 @@ module _ (s : Sizes) (bs : List ℕ) (w : Known s bs) (k : ℕ) (pos : 1 ≤ k) 
           let v = up-behind xs y zs 1 u in
           let low : level s (y .key) ≡ 1 = omega (arith, eqb-true (level s k) 1 (sym eb ∙ h), ap (level s) z) in
           ap (with-key k) (behind xs (y ∷ zs) q (rw z at b) (omega (arith, z), v) ∙ tail-same s 1 y zs (omega (arith, z)) low)
-          ∙ rw (← z, q) (with-there y (tail-part s 1 zs) ∙ sym (first-there xs y zs b))
+          ∙ rw (← z, q) (same-there xs y zs (tail-part s 1 zs) b)
       go (absent xs zs q b v) =
-          ap (with-key k) (behind xs zs q b (up-from zs (omega arith) v)) ∙ with-absent k (tail-part s 1 zs) (tail-above s 1 (suc k) zs v)
-          ∙ rw q (sym (first-absent k xs zs b v))
+          ap (with-key k) (behind xs zs q b (up-from zs (omega arith) v)) ∙ rw q (same-absent k xs zs (tail-part s 1 zs) b v (tail-above s 1 (suc k) zs v))
