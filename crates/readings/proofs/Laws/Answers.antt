@@ -79,9 +79,11 @@ module _ (bs : List ℕ) (image : is-image bs ≡ true) (lo hi : ℕ) where
       omega (arith, between-few lo hi (orders-in bs), fits-parts (sizes-in bs) (orders-in bs) (k .fit) .few, limits (sizes-in bs) (k .sizes-made) .orders-most)
 
   tallied : (b : Bool) (w : Visit) (x z : List ℕ) → (b ≡ true → 12 * length (between lo hi (orders-in bs)) ≤ length x) →
-      scan w z ≡ steps (orders-in bs) (scan (starting lo hi 0 b false) x) → (w .found ≡ length (between lo hi (orders-in bs))) × (z ≡ rowed b x 0 (between lo hi (orders-in bs)))
+      scan w z ≡ steps (orders-in bs) (scan (starting lo hi 0 b false) x) →
+      (w .found ≡ length (between lo hi (orders-in bs))) × (z ≡ rowed b x 0 (between lo hi (orders-in bs)))
   tallied b w x z room e =
-      let t = tally (starting lo hi 0 b false) x refl (orders-in bs) 1 (orders-up (sizes-in bs) bs (known-image bs image)) refl (omega (arith, few)) (λ q. omega (arith, room q)) in
+      let u = orders-up (sizes-in bs) bs (known-image bs image) in
+      let t = tally (starting lo hi 0 b false) x refl (orders-in bs) 1 u refl (omega (arith, few)) (λ q. omega (arith, room q)) in
       (ap (λ (y : Scan). y .visit .found) e ∙ t .found ∙ omega arith, ap (λ (y : Scan). y .output) e ∙ t .output)
 
   -- counting

@@ -89,10 +89,11 @@ module _ (s : Sizes) (bs : List ℕ) (w : Known s bs) (some : 0 < s .nodes) (f m
         unfolding with-key
         there-is =
             let e : 53 + b * block-long s + 8 + 12 * (m % s .nodes) ≡ a + (8 + 12 * (m % s .nodes)) = omega (arith, ea) in
-            let here = node-here bs (take (s .nodes) chunk-on) (53 + b * block-long s + 8) (m % s .nodes) (omega (arith, h, count-is)) (got .nodes ∙ masked-one (take (s .nodes) chunk-on)) in
+            let own = take (s .nodes) chunk-on in
+            let here = node-here bs own (53 + b * block-long s + 8) (m % s .nodes) (omega (arith, h, count-is)) (got .nodes ∙ masked-one own) in
             ap (with-key k)
             (sym cut ∙ ap (drop (m % s .nodes)) (sym (take-append-drop (s .nodes) chunk-on))
-            ∙ drop-append-le (m % s .nodes) (take (s .nodes) chunk-on) (drop (s .nodes) chunk-on) (omega (arith, h, count-is))
+            ∙ drop-append-le (m % s .nodes) own (drop (s .nodes) chunk-on) (omega (arith, h, count-is))
             ∙ ap (λ (z : List Order). z ++ drop (s .nodes) chunk-on) (rw (e, ← eo) at here))
 
         pub there-other : (o .key ≡ k → ⊥) → sought.Nothing ≡ with-key k left
@@ -121,7 +122,8 @@ between-behind lo hi (x ∷ xs) zs e =
     rw (lt-leb lo (x .key) (ltb-true (x .key) lo (w .0))) (between-behind lo hi xs zs (w .1))
 
 -- .. is what stands first behind the way to the key, if it has the key
-same-there : (xs : List Order) (y : Order) (zs qs : List Order) → below (y .key) xs ≡ true → with-key (y .key) (y ∷ qs) ≡ first-enough 0 (between (y .key) (y .key) (xs ++ y ∷ zs))
+same-there : (xs : List Order) (y : Order) (zs qs : List Order) → below (y .key) xs ≡ true →
+    with-key (y .key) (y ∷ qs) ≡ first-enough 0 (between (y .key) (y .key) (xs ++ y ∷ zs))
 unfolding between first-enough with-key
 same-there xs y zs qs e =
     rw (between-behind (y .key) (y .key) xs (y ∷ zs) e, le-leb (y .key) (y .key) (omega arith), le-leb 0 (reserve y) (omega arith), eq-eqb (y .key) (y .key) refl)

@@ -178,7 +178,8 @@ module _ (bs : List ℕ) (lo hi : ℕ) where
 
 -- SEEK
 module _ (bs : List ℕ) (lo hi least : ℕ) (r : Reply) (n : ℕ) (en : n ≡ first-no (asks-image bs ++ asks-range lo hi)) where
-  seek-by : (i : ℕ) → cond (eqb n 0) (cond (any-reserve least (between lo hi (orders-in bs))) 0 12) n ≡ i → Seek-as i (orders-in bs) lo hi least r → Seek-says bs lo hi least r
+  seek-by : (i : ℕ) → cond (eqb n 0) (cond (any-reserve least (between lo hi (orders-in bs))) 0 12) n ≡ i →
+      Seek-as i (orders-in bs) lo hi least r → Seek-says bs lo hi least r
   unfolding Seek-says refusal asks asks-seek
   seek-by i e h = subst (λ (j : ℕ). Seek-as j (orders-in bs) lo hi least r) (sym (range-more bs lo hi n en 12 _ ∙ e)) h
 

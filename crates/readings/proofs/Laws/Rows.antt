@@ -60,7 +60,8 @@ row-piece s os l f n m u =
     }
 
 -- a row of at least one node
-first-own : (l : ℕ) (n : Order) (ns own : List Order) → n ∷ ns ≡ map (masked l) own → (x : Order) × (xs : List Order) × (own ≡ x ∷ xs) × (n ≡ masked l x) × (ns ≡ map (masked l) xs)
+first-own : (l : ℕ) (n : Order) (ns own : List Order) → n ∷ ns ≡ map (masked l) own →
+    (x : Order) × (xs : List Order) × (own ≡ x ∷ xs) × (n ≡ masked l x) × (ns ≡ map (masked l) xs)
 first-own l n ns [] e = absurd (omega (arith, ap length e))
 first-own l n ns (x ∷ xs) e = (x, xs, refl, cc, cc)
 
@@ -109,19 +110,16 @@ up-behind [] zs a u = up-from zs (omega arith) u
 up-behind (x ∷ xs) zs a u = up-behind xs zs (suc (x .key)) (u .1)
 
 module _ (s : Sizes) (os : List Order) (u : Up 1 os) where
-  all-up : Up 0 (front ∷ os)
-  unfolding front
-  all-up = (omega arith, u)
-
   pub next-below : (l : ℕ) (x y : Order) (A B : List Order) → list-at s (suc l) os ≡ A ++ x ∷ y ∷ B → below (y .key) (spread s os l x) ≡ true
-  unfolding each
+  unfolding each front
   next-below l x y A B e =
       let f = spread s os l in
+      let v : Up 0 (front ∷ os) = (omega arith, u) in
       let n = heading s os l y B (A ++ x ∷ []) (e ∙ sym (append-assoc A (x ∷ []) (y ∷ B))) in
       let p = shape s (part s os) l y (f y) (walks-part s os u l y n) in
       let w : front ∷ os ≡ each f A ++ (f x ++ p .head ∷ (p .rest ++ each f B)) =
       sym (spread-all s os u l) ∙ ap (each f) e ∙ each-append f A (x ∷ y ∷ B) ∙ ap (λ (z : List Order). each f A ++ (f x ++ (z ++ each f B))) (p .whole) in
-      subst (λ (k : ℕ). below k (f x) ≡ true) (p .same) (below-here (f x) (p .head) (p .rest ++ each f B) 0 (up-behind (each f A) _ 0 (subst (Up 0) w all-up)))
+      subst (λ (k : ℕ). below k (f x) ≡ true) (p .same) (below-here (f x) (p .head) (p .rest ++ each f B) 0 (up-behind (each f A) _ 0 (subst (Up 0) w v)))
 
   -- masked nodes open the same
   pub spread-masked : (l : ℕ) (x : Order) → spread s os l (masked (suc l) x) ≡ spread s os l x

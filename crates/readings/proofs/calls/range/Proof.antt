@@ -11,7 +11,9 @@ returns : tie.Need-returns
 returns c = range-number _ _ _ false _ _ _ (checked-no _ _ (c .before .check .ensures .0) (c .if1 .taken)) refl refl refl
 
 returns-2 : tie.Need-returns-2
-returns-2 c = range-number _ _ _ true false _ _ (checked-yes _ _ (c .before .before .before .check .ensures .0) (c .before .before .if1 .left)) (sym (c .before .is-key .ensures) ∙ not-true _ (c .if2 .taken)) refl refl
+returns-2 c =
+    range-number _ _ _ true false _ _ (checked-yes _ _ (c .before .before .before .check .ensures .0) (c .before .before .if1 .left))
+    (sym (c .before .is-key .ensures) ∙ not-true _ (c .if2 .taken)) refl refl
 
 returns-3 : tie.Need-returns-3
 returns-3 c =
