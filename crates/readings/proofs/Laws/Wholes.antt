@@ -118,19 +118,16 @@ last-node bs a (suc j) =
 -- what `visit_whole` gives
 module _ (s : Sizes) (bs : List ℕ) (a j : ℕ) (v : Visit) (x : List ℕ) (k : Known s bs) (w : Whole bs a j v (length x)) (room : a + 12 * j ≤ length bs)
     (row : Row s (orders-in bs) 1 (nodes-from j (drop a bs))) (o : Order) (eo : o ≡ node-of bs (a + 12 * (j - 1))) where
-  ns : List Order
+  abbrev ns : List Order
   ns = nodes-from (j - 1) (drop (a + 12) bs)
 
   parts : nodes-from j (drop a bs) ≡ node-of bs a ∷ ns
-  unfolding ns
   parts = nodes-first bs a j (w .some)
 
   many : suc (length ns) ≡ j
-  unfolding ns
   many = omega (arith, nodes-count (j - 1) (drop (a + 12) bs), w .some)
 
   last : last-of (node-of bs a) ns ≡ o
-  unfolding ns
   last = last-node bs a (j - 1) ∙ sym eo
 
   rising : Up (v .lo) (node-of bs a ∷ ns)
