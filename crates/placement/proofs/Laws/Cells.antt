@@ -138,42 +138,6 @@ module _ {S R : Type 0} (s : Store S) (r : Store R) (m : ℕ) (f : R → S) (Val
       rw (q .look x v (i % m) j, q .look x v e h, q .swap x v (i % m) e j h, cond-out f t)
       (settle-same k e (suc i) (cond t (r .swap x (i % m) e) x) (cond-valid Valid t _ _ (q .swap-valid x v (i % m) e j h) v) h)
 
--- the blocks as a store, and the bytes of a table over it
-abbrev pub cells : (w : ℕ) → Store (List (List ℕ))
-cells w =
-    record {
-      look = λ bl i. head-label (getD bl i []);
-      copy = λ bl i j. set bl j (getD bl i []);
-      swap = λ bl i j. set (set bl i (getD bl j [])) j (getD bl i []);
-      clear = λ bl i. set bl i (replicate w 0);
-    }
-
-pub cells-same : (w m : ℕ) (hd : List ℕ) → length hd ≡ 53 → 8 ≤ w
-    → Same (bytes w) (cells w) m (λ bl. hd ++ join bl) (λ bl. Even w bl × (length bl ≡ m))
-unfolding copy-in swap-in clear-in
-cells-same w m hd eh w8 =
-    record {
-      look = λ x v i h. label-cell w (hd ++ join x) i w8 ∙ rw (table-block w hd eh (v .0) i (omega arith));
-      copy = λ x v i j hi hj.
-          let li : i < length x = omega arith in
-          let lj : j < length x = omega arith in
-          rw (table-block w hd eh (v .0) i li) (table-put w hd eh (v .0) j lj (getD x i []) (even-at w (v .0) i li));
-      swap = λ x v i j hi hj.
-          let li : i < length x = omega arith in
-          let lj : j < length x = omega arith in
-          let ei : length (getD x i []) ≡ w = even-at w (v .0) i li in
-          let ej : length (getD x j []) ≡ w = even-at w (v .0) j lj in
-          let lj′ : j < length (set x i (getD x j [])) = rw length-set lj in
-          rw (table-block w hd eh (v .0) i li, table-block w hd eh (v .0) j lj, table-put w hd eh (v .0) i li (getD x j []) ej)
-          (table-put w hd eh (even-set w (v .0) i _ ej) j lj′ (getD x i []) ei);
-      clear = λ x v i h. table-put w hd eh (v .0) i (omega arith) (replicate w 0) (length-replicate w 0);
-      copy-valid = λ x v i j hi hj. (even-set w (v .0) j _ (even-at w (v .0) i (omega arith)), length-set x j _ ∙ v .1);
-      swap-valid = λ x v i j hi hj. (
-        even-set w (even-set w (v .0) i _ (even-at w (v .0) j (omega arith))) j _ (even-at w (v .0) i (omega arith)),
-        simp length-set (v .1),
-      );
-    }
-
 -- THE BLOCKS OF A TABLE, read from its bytes: cut and join undo one another
 pub length-zero : {A : Type 0} (l : List A) → length l ≡ 0 → l ≡ []
 length-zero [] e = refl

@@ -7,11 +7,11 @@ use native.Mathlib.Omega.{arith}
 use lib.ListN.{length, getD, set, replicate, length-set, length-map}
 use Rattle.placement.specs.Blocks.{Block, empty}
 use Rattle.sizes.specs.Numbers.{rows}
-use Rattle.sizes.specs.Parts.{block-in, put-block}
+use Rattle.sizes.specs.Parts.{block-in, put-block, clear-in, copy-in, swap-in}
 use Rattle.placement.specs.Decode.{head-label}
 use Rattle.placement.specs.Place.{label-in, bytes, Store, pull, settle, probe}
 use Rattle.placement.specs.declared.Label.{Label}
-use Rattle.placement.proofs.Laws.Cells.{join, Even, none, more, table-block, table-put, cells, Same, cells-same, pull-same, settle-same}
+use Rattle.placement.proofs.Laws.Cells.{join, Even, none, more, table-block, table-put, label-cell, Same, pull-same, settle-same}
 
 -- A CODING: `Good` says of a block that bytes can hold it
 pub record Coding {A : Type 0} (w : ℕ) (code : Block A → List ℕ) (label : Block A → Label) (Good : Block A → Type 0) : Type 0 where
@@ -67,25 +67,10 @@ module _ {A : Type 0} {w : ℕ} {code : Block A → List ℕ} {label : Block A �
   even-all good-none = none
   even-all (good-more k r) = more (q .long k) (even-all r)
 
-  listed-same : (m : ℕ) → Same (cells w) (listed label) m (λ bl. map code bl) (λ bl. All Good bl × (length bl ≡ m))
-  listed-same m =
-      record {
-        look = λ x v i l. ap head-label (bytes-at code x i m l (v .1)) ∙ q .head (good-at (v .0) i);
-        copy = λ x v i j li lj. rw (bytes-at code x i m li (v .1)) (sym (map-set code x j _));
-        swap = λ x v i j li lj. rw (bytes-at code x i m li (v .1), bytes-at code x j m lj (v .1), ← map-set code x i, ← map-set code);
-        clear = λ x v i l. sym (map-set code x i empty ∙ ap (λ (z : List ℕ). set (map code x) i z) (q .clear));
-        copy-valid = λ x v i j li lj. (good-set (v .0) j (good-at (v .0) i), length-set x j _ ∙ v .1);
-        swap-valid = λ x v i j li lj.
-            (good-set (good-set (v .0) i (good-at (v .0) j)) j (good-at (v .0) i), simp length-set (v .1));
-      }
-
   -- THE WHOLE WAY: what is done to the bytes of a head and blocks is done to the blocks
   module _ (m : ℕ) (pos : 0 < m) (hd : List ℕ) (eh : length hd ≡ 53) (bl : List (Block A)) (v : All Good bl) (l : length bl ≡ m) where
     many : length (map code bl) ≡ m
     many = length-map bl code ∙ l
-
-    in-cells : Same (bytes w) (cells w) m (λ x. hd ++ join x) (λ x. Even w x × (length x ≡ m))
-    in-cells = cells-same w m hd eh (q .wide)
 
     pub block-read : (i : ℕ) → i < m → block-in w (hd ++ rows code bl) i ≡ code (getD bl i empty)
     block-read i h = rw rows-join (table-block w hd eh (even-all v) i (omega (arith, many)) ∙ bytes-at code bl i m h l)
@@ -97,21 +82,37 @@ module _ {A : Type 0} {w : ℕ} {code : Block A → List ℕ} {label : Block A �
         ∙ ap (λ (x : List ℕ). hd ++ x) (ap join (sym (map-set code bl i b)) ∙ sym (rows-join code (set bl i b))))
 
     pub label-blocks : (i : ℕ) → i < m → label-in w (hd ++ rows code bl) i ≡ label (getD bl i empty)
-    label-blocks i h = rw rows-join (in-cells .look (map code bl) (even-all v, many) i h ∙ listed-same m .look bl (v, l) i h)
+    label-blocks i h = label-cell w (hd ++ rows code bl) i (q .wide) ∙ ap head-label (block-read i h) ∙ q .head (good-at v i)
 
     pub probe-blocks : (want : Label) (k i : ℕ) → probe (label-in w (hd ++ rows code bl)) m want k i ≡ probe (λ j. label (getD bl j empty)) m want k i
     unfolding probe
     probe-blocks want zero i = refl
     probe-blocks want (suc k) i = rw (label-blocks (i % m) (mod-lt i pos), probe-blocks want k (suc i))
 
-    pub pull-blocks : (home : Label → ℕ) (k e i : ℕ) → e < m → pull (bytes w) home m k e i (hd ++ rows code bl) ≡ hd ++ rows code (pull (listed label) home m k e i bl)
-    pull-blocks home k e i h =
-        rw (rows-join, rows-join)
-        (pull-same (bytes w) (cells w) m _ _ in-cells pos home k e i (map code bl) (even-all v, many) h
-        ∙ ap (λ (r : List (List ℕ)). hd ++ join r) (pull-same (cells w) (listed label) m _ _ (listed-same m) pos home k e i bl (v, l) h))
+  -- .. so the bytes and the blocks are two stores that an edit treats alike
+  module _ (m : ℕ) (pos : 0 < m) (hd : List ℕ) (eh : length hd ≡ 53) where
+    abbrev Fit : List (Block A) → Type 0
+    Fit bl = All Good bl × (length bl ≡ m)
 
-    pub settle-blocks : (k e i : ℕ) → e < m → settle (bytes w) m k e i (hd ++ rows code bl) ≡ hd ++ rows code (settle (listed label) m k e i bl)
-    settle-blocks k e i h =
-        rw (rows-join, rows-join)
-        (settle-same (bytes w) (cells w) m _ _ in-cells pos k e i (map code bl) (even-all v, many) h
-        ∙ ap (λ (r : List (List ℕ)). hd ++ join r) (settle-same (cells w) (listed label) m _ _ (listed-same m) pos k e i bl (v, l) h))
+    put : (x : List (Block A)) → Fit x → (i : ℕ) (b : Block A) → i < m → Good b → put-block w (hd ++ rows code x) i (code b) ≡ hd ++ rows code (set x i b)
+    put x v = block-write m pos hd eh x (v .0) (v .1)
+
+    same : Same (bytes w) (listed label) m (λ bl. hd ++ rows code bl) Fit
+    unfolding copy-in swap-in clear-in
+    same =
+        let at : (x : List (Block A)) → Fit x → (i : ℕ) → i < m → block-in w (hd ++ rows code x) i ≡ code (getD x i empty) = λ x v. block-read m pos hd eh x (v .0) (v .1) in
+        let set-fit : (x : List (Block A)) → Fit x → (i j : ℕ) → Fit (set x i (getD x j empty)) = λ x v i j. (good-set (v .0) i (good-at (v .0) j), length-set x i _ ∙ v .1) in
+        record {
+          look = λ x v. label-blocks m pos hd eh x (v .0) (v .1);
+          copy = λ x v i j li lj. rw (at x v i li) (put x v j _ lj (good-at (v .0) i));
+          swap = λ x v i j li lj. rw (at x v i li, at x v j lj, put x v i _ li (good-at (v .0) j)) (put (set x i _) (set-fit x v i j) j _ lj (good-at (v .0) i));
+          clear = λ x v i l. rw (← q .clear) (put x v i empty l (q .free));
+          copy-valid = λ x v i j li lj. set-fit x v j i;
+          swap-valid = λ x v i j li lj. (good-set (set-fit x v i j .0) j (good-at (v .0) i), length-set (set x i _) j _ ∙ set-fit x v i j .1);
+        }
+
+    pub pull-blocks : (home : Label → ℕ) (k e i : ℕ) (bl : List (Block A)) → Fit bl → e < m → pull (bytes w) home m k e i (hd ++ rows code bl) ≡ hd ++ rows code (pull (listed label) home m k e i bl)
+    pull-blocks = pull-same (bytes w) (listed label) m _ _ same pos
+
+    pub settle-blocks : (k e i : ℕ) (bl : List (Block A)) → Fit bl → e < m → settle (bytes w) m k e i (hd ++ rows code bl) ≡ hd ++ rows code (settle (listed label) m k e i bl)
+    settle-blocks = settle-same (bytes w) (listed label) m _ _ same pos

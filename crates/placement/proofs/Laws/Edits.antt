@@ -66,7 +66,7 @@ module _ (s : Sizes) (some : 0 < s .blocks) (hd : List ℕ) (eh : length hd ≡ 
 
   pub pull-at : (i : ℕ) → i < s .blocks → pull (bytes (block-long s)) (home s) (s .blocks) (s .blocks - 1) i (i + 1) (hd ++ all-bytes s bl) ≡ hd ++ all-bytes s (removed-at (chunk-home s) (s .blocks) i bl)
   pull-at i h =
-      pull-blocks (coding s) (s .blocks) some hd eh bl v long (home s) (s .blocks - 1) i (i + 1) h
+      pull-blocks (coding s) (s .blocks) some hd eh (home s) (s .blocks - 1) i (i + 1) bl (v, long) h
       ∙ ap (λ (x : List (Block Chunk)). hd ++ all-bytes s x) (pull-removed s some i bl v h)
 
   -- INSERTION
@@ -129,7 +129,7 @@ module _ (s : Sizes) (some : 0 < s .blocks) (hd : List ℕ) (eh : length hd ≡ 
           ≡ hd ++ all-bytes s (insert-from chunk-before (s .blocks) start (s .blocks) (labelled w ns) bl)
       insert-here =
           rw (block-put e (holds (labelled w ns)) inside (held q))
-          (settle-blocks (coding s) (s .blocks) some hd eh (set bl e (holds (labelled w ns))) (good-set s v e (held q)) (length-set bl e _ ∙ long) (r .steps) e start inside
+          (settle-blocks (coding s) (s .blocks) some hd eh (r .steps) e start (set bl e (holds (labelled w ns))) (good-set s v e (held q), length-set bl e _ ∙ long) inside
           ∙ ap (λ (x : List (Block Chunk)). hd ++ all-bytes s x) (settle-theory s some e inside (r .steps) (s .blocks) start (labelled w ns) bl carry ahead))
 
     pub insert-at : (r : Found) → r ≡ free-in (label-in (block-long s) (hd ++ all-bytes s bl)) (s .blocks) (s .blocks) start

@@ -227,12 +227,6 @@ module _ {A L R : Type 0} (k : Kind A L R) (home : A → ℕ) (before : A → A 
   holds-read bs long r =
       holds-map (held bs) bs r (λ c a. let s = held-stands bs c a in record { at = s .at; is = around-inside m bs (s .at) (omega (arith, s .inside)) ∙ s .is }) (λ c t. among-held bs (t .at % m) c (t .is))
 
-  -- TWO TABLES that keep rule 3 and read the same under each label are equal
-  pub one-reading : (bs cs : List (Block A)) → length bs ≡ m → length cs ≡ m → Rule-3 home before m bs → Rule-3 home before m cs → ((c : A) → Stands m bs c → k .rows c ≢ [])
-      → ((c : A) → Stands m cs c → k .rows c ≢ []) → ((w : L) → map-of k (held bs) w ≡ map-of k (held cs) w) → bs ≡ cs
-  one-reading bs cs p q r r′ n n′ e =
-      one-table bs cs (map-of k (held cs)) p q r r′ (subst (λ (F : L → List R). Holds k m bs F) (λ j w. e w j) (holds-read bs p r n)) (holds-read cs q r′ n′)
-
   -- ---- THE PROMISES
 
   -- ONE TABLE keeps a map

@@ -30,7 +30,6 @@ use Rattle.placement.proofs.Laws.Coded.{label-blocks}
 use Rattle.placement.proofs.Laws.Decoding.{Clean, table-again, blocks-good, blocks-many, blocks-full}
 use Rattle.placement.proofs.Laws.Finding.{place-of, probe-theory}
 use Rattle.placement.proofs.Laws.Edits.{search-blocks}
-use Rattle.placement.proofs.Laws.Search
 use Rattle.sizes.proofs.Laws.Numbers.{Bytes}
 
 -- the search for the label of c, from i on, ends at the place j

@@ -120,21 +120,6 @@ module _ (s : Sizes) (F : Map) (n : ℕ) (hd bs : List ℕ) (t : Table s F n hd 
           is-at h q (block-bytes-at s some hd (t .head) (t .blocks) all (t .keeps .long) i h ∙ ap (block-bytes s) (sym (around-inside (s .blocks) (t .blocks) i h) ∙ e))
       go Nothing (Finding.is-none q) = is-none q
 
-  pub find-absent : (w : Label) → 0 < w .level → nodes-of F w ≡ [] → search-in s bs w ≡ Nothing
-  find-absent w pos gone = go (search-in s bs w) (find-told w pos)
-    where
-      go : (r : Found) → Finds s F w bs r → r ≡ Nothing
-      go (At i) (is-at h z e) = absurd (z gone)
-      go Nothing f = refl
-
-  pub find-held : (w : Label) → 0 < w .level → nodes-of F w ≢ [] → found-at (search-in s bs w) ≡ true
-  unfolding found-at
-  find-held w pos full = go (search-in s bs w) (find-told w pos)
-    where
-      go : (r : Found) → Finds s F w bs r → found-at r ≡ true
-      go (At i) f = refl
-      go Nothing (is-none z) = absurd (full z)
-
   -- HOW MANY blocks are full: no more than there are, and some where a label has nodes
   pub count-most : n ≤ s .blocks
   count-most = omega (arith, how-many-most (t .blocks), t .keeps .count, t .keeps .long)
