@@ -1,6 +1,6 @@
 -- This version's blocks in bytes: a head of 8 bytes with the label, nodes of 12 bytes each, and zeros. The laws of bytes over any width are in Rows and Coded; here the width is fixed.
 use mathlib.Core.Path.{_≡_, refl}
-use mathlib.Core.List.{List, [], append-assoc, map}
+use mathlib.Core.List.{List, [], append-assoc}
 use Prim.Native.Nat.{ℕ, suc, _+_, _*_}
 use native.Mathlib.Omega.{arith}
 use lib.ListN.{length, getD, set, length-append, length-replicate}
@@ -17,8 +17,7 @@ use Rattle.placement.specs.Place.{Store}
 use Rattle.placement.specs.Maps.{Holdable}
 use Rattle.sizes.proofs.Laws.Numbers.{field-big}
 use Rattle.placement.proofs.Laws.Rows.{length-rows}
-use Rattle.placement.proofs.Laws.Cells.{join, Even}
-use Rattle.placement.proofs.Laws.Coded.{Coding, All, listed, rows-join}
+use Rattle.placement.proofs.Laws.Coded.{Coding, All, listed}
 use Rattle.placement.proofs.Laws.Coded
 pub use Rattle.placement.proofs.Laws.Coded.{good-none, good-more}
 
@@ -82,8 +81,5 @@ module _ (s : Sizes) where
   pub good-set : {bl : List (Block Chunk)} {b : Block Chunk} → All-good s bl → (i : ℕ) → Good s b → All-good s (set bl i b)
   good-set v i k = Coded.good-set coding v i k
 
-  pub all-join : (bl : List (Block Chunk)) → all-bytes s bl ≡ join (map (block-bytes s) bl)
-  all-join bl = rows-join (block-bytes s) bl
-
-  pub even-all : {bl : List (Block Chunk)} → All-good s bl → Even (block-long s) (map (block-bytes s) bl)
-  even-all v = Coded.even-all coding v
+  pub blocks-long : {bl : List (Block Chunk)} → All-good s bl → length (all-bytes s bl) ≡ length bl * block-long s
+  blocks-long v = Coded.rows-long coding v

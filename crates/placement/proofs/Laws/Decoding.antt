@@ -10,16 +10,15 @@ use lib.Dec.{eqb}
 use lib.ListN.{length, getD, take, drop, replicate, length-drop, length-map, take-append-drop}
 use borrow.Author.Tests.{eq-eqb, ne-eqb}
 use lib.Seq.{drop-drop, length-take-le}
-use Rattle.sizes.specs.Numbers.{big, field}
+use Rattle.sizes.specs.Numbers.{big, field, rows, rows-in}
 use Rattle.placement.specs.Decode.{node-in, nodes-from, head-label, chunk-of, block-of, cut, blocks-in}
 use Rattle.placement.specs.Chunks.{node-bytes, nodes-bytes, block-bytes, all-bytes, Chunk}
 use Rattle.sizes.specs.Header.{block-long}
 use Rattle.sizes.specs.Parts.{block-in}
-use Rattle.placement.specs.Blocks.{empty, holds}
+use Rattle.placement.specs.Blocks.{Block, empty, holds}
 use Rattle.sizes.specs.declared.Sizes.{Sizes}
-use Rattle.placement.proofs.Laws.Bridge.{Good, free, held, All-good, good-none, good-more, all-join}
-use Rattle.placement.proofs.Laws.Cells.{join, cut-length, as-table}
-use Rattle.sizes.specs.Numbers.{rows-in}
+use Rattle.placement.proofs.Laws.Bridge.{Good, free, held, All-good, good-none, good-more}
+use Rattle.placement.proofs.Laws.Cells.{cut-length, length-zero}
 use Rattle.placement.proofs.Laws.Rows.{rows-count, rows-some, rows-again, each-read}
 use Rattle.sizes.proofs.Laws.Numbers.{Bytes, bytes-take, bytes-drop, take-more, field-again, field-less}
 use Rattle.placement.specs.Maps.{Fine}
@@ -112,50 +111,55 @@ module _ (s : Sizes) where
       let e : suc i * block-long s ≡ block-long s + i * block-long s = suc-mul i (block-long s) ∙ add-comm _ _ in
       rw drop-drop (subst (λ (k : ℕ). Clean s (take (block-long s) (drop k l))) e (c (suc i) (omega arith)))
 
-  cut-again : (m : ℕ) (l : List ℕ) → length l ≡ m * block-long s → Bytes l → Cut-clean m l → map (block-bytes s) (map block-of (cut (block-long s) m l)) ≡ cut (block-long s) m l
-  unfolding rows-in
-  cut-again zero l e b c = refl
-  cut-again (suc m) l e b c =
-      let x = block-again s (take (block-long s) l) (length-take-le (block-long s) l (omega (arith, suc-mul m (block-long s)))) (bytes-take (block-long s) l b) (first-clean m l c) in
-      let xs = cut-again m (drop (block-long s) l) (simp length-drop (omega (arith, suc-mul m (block-long s)))) (bytes-drop (block-long s) l b) (rest-clean m l c) in
-      λ i. x i ∷ xs i
+  abbrev Full : List (Block Chunk) → Type 0
+  Full bl = (i : ℕ) (c : Chunk) → getD bl i empty ≡ holds c → c .nodes ≢ []
 
-  cut-good : (m : ℕ) (l : List ℕ) → length l ≡ m * block-long s → Bytes l → Cut-clean m l → All-good s (map block-of (cut (block-long s) m l))
-  unfolding rows-in
-  cut-good zero l e b c = good-none
-  cut-good (suc m) l e b c =
-      good-more (block-holdable s (take (block-long s) l) (length-take-le (block-long s) l (omega (arith, suc-mul m (block-long s)))) (bytes-take (block-long s) l b) (first-clean m l c))
-      (cut-good m (drop (block-long s) l) (simp length-drop (omega (arith, suc-mul m (block-long s)))) (bytes-drop (block-long s) l b) (rest-clean m l c))
+  -- what blocks read from clean bytes are: those bytes again, blocks that bytes can hold, and full ones with nodes
+  record Read (l : List ℕ) (bl : List (Block Chunk)) : Type 0 where
+    again : all-bytes s bl ≡ l
+    good : All-good s bl
+    full : Full bl
 
-  cut-full : (m : ℕ) (l : List ℕ) → Cut-clean m l → (i : ℕ) (c : Chunk) → getD (map block-of (cut (block-long s) m l)) i empty ≡ holds c → c .nodes ≢ []
-  unfolding rows-in
-  cut-full zero l k i c e = absurd (true≢false cc)
-  cut-full (suc m) l k zero c e = block-full s (take (block-long s) l) (first-clean m l k) c e
-  cut-full (suc m) l k (suc i) c e = cut-full m (drop (block-long s) l) (rest-clean m l k) i c e
+  cut-read : (m : ℕ) (l : List ℕ) → length l ≡ m * block-long s → Bytes l → Cut-clean m l → Read l (map block-of (cut (block-long s) m l))
+  unfolding rows rows-in
+  cut-read zero l e b c = record { again = sym (length-zero l (e ∙ zero-mul (block-long s))); good = good-none; full = λ i c h. absurd (true≢false cc) }
+  cut-read (suc m) l e b c =
+      let x = take (block-long s) l in
+      let n = suc-mul m (block-long s) in
+      let long : length x ≡ block-long s = length-take-le (block-long s) l (omega arith) in
+      let bytes = bytes-take (block-long s) l b in
+      let clean = first-clean m l c in
+      let r = cut-read m (drop (block-long s) l) (simp length-drop (omega arith)) (bytes-drop (block-long s) l b) (rest-clean m l c) in
+      record {
+        again = rw (block-again s x long bytes clean, r .again) (take-append-drop (block-long s) l);
+        good = good-more (block-holdable s x long bytes clean) (r .good);
+        full = full (block-full s x clean) (r .full);
+      }
+    where
+      full : ((c : Chunk) → block-of (take (block-long s) l) ≡ holds c → c .nodes ≢ []) → Full (map block-of (cut (block-long s) m (drop (block-long s) l)))
+          → Full (map block-of (cut (block-long s) (suc m) l))
+      full one others zero c h = one c h
+      full one others (suc i) c h = others i c h
 
   module _ (bs : List ℕ) (long : length bs ≡ 53 + s .blocks * block-long s) (bytes : Bytes bs) (clean : (i : ℕ) → i < s .blocks → Clean s (block-in (block-long s) bs i)) where
     cuts : Cut-clean (s .blocks) (drop 53 bs)
     unfolding block-in
     cuts i h = rw drop-drop (clean i h)
 
-    body : length (drop 53 bs) ≡ s .blocks * block-long s
-    body = simp length-drop (omega arith)
+    read : Read (drop 53 bs) (blocks-in s bs)
+    unfolding blocks-in
+    read = cut-read (s .blocks) (drop 53 bs) (simp length-drop (omega arith)) (bytes-drop 53 bs bytes) cuts
 
     -- THE BYTES are a header and the blocks read back, which bytes can hold
     pub table-again : bs ≡ take 53 bs ++ all-bytes s (blocks-in s bs)
-    unfolding blocks-in
-    table-again =
-        sym (as-table (block-long s) (s .blocks) bs long)
-        ∙ ap (λ (x : List ℕ). take 53 bs ++ x) (ap join (sym (cut-again (s .blocks) (drop 53 bs) body (bytes-drop 53 bs bytes) cuts)) ∙ sym (all-join s (map block-of (cut (block-long s) (s .blocks) (drop 53 bs)))))
+    table-again = rw (read .again) (sym (take-append-drop 53 bs))
 
     pub blocks-good : All-good s (blocks-in s bs)
-    unfolding blocks-in
-    blocks-good = cut-good (s .blocks) (drop 53 bs) body (bytes-drop 53 bs bytes) cuts
+    blocks-good = read .good
 
     pub blocks-many : length (blocks-in s bs) ≡ s .blocks
     unfolding blocks-in
     blocks-many = length-map (cut (block-long s) (s .blocks) (drop 53 bs)) block-of ∙ cut-length (block-long s) (s .blocks) (drop 53 bs)
 
-    pub blocks-full : (i : ℕ) (c : Chunk) → getD (blocks-in s bs) i empty ≡ holds c → c .nodes ≢ []
-    unfolding blocks-in
-    blocks-full i c e = cut-full (s .blocks) (drop 53 bs) cuts i c e
+    pub blocks-full : Full (blocks-in s bs)
+    blocks-full = read .full

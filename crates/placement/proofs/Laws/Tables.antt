@@ -3,11 +3,11 @@ use mathlib.Core.Path.{_≡_, refl, sym, ap, _∙_, subst}
 use mathlib.Core.Logic.{_≢_}
 use mathlib.Core.Bool.{true, false, true≢false}
 use mathlib.Core.List.{List, [], _∷_, _++_}
-use Prim.Native.Nat.{ℕ, zero, suc, _+_, _*_, _-_, _≤_, _<_}
+use Prim.Native.Nat.{ℕ, suc, _+_, _*_, _-_, _≤_, _<_}
 use native.Mathlib.Nat.{mod-eq-of-lt}
 use native.Mathlib.Decide.{decLt}
 use native.Mathlib.Omega.{arith}
-use lib.ListN.{length, getD, set, length-append, length-map}
+use lib.ListN.{length, getD, set, length-append, List·getD-eq-default}
 use lib.Seq.{sets, length-sets}
 use Rattle.placement.specs.Blocks.{Block, empty, holds, stored, Stands, how-many}
 use Rattle.sizes.specs.declared.Sizes.{Sizes}
@@ -30,8 +30,7 @@ use Rattle.sizes.proofs.Laws.Headers.{sizes-head, sets-left, count-sizes}
 use Rattle.placement.proofs.Laws.Removal.{removed-at}
 use Rattle.placement.proofs.Laws.Insertion.{insert-from}
 use Rattle.placement.proofs.Laws.Placed.{store-count}
-use Rattle.placement.proofs.Laws.Cells.{length-join}
-use Rattle.placement.proofs.Laws.Bridge.{Good, free, held, All-good, good-none, good-more, all-join, even-all}
+use Rattle.placement.proofs.Laws.Bridge.{Good, free, held, All-good, good-none, good-more, blocks-long}
 use Rattle.placement.proofs.Laws.Finding.{Told, search-told}
 use Rattle.placement.proofs.Laws.Edits.{block-bytes-at, block-put, search-blocks, pull-at, insert-at, block-written}
 use Rattle.placement.proofs.Laws.Finding
@@ -43,18 +42,13 @@ all-good : (s : Sizes) (bl : List (Block Chunk)) → ((i : ℕ) → Good s (getD
 all-good s [] h = good-none
 all-good s (b ∷ bl) h = good-more (h 0) (all-good s bl (λ i. h (suc i)))
 
-beyond : (bl : List (Block Chunk)) (i : ℕ) → length bl ≤ i → getD bl i empty ≡ empty
-beyond [] i h = refl
-beyond (b ∷ bl) zero h = absurd (omega arith)
-beyond (b ∷ bl) (suc i) h = beyond bl i (omega arith)
-
 -- the blocks that keep a sound map are such that bytes can hold
 pub sound-blocks : (s : Sizes) (F : Map) (n : ℕ) (bl : List (Block Chunk)) → Sound s F → Keeps s bl F n → All-good s bl
 sound-blocks s F n bl q k = all-good s bl (λ i. go i (getD bl i empty) refl (decLt i (s .blocks)))
   where
     go : (i : ℕ) (b : Block Chunk) → getD bl i empty ≡ b → Dec (i < s .blocks) → Good s b
     go i empty z d = free
-    go i (holds c) z (no l) = absurd (true≢false (cc (beyond bl i (omega (arith, k .long)))))
+    go i (holds c) z (no l) = absurd (true≢false (cc (List·getD-eq-default bl empty {n = i} (omega (arith, k .long)))))
     go i (holds c) z (yes l) =
         let t : Stands (s .blocks) bl c = record { at = i; is = around-inside (s .blocks) bl i l ∙ z } in
         let e = k .map .told c t in
@@ -214,10 +208,7 @@ module _ (s : Sizes) (F : Map) (n : ℕ) (hd bs : List ℕ) (t : Table s F n hd 
       }
     where
       blocks-bytes : length (all-bytes s (t .blocks)) ≡ s .blocks * (8 + 12 * s .nodes)
-      blocks-bytes =
-          ap length (all-join s (t .blocks))
-          ∙ length-join (block-long s) (even-all s all)
-          ∙ ap (λ (x : ℕ). x * block-long s) (length-map (t .blocks) (block-bytes s) ∙ t .keeps .long)
+      blocks-bytes = blocks-long s all ∙ rw (t .keeps .long)
 
   -- THE NUMBER OF ORDERS in the header
   pub count-keeps : (k : ℕ) → Table s F n (sets hd 11 (big 2 k)) (sets bs 11 (big 2 k))

@@ -4,7 +4,7 @@ use mathlib.Core.List.{List, [], _++_, map}
 use Prim.Native.Nat.{ℕ, suc, _+_, _*_, _-_}
 use native.Mathlib.Omega.{arith}
 use borrow.Author.Tests.{ne-eqb}
-use lib.ListN.{length, drop, replicate, length-map}
+use lib.ListN.{length, drop, replicate}
 use lib.Seq.{drop-at}
 use Rattle.sizes.specs.Numbers.{big, field}
 use Rattle.sizes.specs.Header.{block-long}
@@ -16,8 +16,8 @@ use Rattle.sizes.specs.declared.Sizes.{Sizes}
 use Rattle.placement.specs.declared.Order.{Order}
 use Rattle.sizes.proofs.Laws.Numbers.{field-big}
 use Rattle.placement.proofs.Laws.Rows.{rows-back}
-use Rattle.placement.proofs.Laws.Cells.{join, cut-join}
-use Rattle.placement.proofs.Laws.Bridge.{Good, free, held, All-good, good-none, good-more, node-long, head-of, all-join, even-all}
+use Rattle.placement.proofs.Laws.Coded.{blocks-again}
+use Rattle.placement.proofs.Laws.Bridge.{Good, free, held, All-good, node-long, head-of, coding}
 
 -- one order, and a row of orders, read back
 node-back : (o : Order) (r : List ℕ) → Fine o → node-in (node-bytes o ++ r) ≡ o
@@ -49,13 +49,8 @@ block-back s free =
     rw e
 block-back s (held {c = c} k) = rw (ne-eqb (c .label .level) 0 (omega (arith, k .level))) (ap holds (chunk-back s c k))
 
-map-back : (s : Sizes) {bl : List (Block Chunk)} → All-good s bl → map block-of (map (block-bytes s) bl) ≡ bl
-map-back s good-none = refl
-map-back s (good-more g r) = rw (block-back s g, map-back s r)
-
 pub blocks-back : (s : Sizes) (hd : List ℕ) (bl : List (Block Chunk)) → length hd ≡ 53 → length bl ≡ s .blocks → All-good s bl → blocks-in s (hd ++ all-bytes s bl) ≡ bl
 unfolding blocks-in
 blocks-back s hd bl h l g =
-    ap (λ (x : List ℕ). map block-of (cut (block-long s) (s .blocks) x)) (drop-at hd (all-bytes s bl) 53 h ∙ all-join s bl)
-    ∙ ap (λ (n : ℕ). map block-of (cut (block-long s) n (join (map (block-bytes s) bl)))) (sym (length-map bl (block-bytes s) ∙ l))
-    ∙ ap (map block-of) (cut-join (block-long s) (even-all s g)) ∙ map-back s g
+    rw (drop-at hd (all-bytes s bl) 53 h)
+    (ap (λ (n : ℕ). map block-of (cut (block-long s) n (all-bytes s bl))) (sym l) ∙ blocks-again (coding s) block-of (λ b k. block-back s k) g)
