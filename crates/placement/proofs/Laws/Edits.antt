@@ -1,10 +1,10 @@
 -- Search, removal, insertion and change by the code, on a header and blocks as bytes, are those of the theory on the blocks.
-use mathlib.Core.Path.{_≡_, refl, sym, ap, _∙_}
+use mathlib.Core.Path.{_≡_, refl, ap, _∙_}
 use mathlib.Core.Logic.{_≢_}
-use mathlib.Core.Bool.{false}
+use mathlib.Core.Bool.{false, true≢false}
 use mathlib.Core.List.{List, [], _++_}
 use Prim.Native.Nat.{ℕ, _+_, _*_, _-_, _%_, _≤_, _<_}
-use native.Mathlib.Nat.{mod-lt, add-zero}
+use native.Mathlib.Nat.{mod-lt}
 use native.Mathlib.Omega.{arith}
 use lib.ListN.{length, getD, set, length-set}
 use Rattle.placement.specs.Blocks.{Block, empty, holds, around, is-free}
@@ -18,30 +18,22 @@ use Rattle.placement.specs.Place.{label-in, probe, search-in, distance-o
 use Rattle.placement.specs.Maps.{Map, Keeps, Holdable, labelled, nodes-of, chunk-kind}
 use Rattle.placement.specs.declared.Label.{Label}
 use Rattle.placement.specs.declared.Found.{Found}
-use Rattle.placement.specs.declared.Found.the-variants.{At, Nothing}
+use Rattle.placement.specs.declared.Found.the-variants.{At}
 use Rattle.placement.proofs.Laws.Kinds.{absent-other}
 use Rattle.placement.proofs.Laws.Maps.{lawful}
-use Rattle.sizes.proofs.Laws.Round.{steps-to}
-use Rattle.placement.proofs.Laws.Placed.{gap}
+use Rattle.placement.proofs.Laws.Placed.{First, lands}
 use Rattle.placement.proofs.Laws.Removal.{removed-at}
-use Rattle.placement.proofs.Laws.Insertion.{insert-from}
+use Rattle.placement.proofs.Laws.Insertion.{insert-from, carry-start}
 use Rattle.placement.proofs.Laws.Labels.{home-inside}
 use Rattle.placement.proofs.Laws.Bridge.{Good, held, All-good, label-of, good-at, good-set, coding}
 use Rattle.placement.proofs.Laws.Coded.{block-read, block-write, pull-blocks, settle-blocks, label-blocks, probe-blocks}
 use Rattle.placement.proofs.Laws.Pulling.{pull-removed, distance-steps}
-use Rattle.placement.proofs.Laws.Settling.{Ahead, Carried, settle-theory, First-free, free-first, free-found}
+use Rattle.placement.proofs.Laws.Settling.{Ahead, Carried, settle-theory, free-first}
 
--- a block that holds nothing, by its label
-free-label : (s : Sizes) (b : Block Chunk) → Good s b → label-of b .level ≡ 0 → b ≡ empty
-free-label s empty q e = refl
-free-label s (holds c) (held q) e = absurd (omega (arith, q .level))
-
-full-label : (s : Sizes) (b : Block Chunk) → Good s b → label-of b .level ≢ 0 → is-free b ≡ false
-full-label s empty q n = absurd (n refl)
-full-label s (holds c) q n = refl
-
-empty-label : (b : Block Chunk) → b ≡ empty → label-of b .level ≡ 0
-empty-label b e = rw e
+-- a block that holds something, by its label
+full-label : (s : Sizes) (b : Block Chunk) → Good s b → is-free b ≡ false → label-of b .level ≢ 0
+full-label s empty q n e = absurd (true≢false n)
+full-label s (holds c) (held q) n e = omega (arith, q .level)
 
 -- the bytes of a chunk's block, as the code writes them
 pub block-written : (s : Sizes) (w : Label) (ns : List Order) → length ns ≤ s .nodes
@@ -82,60 +74,40 @@ module _ (s : Sizes) (some : 0 < s .blocks) (hd : List ℕ) (eh : length hd ≡ 
     unfolding around
     good-around j = good-at s v (j % s .blocks)
 
-    -- some block is empty
-    not-nothing : free-in (label-in (block-long s) (hd ++ all-bytes s bl)) (s .blocks) (s .blocks) start ≢ Nothing
+    first : First (s .blocks) (labelled w ns) bl (s .blocks) start
+    first = lands (s .blocks) (labelled w ns) bl start (home-inside s some w) long (omega (arith, k .count))
+
+    abbrev e : ℕ
+    e = (start + first .steps) % s .blocks
+
+    inside : e < s .blocks
+    inside = mod-lt (start + first .steps) some
+
+    found : free-in (label-in (block-long s) (hd ++ all-bytes s bl)) (s .blocks) (s .blocks) start ≡ At e
+    found =
+        free-first _ (s .blocks) (s .blocks) start (first .steps) (first .few) (rw (look-at (start + first .steps), first .free))
+        (λ l h. rw look-at (full-label s _ (good-around (start + l)) (first .full l h)))
+
+    ahead : Ahead s some (first .steps) start e bl
     unfolding around
-    not-nothing =
-        let z = gap bl (omega (arith, k .count)) in
-        let t = steps-to (s .blocks) start (home-inside s some w) (z .at) (omega (arith, z .inside)) in
-        free-found (label-in (block-long s) (hd ++ all-bytes s bl)) (s .blocks) (s .blocks) start (t .steps) (t .few)
-        (ap (λ (l : Label). l .level) (look-at (start + t .steps)) ∙ empty-label (around (s .blocks) bl (start + t .steps)) (rw (t .there) (z .is)))
+    ahead = record { long = long; there = refl; free = first .free; full = first .full }
 
-    module _ (e : ℕ) (r : First-free (label-in (block-long s) (hd ++ all-bytes s bl)) (s .blocks) (s .blocks) start e) where
-      inside : e < s .blocks
-      inside = rw (← r .there) (mod-lt (start + r .steps) some)
+    carry : Carried s some (s .blocks) start (labelled w ns) bl
+    carry =
+        carry-start _ _ _ _ _ _ _ (labelled w ns) bl long (k .rule-3)
+        (absent-other chunk-kind (chunk-home s) chunk-before (s .blocks) (lawful s some) bl (nodes-of F) (labelled w ns) (k .map) gone) first
 
-      around-free : around (s .blocks) bl (start + r .steps) ≡ empty
-      around-free =
-          free-label s (around (s .blocks) bl (start + r .steps)) (good-around (start + r .steps))
-          (ap (λ (l : Label). l .level) (sym (look-at (start + r .steps))) ∙ ap (λ (j : ℕ). label-in (block-long s) (hd ++ all-bytes s bl) j .level) (r .there) ∙ r .free)
+    steps-is : distance-of (s .blocks) start e ≡ first .steps
+    steps-is = distance-steps (s .blocks) start e (first .steps) (home-inside s some w) inside (first .few) refl
 
-      around-full : (l : ℕ) → l < r .steps → is-free (around (s .blocks) bl (start + l)) ≡ false
-      around-full l h =
-          full-label s (around (s .blocks) bl (start + l)) (good-around (start + l))
-          (λ z. r .full l h (ap (λ (l : Label). l .level) (look-at (start + l)) ∙ z))
-
-      ahead : Ahead s some (r .steps) start e bl
-      unfolding around
-      ahead = record { long = long; there = r .there; free = ap (λ (j : ℕ). getD bl j empty) (sym (r .there)) ∙ around-free; full = around-full }
-
-      carry : Carried s some (s .blocks) start (labelled w ns) bl
-      carry = record {
-        long = long;
-        rule-3 = k .rule-3;
-        other = absent-other chunk-kind (chunk-home s) chunk-before (s .blocks) (lawful s some) bl (nodes-of F) (labelled w ns) (k .map) gone;
-        steps = 0;
-        there = ap (λ (x : ℕ). x % s .blocks) (add-zero start);
-        smaller = λ l h. absurd (omega arith);
-        gap = r .steps;
-        near = r .few;
-        free = around-free;
-      }
-
-      steps-is : distance-of (s .blocks) start e ≡ r .steps
-      steps-is = distance-steps (s .blocks) start e (r .steps) (home-inside s some w) inside (r .few) (r .there)
-
-      insert-here : settle (bytes (block-long s)) (s .blocks) (r .steps) e start (put-block (block-long s) (hd ++ all-bytes s bl) e (block-bytes s (holds (labelled w ns))))
-          ≡ hd ++ all-bytes s (insert-from chunk-before (s .blocks) start (s .blocks) (labelled w ns) bl)
-      insert-here =
-          rw (block-put e (holds (labelled w ns)) inside (held q))
-          (settle-blocks (coding s) (s .blocks) some hd eh (r .steps) e start (set bl e (holds (labelled w ns))) (good-set s v e (held q), length-set bl e _ ∙ long) inside
-          ∙ ap (λ (x : List (Block Chunk)). hd ++ all-bytes s x) (settle-theory s some e inside (r .steps) (s .blocks) start (labelled w ns) bl carry ahead))
+    insert-here : settle (bytes (block-long s)) (s .blocks) (first .steps) e start (put-block (block-long s) (hd ++ all-bytes s bl) e (block-bytes s (holds (labelled w ns))))
+        ≡ hd ++ all-bytes s (insert-from chunk-before (s .blocks) start (s .blocks) (labelled w ns) bl)
+    insert-here =
+        rw (block-put e (holds (labelled w ns)) inside (held q))
+        (settle-blocks (coding s) (s .blocks) some hd eh (first .steps) e start (set bl e (holds (labelled w ns))) (good-set s v e (held q), length-set bl e _ ∙ long) inside
+        ∙ ap (λ (x : List (Block Chunk)). hd ++ all-bytes s x) (settle-theory s some e inside (first .steps) (s .blocks) start (labelled w ns) bl carry ahead))
 
     pub insert-at : (r : Found) → r ≡ free-in (label-in (block-long s) (hd ++ all-bytes s bl)) (s .blocks) (s .blocks) start
         → inserted s r w (length ns) (nodes-bytes ns) (hd ++ all-bytes s bl) ≡ hd ++ all-bytes s (insert-from chunk-before (s .blocks) start (s .blocks) (labelled w ns) bl)
     unfolding inserted
-    insert-at (At e) h =
-        let r = free-first (label-in (block-long s) (hd ++ all-bytes s bl)) (s .blocks) (s .blocks) start e (sym h) in
-        rw (block-written s w ns (q .nodes), steps-is e r) (insert-here e r)
-    insert-at Nothing h = absurd (not-nothing (sym h))
+    insert-at r h = rw (h ∙ found, block-written s w ns (q .nodes), steps-is) insert-here

@@ -12,7 +12,7 @@ use Rattle.placement.specs.Blocks.{Block, empty, holds, around, stored, 
 use Rattle.sizes.proofs.Laws.Round.{steps-to, steps-same, Which, which, less, same, more}
 use Rattle.placement.proofs.Laws.Blocks.{around-mod, stored-there, stored-elsewhere, stored-mod, stored-long, Far, far}
 use Rattle.placement.proofs.Laws.Store.{after-store, before-store, stored-stands, store-keeps}
-use Rattle.placement.proofs.Laws.Placed.{gap, store-count}
+use Rattle.placement.proofs.Laws.Placed.{First, lands, store-count}
 
 abbrev pub insert-step : {A : Type 0} → (A → A → Bool) → A → Block A → (put-here go-on : List (Block A)) → (swap : A → List (Block A)) → List (Block A)
 insert-step before c empty x y z = x
@@ -172,6 +172,20 @@ module _ {A : Type 0} (home : A → ℕ) (before : A → A → Bool) (m : ℕ)
     pub near : gap < fuel
     pub free : around m bs (i + gap) ≡ empty
 
+  -- at its home it has passed nothing
+  pub carry-start : (c : A) (bs : List (Block A)) → length bs ≡ m → Rule-3 home before m bs → Other before m c bs → First m c bs m (home c) → Carry m (home c) c bs
+  carry-start c bs p r o f = record {
+    long = p;
+    rule-3 = r;
+    other = o;
+    steps = 0;
+    there = ap (λ (x : ℕ). x % m) (add-zero (home c));
+    smaller = λ l w. absurd (omega arith);
+    gap = f .steps;
+    near = f .few;
+    free = f .free;
+  }
+
   -- past a full block the empty one is one step nearer
   pub record Nearer (f i : ℕ) (bs : List (Block A)) : Type 0 where
     pub gap : ℕ
@@ -259,18 +273,4 @@ module _ {A : Type 0} (home : A → ℕ) (before : A → A → Bool) (m : ℕ)
   -- THE INSERTION of a chunk whose label is absent, where some block is empty
   pub inserted : (c : A) (bs : List (Block A)) → length bs ≡ m → Rule-3 home before m bs → Other before m c bs → how-many bs < m
       → Joined home before m c bs (insert-from before m (home c) m c bs)
-  unfolding around
-  inserted c bs p r o n =
-      let z = gap bs (omega arith) in
-      let s = steps-to m (home c) (homes c) (z .at) (omega (arith, z .inside)) in
-      insert-keeps m (home c) c bs (record {
-        long = p;
-        rule-3 = r;
-        other = o;
-        steps = 0;
-        there = ap (λ (x : ℕ). x % m) (add-zero (home c));
-        smaller = λ l w. absurd (omega arith);
-        gap = s .steps;
-        near = s .few;
-        free = rw (s .there) (z .is);
-      })
+  inserted c bs p r o n = insert-keeps m (home c) c bs (carry-start c bs p r o (lands m c bs (home c) (homes c) p n))

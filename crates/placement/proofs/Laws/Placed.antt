@@ -28,12 +28,12 @@ how-many-empty A zero = refl
 how-many-empty A (suc m) = how-many-empty A m
 
 module _ {A : Type 0} where
-  pub record Gap (bs : List (Block A)) : Type 0 where
+  record Gap (bs : List (Block A)) : Type 0 where
     pub at : ℕ
     pub inside : at < length bs
     pub is : getD bs at empty ≡ empty
 
-  pub gap : (bs : List (Block A)) → how-many bs < length bs → Gap bs
+  gap : (bs : List (Block A)) → how-many bs < length bs → Gap bs
   unfolding how-many
   gap [] h = absurd (omega arith)
   gap (empty ∷ bs) h = record { at = 0; inside = omega arith; is = refl }
@@ -65,7 +65,7 @@ module _ {A : Type 0} (m : ℕ) (c : A) (bs : List (Block A)) where
   on : (i l : ℕ) → around m bs (suc i + l) ≡ around m bs (i + suc l)
   on i l = ap (λ (x : ℕ). around m bs x) (omega arith)
 
-  pub first-free : (fuel i e : ℕ) → e < fuel → around m bs (i + e) ≡ empty → First fuel i
+  first-free : (fuel i e : ℕ) → e < fuel → around m bs (i + e) ≡ empty → First fuel i
   unfolding place-from
   first-free zero i e l h = absurd (omega arith)
   first-free (suc f) i e l h = go (around m bs i) refl e l h (λ e′ l′ h′. first-free f (suc i) e′ l′ h′)
@@ -92,6 +92,14 @@ module _ {A : Type 0} (m : ℕ) (c : A) (bs : List (Block A)) where
             is = rw q (r .is ∙ ap (λ (x : ℕ). stored m bs x (holds c)) (omega arith));
           }
 
+  -- some block is free
+  pub lands : (i : ℕ) → i < m → length bs ≡ m → how-many bs < m → First m i
+  unfolding around
+  lands i h p g =
+      let z = gap bs (omega arith) in
+      let s = steps-to m i h (z .at) (omega (arith, z .inside)) in
+      first-free m i (s .steps) (s .few) (rw (s .there) (z .is))
+
 -- what a placement of cs over bs leaves
 pub record Placing {A : Type 0} (home : A → ℕ) (before : A → A → Bool) (m : ℕ) (cs : List A) (bs now : List (Block A)) : Type 0 where
   pub long : length now ≡ m
@@ -110,11 +118,7 @@ module _ {A : Type 0} (home : A → ℕ) (before : A → A → Bool) (m : ℕ) (
   -- one chunk, whose label is larger than all that stand
   pub place-one : (c : A) (bs : List (Block A)) → length bs ≡ m → how-many bs < m → Rule-3 home before m bs → ((x : A) → Stands m bs x → before x c ≡ true)
       → Placing home before m (c ∷ []) bs (place-from m (home c) m c bs)
-  unfolding around stored
-  place-one c bs p g r all =
-      let z = gap bs (omega arith) in
-      let s = steps-to m (home c) (homes c) (z .at) (omega (arith, z .inside)) in
-      go (first-free m c bs m (home c) (s .steps) (s .few) (rw (s .there) (z .is)))
+  place-one c bs p g r all = go (lands m c bs (home c) (homes c) p g)
     where
       go : First m c bs m (home c) → Placing home before m (c ∷ []) bs (place-from m (home c) m c bs)
       go f = rw (f .is) (record {

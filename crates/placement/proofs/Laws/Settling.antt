@@ -7,17 +7,16 @@ use Prim.Native.Nat.{ℕ, zero, suc, _+_, _%_, _<_}
 use native.Mathlib.Nat.{add-zero}
 use native.Mathlib.Decide.{ℕ-discrete}
 use native.Mathlib.Omega.{arith}
-use lib.Dec.{eqb}
 use lib.ListN.{length, getD, set, length-set}
 use lib.Seq.{set-set, set-comm, getD-set-same, getD-set-other}
-use borrow.Author.Tests.{eqb-true, eqb-false}
+use borrow.Author.Tests.{eq-eqb, ne-eqb}
 use Rattle.placement.specs.Blocks.{Block, empty, holds, around, stored, is-free}
 use Rattle.sizes.specs.declared.Sizes.{Sizes}
 use Rattle.placement.specs.Chunks.{Chunk, chunk-home, chunk-before}
 use Rattle.placement.specs.Place.{settle, free-in}
 use Rattle.placement.specs.Maps.{chunk-kind}
 use Rattle.placement.specs.declared.Label.{Label}
-use Rattle.placement.specs.declared.Found.the-variants.{At, Nothing}
+use Rattle.placement.specs.declared.Found.the-variants.{At}
 use Rattle.placement.proofs.Laws.Blocks.{stored-there, stored-elsewhere}
 use Rattle.placement.proofs.Laws.Insertion.{insert-from, Carry, carry-on, carry-swap}
 use Rattle.placement.proofs.Laws.Walks.{insert-stop, insert-on, insert-swap}
@@ -159,45 +158,12 @@ module _ (s : Sizes) (some : 0 < s .blocks) where
                 ∙ swap (w .chunk) (carry-swap _ _ _ _ _ _ _ f i c (w .chunk) bs y (w .is) h) ne
                 ∙ sym (insert-swap chunk-before f i (s .blocks) c bs (w .chunk) (w .is) h)
 
--- the first empty block from i on, k steps on
-pub record First-free (look : ℕ → Label) (m fuel i e : ℕ) : Type 0 where
-  pub steps : ℕ
-  pub few : steps < fuel
-  pub there : (i + steps) % m ≡ e
-  pub free : look e .level ≡ 0
-  pub full : (l : ℕ) → l < steps → look ((i + l) % m) .level ≢ 0
-
-module _ (look : ℕ → Label) (m : ℕ) where
-  same-at : (a b : ℕ) → At a ≡ At b → a ≡ b
-  same-at a b e = cc
-
-  pub free-first : (fuel i e : ℕ) → free-in look m fuel i ≡ At e → First-free look m fuel i e
-  unfolding free-in
-  free-first zero i e h = absurd (true≢false cc)
-  free-first (suc f) i e h = go (eqb (look (i % m) .level) 0) refl h (λ u. free-first f (suc i) e u)
-    where
-      go : (b : Bool) → eqb (look (i % m) .level) 0 ≡ b → cond b (At (i % m)) (free-in look m f (suc i)) ≡ At e
-          → (free-in look m f (suc i) ≡ At e → First-free look m f (suc i) e) → First-free look m (suc f) i e
-      go true t q rest =
-          let u : i % m ≡ e = same-at (i % m) e q in
-          record { steps = 0; few = omega arith; there = ap (λ (n : ℕ). n % m) (add-zero i) ∙ u; free = rw (← u) (eqb-true _ _ t); full = λ l w. absurd (omega arith) }
-      go false t q rest = later (rest q)
-        where
-          later : First-free look m f (suc i) e → First-free look m (suc f) i e
-          later r = record { steps = suc (r .steps); few = omega (arith, r .few); there = ap (λ (n : ℕ). n % m) (omega arith) ∙ r .there; free = r .free; full = full }
-            where
-              full : (l : ℕ) → l < suc (r .steps) → look ((i + l) % m) .level ≢ 0
-              full zero w u = eqb-false _ _ t (ap (λ (n : ℕ). look (n % m) .level) (sym (add-zero i)) ∙ u)
-              full (suc l) w u = r .full l (omega arith) (ap (λ (n : ℕ). look (n % m) .level) (omega arith) ∙ u)
-
-  -- where a block is empty the search for one does not fail
-  pub free-found : (fuel i k : ℕ) → k < fuel → look ((i + k) % m) .level ≡ 0 → free-in look m fuel i ≡ Nothing → ⊥
-  unfolding free-in
-  free-found zero i k w z h = omega arith
-  free-found (suc f) i k w z h = go (eqb (look (i % m) .level) 0) refl h (λ k w z u. free-found f (suc i) k w z u) k w z
-    where
-      go : (b : Bool) → eqb (look (i % m) .level) 0 ≡ b → cond b (At (i % m)) (free-in look m f (suc i)) ≡ Nothing
-          → ((k : ℕ) → k < f → look ((suc i + k) % m) .level ≡ 0 → free-in look m f (suc i) ≡ Nothing → ⊥) → (k : ℕ) → k < suc f → look ((i + k) % m) .level ≡ 0 → ⊥
-      go true t q rest k w z = true≢false cc
-      go false t q rest zero w z = eqb-false _ _ t (ap (λ (n : ℕ). look (n % m) .level) (sym (add-zero i)) ∙ z)
-      go false t q rest (suc k) w z = rest k (omega arith) (ap (λ (n : ℕ). look (n % m) .level) (omega arith) ∙ z) q
+-- the code finds the first empty block, k steps on
+pub free-first : (look : ℕ → Label) (m fuel i k : ℕ) → k < fuel → look ((i + k) % m) .level ≡ 0 → ((l : ℕ) → l < k → look ((i + l) % m) .level ≢ 0) → free-in look m fuel i ≡ At ((i + k) % m)
+unfolding free-in
+free-first look m zero i k w z full = absurd (omega arith)
+free-first look m (suc f) i zero w z full = rw (add-zero, eq-eqb _ _ (rw add-zero at z))
+free-first look m (suc f) i (suc k) w z full =
+    let on : (l : ℕ) → i + suc l ≡ suc i + l = λ l. omega arith in
+    rw (ne-eqb _ _ (rw add-zero at (full 0 (omega arith))), on k)
+    (free-first look m f (suc i) k (omega arith) (rw (on k) at z) (λ l h. rw (on l) at (full (suc l) (omega arith))))

@@ -13,10 +13,9 @@ use Rattle.placement.specs.Blocks.{Block, empty, holds, around, stored, Stands,
 use Rattle.placement.specs.Chunks.{Chunk, chunk-before, chunk-home}
 use Rattle.sizes.specs.declared.Sizes.{Sizes}
 use Rattle.placement.specs.declared.Order.{Order}
-use Rattle.sizes.proofs.Laws.Round.{steps-to}
 use Rattle.placement.proofs.Laws.Blocks.{around-inside, stored-long}
 use Rattle.placement.proofs.Laws.Store.{after-store}
-use Rattle.placement.proofs.Laws.Placed.{how-many-empty, gap, store-count, First, first-free, nothing}
+use Rattle.placement.proofs.Laws.Placed.{how-many-empty, store-count, lands, nothing}
 use Rattle.placement.proofs.Laws.Labels.{home-inside}
 use Rattle.placement.proofs.Laws.Maps.{lawful}
 use Rattle.skiplist.specs.Lists.{front, chunks, blocks}
@@ -77,20 +76,13 @@ bound a (n ∷ ns) rs u =
     record { at = w .at; from = omega (arith, u .0, w .from); under = rw (lt-ltb (n .key) (w .at) (omega (arith, w .from))) (w .under); above = w .above }
 
 module _ (s : Sizes) (some : zero < s .blocks) where
-  lands : (c : Chunk) (bs : List (Block Chunk)) → length bs ≡ s .blocks → how-many bs < s .blocks → First (s .blocks) c bs (s .blocks) (chunk-home s c)
-  unfolding around
-  lands c bs q h =
-      let z = gap bs (omega arith) in
-      let t = steps-to (s .blocks) (chunk-home s c) (home-inside s some (c .label)) (z .at) (omega (arith, z .inside)) in
-      first-free (s .blocks) c bs (s .blocks) (chunk-home s c) (t .steps) (t .few) (rw (t .there) (z .is))
-
   -- CHUNKS BY RISING NODES, placed one after the other
   placed-gathers : (cs : List Chunk) (bs : List (Block Chunk)) (a : ℕ) → Up a (all-nodes 1 cs) → ((x : Chunk) → Stands (s .blocks) bs x → below a (ones x) ≡ true) → length bs ≡ s .blocks →
       how-many bs + length cs ≤ s .blocks → gathered (placed (chunk-home s) (s .blocks) cs bs) [] ≡ all-into (all-nodes 1 cs) (gathered bs [])
   unfolding placed all-nodes all-into ones around stored
   placed-gathers [] bs a u w q h = refl
   placed-gathers (c ∷ cs) bs a u w q h =
-      let f = lands c bs q (omega arith) in
+      let f = lands (s .blocks) c bs (chunk-home s c) (home-inside s some (c .label)) q (omega arith) in
       let i = chunk-home s c + f .steps in
       let k = bound a (ones c) (all-nodes 1 cs) u in
       ap (λ (z : List (Block Chunk)). gathered (placed (chunk-home s) (s .blocks) cs z) []) (f .is)
