@@ -16,7 +16,6 @@ pub mod Rows
 pub mod Coded
 pub mod Loops
 pub mod Bridge
-pub mod Walks
 pub mod Pulling
 pub mod Settling
 pub mod Finding

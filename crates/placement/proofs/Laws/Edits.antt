@@ -22,12 +22,12 @@ use Rattle.placement.specs.declared.Found.the-variants.{At}
 use Rattle.placement.proofs.Laws.Kinds.{absent-other}
 use Rattle.placement.proofs.Laws.Maps.{lawful}
 use Rattle.placement.proofs.Laws.Placed.{First, lands}
-use Rattle.placement.proofs.Laws.Removal.{removed-at}
+use Rattle.placement.proofs.Laws.Removal.{removed-at, distance-steps}
 use Rattle.placement.proofs.Laws.Insertion.{insert-from, carry-start}
 use Rattle.placement.proofs.Laws.Labels.{home-inside}
 use Rattle.placement.proofs.Laws.Bridge.{Good, held, All-good, label-of, good-at, good-set, coding}
 use Rattle.placement.proofs.Laws.Coded.{block-read, block-write, pull-blocks, settle-blocks, label-blocks, probe-blocks}
-use Rattle.placement.proofs.Laws.Pulling.{pull-removed, distance-steps}
+use Rattle.placement.proofs.Laws.Pulling.{pull-removed}
 use Rattle.placement.proofs.Laws.Settling.{Ahead, Carried, settle-theory, free-first}
 
 -- a block that holds something, by its label

@@ -18,8 +18,7 @@ use Rattle.placement.specs.Maps.{Map, Keeps, labelled, nodes-of}
 use Rattle.placement.specs.declared.Label.{Label}
 use Rattle.placement.specs.declared.Found.{Found}
 use Rattle.placement.specs.declared.Found.the-variants.{At, Nothing}
-use Rattle.placement.proofs.Laws.Search.{at-place, absent, search-from, Answer}
-use Rattle.placement.proofs.Laws.Walks.{search-stop, search-on, search-larger, search-found}
+use Rattle.placement.proofs.Laws.Search.{at-place, absent, search-step, search-from, Answer}
 use Rattle.placement.proofs.Laws.Labels.{labels-one, is-same, isnt-same}
 use Rattle.placement.proofs.Laws.Loops.{passes-empty, passes-held}
 use Rattle.placement.proofs.Laws.Blocks.{around-mod}
@@ -43,51 +42,29 @@ module _ (w : Label) (pos : 0 < w .level) (ns : List Order) where
   pass-held : (d : Label) → 0 < d .level → passes-label d w ≡ before d w
   pass-held d l = sym (passes-held d w (before d w) refl (omega arith))
 
-  -- one step of the code
-  module _ (m f i : ℕ) (bl : List (Block Chunk)) where
-    probe-stop : getD bl (i % m) empty ≡ empty → probe (λ j. label-of (getD bl j empty)) m w (suc f) i ≡ Nothing
-    unfolding probe
-    probe-stop z = rw (z, pass-empty, same-empty)
-
-    probe-on : (d : Chunk) → getD bl (i % m) empty ≡ holds d → 0 < d .label .level → before (d .label) w ≡ true
-        → probe (λ j. label-of (getD bl j empty)) m w (suc f) i ≡ probe (λ j. label-of (getD bl j empty)) m w f (suc i)
-    unfolding probe
-    probe-on d z l h = rw (z, pass-held (d .label) l, h)
-
-    probe-end : (d : Chunk) (b : Bool) → getD bl (i % m) empty ≡ holds d → 0 < d .label .level → before (d .label) w ≡ false → same-label (d .label) w ≡ b
-        → probe (λ j. label-of (getD bl j empty)) m w (suc f) i ≡ cond b (At (i % m)) Nothing
-    unfolding probe
-    probe-end d b z l h e = rw (z, pass-held (d .label) l, h, e)
-
-  probe-none : (m i : ℕ) (bl : List (Block Chunk)) → probe (λ j. label-of (getD bl j empty)) m w zero i ≡ place-of m (search-from chunk-before zero i m (labelled w ns) bl)
-  unfolding probe search-from
-  probe-none m i bl = refl
-
-  block-around : (m i : ℕ) (bl : List (Block Chunk)) (b : Block Chunk) → getD bl (i % m) empty ≡ b → around m bl i ≡ b
-  unfolding around
-  block-around m i bl b z = z
-
   -- the search of the code over the labels is that of the theory over the blocks
   pub probe-theory : (s : Sizes) (m fuel i : ℕ) (bl : List (Block Chunk)) → All-good s bl
       → probe (λ j. label-of (getD bl j empty)) m w fuel i ≡ place-of m (search-from chunk-before fuel i m (labelled w ns) bl)
-  probe-theory s m zero i bl v = probe-none m i bl
-  probe-theory s m (suc f) i bl v = go (getD bl (i % m) empty) refl (good-at s v (i % m)) (probe-theory s m f (suc i) bl v)
+  unfolding probe search-from around
+  probe-theory s m zero i bl v = refl
+  probe-theory s m (suc f) i bl v = go (getD bl (i % m) empty) (good-at s v (i % m)) (probe-theory s m f (suc i) bl v)
     where
-      go : (b : Block Chunk) → getD bl (i % m) empty ≡ b → Good s b → probe (λ j. label-of (getD bl j empty)) m w f (suc i) ≡ place-of m (search-from chunk-before f (suc i) m (labelled w ns) bl)
-          → probe (λ j. label-of (getD bl j empty)) m w (suc f) i ≡ place-of m (search-from chunk-before (suc f) i m (labelled w ns) bl)
-      go empty z q on = probe-stop m f i bl z ∙ ap (place-of m) (sym (search-stop chunk-before f i m (labelled w ns) bl (block-around m i bl empty z)))
-      go (holds d) z (held q) on = by (before (d .label) w) (before w (d .label)) refl refl
+      code : Found
+      code = probe (λ j. label-of (getD bl j empty)) m w f (suc i)
+
+      theory : Search.Found Chunk
+      theory = search-from chunk-before f (suc i) m (labelled w ns) bl
+
+      go : (b : Block Chunk) → Good s b → code ≡ place-of m theory
+          → cond (passes-label (label-of b) w) code (cond (same-label (label-of b) w) (At (i % m)) Nothing) ≡ place-of m (search-step chunk-before (labelled w ns) i b theory)
+      go empty q on = rw (pass-empty, same-empty)
+      go (holds d) (held q) on = rw (pass-held (d .label) (q .level)) (by (before (d .label) w) (before w (d .label)) refl refl)
         where
           by : (a b : Bool) → before (d .label) w ≡ a → before w (d .label) ≡ b
-              → probe (λ j. label-of (getD bl j empty)) m w (suc f) i ≡ place-of m (search-from chunk-before (suc f) i m (labelled w ns) bl)
-          by true b h k =
-              probe-on m f i bl d z (q .level) h ∙ on ∙ ap (place-of m) (sym (search-on chunk-before f i m (labelled w ns) bl d (block-around m i bl (holds d) z) h))
-          by false true h k =
-              probe-end m f i bl d false z (q .level) h (isnt-same (d .label) w k)
-              ∙ ap (place-of m) (sym (search-larger chunk-before f i m (labelled w ns) bl d (block-around m i bl (holds d) z) h k))
-          by false false h k =
-              probe-end m f i bl d true z (q .level) h (is-same (d .label) w (labels-one (d .label) w h k))
-              ∙ ap (place-of m) (sym (search-found chunk-before f i m (labelled w ns) bl d (block-around m i bl (holds d) z) h k))
+              → cond a code (cond (same-label (d .label) w) (At (i % m)) Nothing) ≡ place-of m (cond a theory (cond b absent (at-place i d)))
+          by true b h k = on
+          by false true h k = rw (isnt-same (d .label) w k)
+          by false false h k = rw (is-same (d .label) w (labels-one (d .label) w h k))
 
 -- what the search tells of the map
 pub data Told (s : Sizes) (F : Map) (w : Label) (bl : List (Block Chunk)) : Found → Type 0 where

@@ -10,15 +10,12 @@ use native.Mathlib.Omega.{arith}
 use lib.Dec.{leb}
 use lib.ListN.{length}
 use borrow.Author.Tests.{leb-true, leb-false}
+use Rattle.placement.specs.Place.{distance-of}
 use Rattle.placement.specs.Blocks.{Block, empty, holds, around, stored, holds-smaller, Stands, Rule-3, how-many}
 use Rattle.sizes.proofs.Laws.Round.{steps-same, steps-on, steps-back, steps-apart, Which, which, less, same, more, Turn, turn, first, second}
 use Rattle.placement.proofs.Laws.Blocks.{around-mod, stored-there, stored-elsewhere, stored-long, Far, far}
 use Rattle.placement.proofs.Laws.Placed.{store-count}
 use Rattle.placement.proofs.Laws.Insertion.{one-label}
-
--- how many steps from h to the place j
-unfoldable pub distance : (m h j : ℕ) → ℕ
-distance m h j = cond (leb h j) (j - h) (j + m - h)
 
 abbrev pub pull-step : {A : Type 0} → Block A → (stop : List (Block A)) → (A → List (Block A)) → List (Block A)
 pull-step empty x y = x
@@ -29,21 +26,22 @@ unfoldable pub pull-from : {A : Type 0} → (A → ℕ) → (fuel h t : ℕ) →
 pull-from home zero h t m bs = bs
 pull-from home (suc f) h t m bs =
     pull-step (around m bs (h + t)) bs
-    (λ d. cond (leb t (distance m (home d) ((h + t) % m))) (pull-from home f (h + t) 1 m (stored m (stored m bs h (holds d)) (h + t) empty))
+    (λ d. cond (leb t (distance-of m (home d) ((h + t) % m))) (pull-from home f (h + t) 1 m (stored m (stored m bs h (holds d)) (h + t) empty))
     (pull-from home f h (suc t) m bs))
 
 unfoldable pub removed-at : {A : Type 0} → (A → ℕ) → (m i : ℕ) → List (Block A) → List (Block A)
 removed-at home m i bs = pull-from home (m - 1) i 1 m (stored m bs i empty)
 
-pub distance-is : (m h j k : ℕ) → h < m → j < m → k < m → (h + k) % m ≡ j → distance m h j ≡ k
-unfolding distance
-distance-is m h j k p q r e = go (leb h j) refl (turn m (h + k) (omega arith))
+-- how far it is from a on to b
+pub distance-steps : (m a b k : ℕ) → a < m → b < m → k < m → (a + k) % m ≡ b → distance-of m a b ≡ k
+unfolding distance-of
+distance-steps m a b k p q r e = go (turn m (a + k) (omega arith)) (turn m (b + m - a) (omega arith))
   where
-    go : (b : Bool) → leb h j ≡ b → Turn m (h + k) → cond b (j - h) (j + m - h) ≡ k
-    go true l (first u v) = omega (arith, leb-true h j l)
-    go true l (second u v) = omega (arith, leb-true h j l)
-    go false l (first u v) = omega (arith, leb-false h j l)
-    go false l (second u v) = omega (arith, leb-false h j l)
+    go : Turn m (a + k) → Turn m (b + m - a) → (b + m - a) % m ≡ k
+    go (first u v) (first w x) = omega arith
+    go (first u v) (second w x) = omega arith
+    go (second u v) (first w x) = omega arith
+    go (second u v) (second w x) = omega arith
 
 -- what pulling leaves
 pub record Pulled {A : Type 0} (home : A → ℕ) (before : A → A → Bool) (m : ℕ) (bs now : List (Block A)) : Type 0 where
@@ -343,11 +341,11 @@ module _ {A : Type 0} (home : A → ℕ) (before : A → A → Bool) (m : ℕ)
       go : (b : Block A) → around m bs (h + t) ≡ b
           → ((e : A) (t : ℕ) → Hole p f h t e bs → Pulled home before m bs (pull-from home f h t m bs))
           → ((d : A) → Hole p f (h + t) 1 d (to d) → Pulled home before m (to d) (pull-from home f (h + t) 1 m (to d)))
-          → Pulled home before m bs (pull-step b bs (λ d. cond (leb t (distance m (home d) ((h + t) % m))) (pull-from home f (h + t) 1 m (to d)) (pull-from home f h (suc t) m bs)))
+          → Pulled home before m bs (pull-step b bs (λ d. cond (leb t (distance-of m (home d) ((h + t) % m))) (pull-from home f (h + t) 1 m (to d)) (pull-from home f h (suc t) m bs)))
       go empty n skip move = record { long = y .long; rule-3 = stopped p (suc f) h t e bs y fewer n; stays = λ x s. s; only = λ x s. s; count = refl }
       go (holds d) n skip move =
           let x = far home m homes bs d (h + t) n in
-          let q : distance m (home d) ((h + t) % m) ≡ x .steps = distance-is m (home d) ((h + t) % m) (x .steps) (homes d) (mod-lt (h + t) (omega arith)) (x .few) (x .there) in
+          let q : distance-of m (home d) ((h + t) % m) ≡ x .steps = distance-steps m (home d) ((h + t) % m) (x .steps) (homes d) (mod-lt (h + t) (omega arith)) (x .few) (x .there) in
           rw q (test d (leb t (x .steps)) n x refl skip move)
 
 -- what the removal of c leaves

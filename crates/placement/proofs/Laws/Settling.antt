@@ -1,7 +1,7 @@
 -- The insertion by the code, on a list of blocks, is the insertion of the theory.
 use mathlib.Core.Path.{_≡_, refl, sym, ap, _∙_}
 use mathlib.Core.Logic.{_≢_}
-use mathlib.Core.Bool.{Bool, true, false, cond, true≢false}
+use mathlib.Core.Bool.{Bool, true, false, true≢false}
 use mathlib.Core.List.{List}
 use Prim.Native.Nat.{ℕ, zero, suc, _+_, _%_, _<_}
 use native.Mathlib.Nat.{add-zero}
@@ -19,7 +19,6 @@ use Rattle.placement.specs.declared.Label.{Label}
 use Rattle.placement.specs.declared.Found.the-variants.{At}
 use Rattle.placement.proofs.Laws.Blocks.{stored-there, stored-elsewhere}
 use Rattle.placement.proofs.Laws.Insertion.{insert-from, Carry, carry-on, carry-swap}
-use Rattle.placement.proofs.Laws.Walks.{insert-stop, insert-on, insert-swap}
 use Rattle.placement.proofs.Laws.Labels.{labels-strict, labels-chain}
 use Rattle.placement.proofs.Laws.Kinds.{tied}
 use Rattle.placement.proofs.Laws.Maps.{lawful}
@@ -37,15 +36,6 @@ module _ (s : Sizes) (some : 0 < s .blocks) where
   Carried f i c bs =
       let law = lawful s some in
       Carry (chunk-home s) chunk-before (s .blocks) (law .strict) (law .chain) (tied chunk-kind (chunk-home s) chunk-before (s .blocks) law) (law .inside) f i c bs
-
-  code-step : (k e i : ℕ) (x : List (Block Chunk)) (c d : Chunk) (b : Bool) → getD x e empty ≡ holds c → getD x (i % s .blocks) empty ≡ holds d → chunk-before c d ≡ b
-      → settle places (s .blocks) (suc k) e i x ≡ settle places (s .blocks) k e (suc i) (cond b (set (set x (i % s .blocks) (holds c)) e (holds d)) x)
-  unfolding settle
-  code-step k e i x c d b ze zi eb = rw (ze, zi, eb)
-
-  code-done : (e i : ℕ) (x : List (Block Chunk)) → settle places (s .blocks) zero e i x ≡ x
-  unfolding settle
-  code-done e i x = refl
 
   module _ (e : ℕ) (inside : e < s .blocks) where
     swapped : (bs : List (Block Chunk)) (j : ℕ) (c d : Chunk) → j ≢ e → set (set (set bs e (holds c)) j (holds c)) e (holds d) ≡ set (set bs j (holds c)) e (holds d)
@@ -127,9 +117,9 @@ module _ (s : Sizes) (some : 0 < s .blocks) where
     -- the code keeps the carried chunk in the empty block
     pub settle-theory : (k f i : ℕ) (c : Chunk) (bs : List (Block Chunk)) → Carried f i c bs → Ahead k i e bs
         → settle places (s .blocks) k e i (set bs e (holds c)) ≡ insert-from chunk-before f i (s .blocks) c bs
+    unfolding settle insert-from
     settle-theory k zero i c bs y a = absurd (omega (arith, y .near))
-    settle-theory zero (suc f) i c bs y a =
-        code-done e i (set bs e (holds c)) ∙ lands-in i bs (holds c) a ∙ sym (insert-stop chunk-before f i (s .blocks) c bs (lands-free i bs a))
+    settle-theory zero (suc f) i c bs y a = rw (lands-free i bs a) (lands-in i bs (holds c) a)
     settle-theory (suc k) (suc f) i c bs y a =
         go (first-full k i bs a) (λ u. settle-theory k f (suc i) c bs u (ahead-on k i bs a))
         (λ d u n. settle-theory k f (suc i) d (stored (s .blocks) bs i (holds c)) u (ahead-swap k i bs c n a))
@@ -149,14 +139,11 @@ module _ (s : Sizes) (some : 0 < s .blocks) where
 
             by : (b : Bool) → chunk-before (w .chunk) c ≡ b → settle places (s .blocks) (suc k) e i (set bs e (holds c)) ≡ insert-from chunk-before (suc f) i (s .blocks) c bs
             by true h =
-                code-step k e i (set bs e (holds c)) c (w .chunk) false (carried-at bs c (a .long)) (other-at (i % s .blocks) bs c (w .chunk) ne z) (not-both c (w .chunk) h)
-                ∙ on (carry-on _ _ _ _ _ _ _ f i c (w .chunk) bs y (w .is) h)
-                ∙ sym (insert-on chunk-before f i (s .blocks) c bs (w .chunk) (w .is) h)
+                rw (carried-at bs c (a .long), other-at (i % s .blocks) bs c (w .chunk) ne z, not-both c (w .chunk) h, w .is, h) (on (carry-on _ _ _ _ _ _ _ f i c (w .chunk) bs y (w .is) h))
             by false h =
-                code-step k e i (set bs e (holds c)) c (w .chunk) true (carried-at bs c (a .long)) (other-at (i % s .blocks) bs c (w .chunk) ne z) (y .other (w .chunk) (record { at = i; is = w .is }) h)
-                ∙ ap (λ (x : List (Block Chunk)). settle places (s .blocks) k e (suc i) x) (swapped-in i bs c (w .chunk) ne)
-                ∙ swap (w .chunk) (carry-swap _ _ _ _ _ _ _ f i c (w .chunk) bs y (w .is) h) ne
-                ∙ sym (insert-swap chunk-before f i (s .blocks) c bs (w .chunk) (w .is) h)
+                rw (carried-at bs c (a .long), other-at (i % s .blocks) bs c (w .chunk) ne z, y .other (w .chunk) (record { at = i; is = w .is }) h, w .is, h)
+                (ap (λ (x : List (Block Chunk)). settle places (s .blocks) k e (suc i) x) (swapped-in i bs c (w .chunk) ne)
+                ∙ swap (w .chunk) (carry-swap _ _ _ _ _ _ _ f i c (w .chunk) bs y (w .is) h) ne)
 
 -- the code finds the first empty block, k steps on
 pub free-first : (look : ℕ → Label) (m fuel i k : ℕ) → k < fuel → look ((i + k) % m) .level ≡ 0 → ((l : ℕ) → l < k → look ((i + l) % m) .level ≢ 0) → free-in look m fuel i ≡ At ((i + k) % m)
