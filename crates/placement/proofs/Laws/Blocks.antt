@@ -1,6 +1,7 @@
 -- First laws of a table of blocks, going round.
 use mathlib.Core.Path.{_≡_, sym, ap, _∙_}
 use mathlib.Core.Logic.{_≢_}
+use mathlib.Core.Bool.{Bool, true, false}
 use mathlib.Core.List.{List}
 use Prim.Native.Nat.{ℕ, zero, _+_, _%_, _<_}
 use native.Mathlib.Nat.{mod-lt, mod-eq-of-lt}
@@ -40,6 +41,14 @@ module _ {A : Type 0} (m : ℕ) where
   same-table bs cs p q h =
       ext-getD empty bs cs (p ∙ sym q) (λ i l. sym (around-inside bs i (omega arith)) ∙ h i ∙ around-inside cs i (omega arith))
 
+-- WHAT IS ASKED of homes in m blocks and of the order of labels; labels of which none is before the other are alike
+pub record Ordered {A : Type 0} (home : A → ℕ) (before : A → A → Bool) (m : ℕ) : Type 0 where
+  pub strict : (c : A) → before c c ≡ false
+  pub chain : (c d e : A) → before c d ≡ true → before d e ≡ true → before c e ≡ true
+  pub tied : (c d : A) → before c d ≡ false → before d c ≡ false → home c ≡ home d
+  pub like : (c d e : A) → before c d ≡ false → before d c ≡ false → before e c ≡ true → before e d ≡ true
+  pub homes : (c : A) → home c < m
+
 -- how far from its home a chunk stands
 pub record Far {A : Type 0} (home : A → ℕ) (m : ℕ) (bs : List (Block A)) (c : A) (i : ℕ) : Type 0 where
   pub steps : ℕ
@@ -47,7 +56,7 @@ pub record Far {A : Type 0} (home : A → ℕ) (m : ℕ) (bs : List (Block A)) (
   pub there : (home c + steps) % m ≡ i % m
   pub is : around m bs (home c + steps) ≡ holds c
 
-pub far : {A : Type 0} (home : A → ℕ) (m : ℕ) → ((c : A) → home c < m) → (bs : List (Block A)) (c : A) (i : ℕ) → around m bs i ≡ holds c → Far home m bs c i
-far home m homes bs c i e =
-    let s = steps-to m (home c) (homes c) (i % m) (mod-lt i (omega (arith, homes c))) in
+pub far : {A : Type 0} {home : A → ℕ} {before : A → A → Bool} {m : ℕ} → Ordered home before m → (bs : List (Block A)) (c : A) (i : ℕ) → around m bs i ≡ holds c → Far home m bs c i
+far {home = home} {m = m} ord bs c i e =
+    let s = steps-to m (home c) (ord .homes c) (i % m) (mod-lt i (omega (arith, ord .homes c))) in
     record { steps = s .steps; few = s .few; there = s .there; is = around-mod m bs (home c + s .steps) i (s .there) ∙ e }

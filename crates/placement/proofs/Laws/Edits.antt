@@ -15,11 +15,11 @@ use Rattle.placement.specs.Chunks.{Chunk, chunk-home, chunk-before, bloc
 use Rattle.sizes.specs.Header.{block-long}
 use Rattle.sizes.specs.Parts.{block-in, put-block}
 use Rattle.placement.specs.Place.{label-in, probe, search-in, distance-of, bytes, pull, settle, free-in, head-bytes, block-with, inserted}
-use Rattle.placement.specs.Maps.{Map, Keeps, Holdable, labelled, nodes-of, chunk-kind}
+use Rattle.placement.specs.Maps.{Map, Keeps, Holdable, labelled, nodes-of}
 use Rattle.placement.specs.declared.Label.{Label}
 use Rattle.placement.specs.declared.Found.{Found}
 use Rattle.placement.specs.declared.Found.the-variants.{At}
-use Rattle.placement.proofs.Laws.Kinds.{absent-other}
+use Rattle.placement.proofs.Laws.Kinds.{ordered, absent-other}
 use Rattle.placement.proofs.Laws.Maps.{lawful}
 use Rattle.placement.proofs.Laws.Placed.{First, lands}
 use Rattle.placement.proofs.Laws.Removal.{removed-at, distance-steps}
@@ -94,8 +94,7 @@ module _ (s : Sizes) (some : 0 < s .blocks) (hd : List ℕ) (eh : length hd ≡ 
 
     carry : Carried s some (s .blocks) start (labelled w ns) bl
     carry =
-        carry-start _ _ _ _ _ _ _ (labelled w ns) bl long (k .rule-3)
-        (absent-other chunk-kind (chunk-home s) chunk-before (s .blocks) (lawful s some) bl (nodes-of F) (labelled w ns) (k .map) gone) first
+        carry-start (ordered (lawful s some)) (labelled w ns) bl long (k .rule-3) (absent-other (lawful s some) bl (nodes-of F) (labelled w ns) (k .map) gone) first
 
     steps-is : distance-of (s .blocks) start e ≡ first .steps
     steps-is = distance-steps (s .blocks) start e (first .steps) (home-inside s some w) inside (first .few) refl

@@ -14,7 +14,7 @@ use Rattle.placement.specs.declared.Order.{Order}
 use Rattle.placement.specs.Labels.{label, before, same-label, home}
 use Rattle.placement.specs.Chunks.{Chunk, chunk-before}
 use Rattle.placement.specs.Place.{probe, passes-label}
-use Rattle.placement.specs.Maps.{Map, Keeps, labelled, nodes-of}
+use Rattle.placement.specs.Maps.{Map, Keeps, chunk-kind, labelled, nodes-of}
 use Rattle.placement.specs.declared.Label.{Label}
 use Rattle.placement.specs.declared.Found.{Found}
 use Rattle.placement.specs.declared.Found.the-variants.{At, Nothing}
@@ -22,7 +22,8 @@ use Rattle.placement.proofs.Laws.Search.{at-place, absent, search-step,
 use Rattle.placement.proofs.Laws.Labels.{labels-one, is-same, isnt-same}
 use Rattle.placement.proofs.Laws.Loops.{passes-empty, passes-held}
 use Rattle.placement.proofs.Laws.Blocks.{around-mod}
-use Rattle.placement.proofs.Laws.Keeps.{nodes-found, search-kept, search-answer}
+use Rattle.placement.proofs.Laws.Kinds.{rows-found, search-kept, search-answer}
+use Rattle.placement.proofs.Laws.Maps.{lawful}
 use Rattle.placement.proofs.Laws.Bridge.{Good, held, All-good, label-of, good-at}
 use Rattle.placement.proofs.Laws.Search
 
@@ -72,7 +73,7 @@ pub data Told (s : Sizes) (F : Map) (w : Label) (bl : List (Block Chunk)) : Foun
   is-none : nodes-of F w ≡ [] → Told s F w bl Nothing
 
 module _ (s : Sizes) (some : 0 < s .blocks) (F : Map) (n : ℕ) (bl : List (Block Chunk)) (v : All-good s bl) (k : Keeps s bl F n) (w : Label) (pos : 0 < w .level) where
-  told : (r : Search.Found Chunk) → Answer chunk-before (s .blocks) (labelled w []) bl r → nodes-found r ≡ nodes-of F w → Told s F w bl (place-of (s .blocks) r)
+  told : (r : Search.Found Chunk) → Answer chunk-before (s .blocks) (labelled w []) bl r → rows-found chunk-kind r ≡ nodes-of F w → Told s F w bl (place-of (s .blocks) r)
   told (at-place i d) h e =
       let c = labels-one (d .label) w (h .1) (h .2) in
       let same : labelled w (nodes-of F w) ≡ d = λ j. record { label = sym c j; nodes = sym e j } in
@@ -84,5 +85,4 @@ module _ (s : Sizes) (some : 0 < s .blocks) (F : Map) (n : ℕ) (bl : List (Bloc
   search-told =
       rw (probe-theory w pos [] s (s .blocks) (s .blocks) (home s w) bl v)
       (told (search-from chunk-before (s .blocks) (home s w) (s .blocks) (labelled w []) bl)
-      (search-answer s some bl F n (labelled w []) k)
-      (search-kept s some bl F n (labelled w []) k))
+      (search-answer (lawful s some) (labelled w []) k) (search-kept (lawful s some) (labelled w []) k))

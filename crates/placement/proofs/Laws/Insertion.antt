@@ -10,7 +10,7 @@ use native.Mathlib.Omega.{arith}
 use lib.ListN.{length}
 use Rattle.placement.specs.Blocks.{Block, empty, holds, around, stored, holds-smaller, Stands, Smaller-to, Rule-3, how-many}
 use Rattle.sizes.proofs.Laws.Round.{steps-to, steps-same, Which, which, less, same, more}
-use Rattle.placement.proofs.Laws.Blocks.{around-mod, stored-there, stored-elsewhere, stored-mod, stored-long, Far, far}
+use Rattle.placement.proofs.Laws.Blocks.{around-mod, stored-there, stored-elsewhere, stored-mod, stored-long, Far, far, Ordered}
 use Rattle.placement.proofs.Laws.Store.{after-store, before-store, stored-stands, store-keeps}
 use Rattle.placement.proofs.Laws.Placed.{First, lands, store-count}
 
@@ -40,21 +40,17 @@ Other {A} before m c bs = (x : A) → Stands m bs x → before x c ≡ false →
 pub suc-mod-same : (m i j : ℕ) → i % m ≡ j % m → suc i % m ≡ suc j % m
 suc-mod-same m i j e = suc-mod i m ∙ ap (λ (x : ℕ). suc x % m) e ∙ sym (suc-mod j m)
 
-module _ {A : Type 0} (home : A → ℕ) (before : A → A → Bool) (m : ℕ)
-    (strict : (c : A) → before c c ≡ false)
-    (chain : (c d e : A) → before c d ≡ true → before d e ≡ true → before c e ≡ true)
-    (tied : (c d : A) → before c d ≡ false → before d c ≡ false → home c ≡ home d)
-    (homes : (c : A) → home c < m) where
+module _ {A : Type 0} {home : A → ℕ} {before : A → A → Bool} {m : ℕ} (ord : Ordered home before m) where
   -- one label stands in one block
   pub one-label : (bs : List (Block A)) → Rule-3 home before m bs → (c d : A) (i j : ℕ) → around m bs i ≡ holds c → around m bs j ≡ holds d
       → before c d ≡ false → before d c ≡ false → i % m ≡ j % m
-  one-label bs r c d i j e f p q = go (far home m homes bs c i e) (far home m homes bs d j f)
+  one-label bs r c d i j e f p q = go (far ord bs c i e) (far ord bs d j f)
     where
       go : Far home m bs c i → Far home m bs d j → i % m ≡ j % m
       go x y = by (which (x .steps) (y .steps))
         where
           t : home c ≡ home d
-          t = tied c d p q
+          t = ord .tied c d p q
 
           by : Which (x .steps) (y .steps) → i % m ≡ j % m
           by (less h) =
@@ -74,7 +70,7 @@ module _ {A : Type 0} (home : A → ℕ) (before : A → A → Bool) (m : ℕ)
       go : Dec (k < m) → k < m
       go (yes h) = h
       go (no h) =
-          let t = steps-to m (home c) (homes c) (g % m) (mod-lt g (omega (arith, homes c))) in
+          let t = steps-to m (home c) (ord .homes c) (g % m) (mod-lt g (omega (arith, ord .homes c))) in
           let z = s (t .steps) (omega (arith, t .few)) in
           let w = around-mod m bs (home c + t .steps) g (t .there) in
           absurd (false≢true (cc (z, w)))
@@ -97,7 +93,7 @@ module _ {A : Type 0} (home : A → ℕ) (before : A → A → Bool) (m : ℕ)
     unfolding now
     store-rule g over =
         rw (stored-mod m bs i (home c + k) (holds c) (sym q))
-        (store-keeps home before m homes bs c k p g r s (λ e h. over e (rw (around-mod m bs (home c + k) i q) at h)))
+        (store-keeps ord bs c k p g r s (λ e h. over e (rw (around-mod m bs (home c + k) i q) at h)))
 
     -- the block is empty
     join-here : around m bs i ≡ empty → Joined home before m c bs now
@@ -105,10 +101,10 @@ module _ {A : Type 0} (home : A → ℕ) (before : A → A → Bool) (m : ℕ)
     join-here e = record {
       long = stored-long m bs i (holds c) p;
       rule-3 = store-rule (room bs c k i e s) (λ d h. absurd (false≢true (cc)));
-      stays = λ x t. stay x (before-store m bs i p (omega (arith, homes c)) (holds c) x t);
-      comes = stored-stands m bs i p (omega (arith, homes c)) c;
-      only = λ x t. after-store m bs i p (omega (arith, homes c)) c x t;
-      count = omega (arith, store-count m bs i empty (holds c) p (omega (arith, homes c)) e);
+      stays = λ x t. stay x (before-store m bs i p (omega (arith, ord .homes c)) (holds c) x t);
+      comes = stored-stands m bs i p (omega (arith, ord .homes c)) c;
+      only = λ x t. after-store m bs i p (omega (arith, ord .homes c)) c x t;
+      count = omega (arith, store-count m bs i empty (holds c) p (omega (arith, ord .homes c)) e);
     }
       where
         stay : (x : A) → (around m bs i ≡ holds x) ⊎ Stands m now x → Stands m now x
@@ -118,7 +114,7 @@ module _ {A : Type 0} (home : A → ℕ) (before : A → A → Bool) (m : ℕ)
     -- the block holds d, and c goes before d: c takes the block, and d is carried on
     module _ (d : A) (e : around m bs i ≡ holds d) (h : before d c ≡ false) (g : before c d ≡ true) (v : k < m) where
       swap-rule : Rule-3 home before m now
-      swap-rule = store-rule v (λ x w. chain c d x g (let u : holds-smaller before x (holds d) ≡ true = rw e at w in u))
+      swap-rule = store-rule v (λ x w. ord .chain c d x g (let u : holds-smaller before x (holds d) ≡ true = rw e at w in u))
 
       swap-other : Other before m d now
       unfolding now
@@ -137,7 +133,7 @@ module _ {A : Type 0} (home : A → ℕ) (before : A → A → Bool) (m : ℕ)
       swap-smaller x =
           smaller-on now d (x .steps)
           (λ l w.
-          rw (stored-elsewhere m bs i (home d + l) (holds c) (λ u. omega (arith, steps-same m (home d) (homes d) l (x .steps) (omega (arith, x .few)) (x .few) (u ∙ sym (x .there)))))
+          rw (stored-elsewhere m bs i (home d + l) (holds c) (λ u. omega (arith, steps-same m (home d) (ord .homes d) l (x .steps) (omega (arith, x .few)) (x .few) (u ∙ sym (x .there)))))
           (r d (x .steps) (x .few) (x .is) l w))
           (rw (stored-there m bs i (home d + x .steps) (holds c) (omega arith) p (x .there)) g)
 
@@ -146,10 +142,10 @@ module _ {A : Type 0} (home : A → ℕ) (before : A → A → Bool) (m : ℕ)
       swap-joined end j = record {
         long = j .long;
         rule-3 = j .rule-3;
-        stays = λ x t. stay x (before-store m bs i p (omega (arith, homes c)) (holds c) x t);
-        comes = j .stays c (stored-stands m bs i p (omega (arith, homes c)) c);
+        stays = λ x t. stay x (before-store m bs i p (omega (arith, ord .homes c)) (holds c) x t);
+        comes = j .stays c (stored-stands m bs i p (omega (arith, ord .homes c)) c);
         only = λ x t. only x (j .only x t);
-        count = omega (arith, j .count, store-count m bs i (holds d) (holds c) p (omega (arith, homes c)) e);
+        count = omega (arith, j .count, store-count m bs i (holds d) (holds c) p (omega (arith, ord .homes c)) e);
       }
         where
           stay : (x : A) → (around m bs i ≡ holds x) ⊎ Stands m now x → Stands m end x
@@ -158,7 +154,7 @@ module _ {A : Type 0} (home : A → ℕ) (before : A → A → Bool) (m : ℕ)
 
           only : (x : A) → (x ≡ d) ⊎ Stands m now x → (x ≡ c) ⊎ Stands m bs x
           only x (inl f) = inr (record { at = i; is = rw f e })
-          only x (inr t) = after-store m bs i p (omega (arith, homes c)) c x t
+          only x (inr t) = after-store m bs i p (omega (arith, ord .homes c)) c x t
 
   -- c is carried to the block i: every block from its home on held a smaller label, and an empty block is near
   pub record Carry (fuel i : ℕ) (c : A) (bs : List (Block A)) : Type 0 where
@@ -224,7 +220,7 @@ module _ {A : Type 0} (home : A → ℕ) (before : A → A → Bool) (m : ℕ)
     pub carry-swap : Carry f (suc i) d (stored m bs i (holds c))
     unfolding now
     carry-swap =
-        let x = far home m homes bs d i e in
+        let x = far ord bs d i e in
         let n = nearer f i (y .gap) bs d e (y .near) (y .free) in
         record {
           long = stored-long m bs i (holds c) (y .long);
@@ -273,4 +269,4 @@ module _ {A : Type 0} (home : A → ℕ) (before : A → A → Bool) (m : ℕ)
   -- THE INSERTION of a chunk whose label is absent, where some block is empty
   pub inserted : (c : A) (bs : List (Block A)) → length bs ≡ m → Rule-3 home before m bs → Other before m c bs → how-many bs < m
       → Joined home before m c bs (insert-from before m (home c) m c bs)
-  inserted c bs p r o n = insert-keeps m (home c) c bs (carry-start c bs p r o (lands m c bs (home c) (homes c) p n))
+  inserted c bs p r o n = insert-keeps m (home c) c bs (carry-start c bs p r o (lands m c bs (home c) (ord .homes c) p n))

@@ -10,7 +10,7 @@ use native.Mathlib.Omega.{arith}
 use lib.ListN.{length, getD, replicate}
 use Rattle.placement.specs.Blocks.{Among, Block, empty, holds, around, stored, Stands, Rule-3, placed}
 use Rattle.placement.specs.Kinds.{Kind, Holds, Keeps, with-chunk, without-label, map-of}
-use Rattle.placement.proofs.Laws.Blocks.{around-mod, around-inside, stored-there, stored-elsewhere, stored-long}
+use Rattle.placement.proofs.Laws.Blocks.{Ordered, around-mod, around-inside, stored-there, stored-elsewhere, stored-long}
 use Rattle.placement.proofs.Laws.Store.{Alike, before-store, stored-stands, change-keeps}
 use Rattle.placement.proofs.Laws.Unique.{one-arrangement}
 use Rattle.placement.proofs.Laws.Placed.{Rising, how-many-empty, store-count, placement, nothing}
@@ -65,7 +65,7 @@ module _ {A : Type 0} where
   held-stands (holds d ∷ bs) c (inl e) = record { at = 0; inside = omega arith; is = ap holds (sym e) }
   held-stands (holds d ∷ bs) c (inr a) = let r = held-stands bs c a in record { at = suc (r .at); inside = omega (arith, r .inside); is = r .is }
 
-module _ {A L R : Type 0} (k : Kind A L R) (home : A → ℕ) (before : A → A → Bool) (m : ℕ) (law : Lawful k home before m) where
+module _ {A L R : Type 0} {k : Kind A L R} {home : A → ℕ} {before : A → A → Bool} {m : ℕ} (law : Lawful k home before m) where
   -- ---- labels
 
   hasnt : (c : A) (w : L) → k .label c ≢ w → k .has c w ≡ false
@@ -85,20 +85,23 @@ module _ {A L R : Type 0} (k : Kind A L R) (home : A → ℕ) (before : A → A 
   made : (c : A) (w : L) (ns : List R) → k .label c ≡ w → k .rows c ≡ ns → k .make w ns ≡ c
   made c w ns p q = cc (law .again c)
 
-  -- chunks of one label are not before one another, and chunks of which none is before the other have one home
+  -- chunks of one label are not before one another
   apart : (c x : A) → k .label c ≡ k .label x → (before x c ≡ false) × (before c x ≡ false)
   apart c x e = let a = law .alike c x e in (a .right x ∙ law .strict x, a .left x ∙ law .strict x)
 
-  pub tied : (c d : A) → before c d ≡ false → before d c ≡ false → home c ≡ home d
-  tied c d p q = law .alike c d (law .one c d p q) .home-same
-
-  like : (c d e : A) → before c d ≡ false → before d c ≡ false → before e c ≡ true → before e d ≡ true
-  like c d e p q h = sym (law .alike c d (law .one c d p q) .right e) ∙ h
+  pub ordered : Ordered home before m
+  ordered = record {
+    strict = law .strict;
+    chain = law .chain;
+    tied = λ c d p q. law .alike c d (law .one c d p q) .home-same;
+    like = λ c d e p q h. sym (law .alike c d (law .one c d p q) .right e) ∙ h;
+    homes = law .inside;
+  }
 
   -- one label stands in one block
   pub one-place : (bs : List (Block A)) → Rule-3 home before m bs → (c x : A) (i j : ℕ) → around m bs i ≡ holds c → around m bs j ≡ holds x → k .label c ≡ k .label x → j % m ≡ i % m
   one-place bs r c x i j e f p =
-      let a = apart c x p in one-label home before m (law .strict) (law .chain) tied (law .inside) bs r x c j i f e (a .0) (a .1)
+      let a = apart c x p in one-label ordered bs r x c j i f e (a .0) (a .1)
 
   one-chunk : (bs : List (Block A)) → Rule-3 home before m bs → (c x : A) → Stands m bs c → Stands m bs x → k .label c ≡ k .label x → c ≡ x
   one-chunk bs r c x t u p = cc (t .is, u .is, around-mod m bs (u .at) (t .at) (one-place bs r c x (t .at) (u .at) (t .is) (u .is) p))
@@ -122,7 +125,7 @@ module _ {A L R : Type 0} (k : Kind A L R) (home : A → ℕ) (before : A → A 
   -- TWO TABLES that keep rule 3 and hold the same map are equal
   pub one-table : (bs cs : List (Block A)) (F : L → List R) → length bs ≡ m → length cs ≡ m → Rule-3 home before m bs → Rule-3 home before m cs → Holds k m bs F → Holds k m cs F → bs ≡ cs
   one-table bs cs F p q r r′ x y =
-      one-arrangement home before m (law .strict) (law .chain) (law .inside) bs cs p q r r′ (stands-too bs cs F x y) (stands-too cs bs F y x)
+      one-arrangement ordered bs cs p q r r′ (stands-too bs cs F x y) (stands-too cs bs F y x)
 
   -- the table now has the chunk c, or has no more its label, and else what it had
   module _ (bs now : List (Block A)) (F : L → List R) (c : A) (h : Holds k m bs F) (stays : (x : A) → Stands m bs x → k .label c ≢ k .label x → Stands m now x) where
@@ -230,40 +233,40 @@ module _ {A L R : Type 0} (k : Kind A L R) (home : A → ℕ) (before : A → A 
   -- ---- THE PROMISES
 
   -- ONE TABLE keeps a map
-  pub kept-once : (bs cs : List (Block A)) (F G : L → List R) (n n′ : ℕ) → ((w : L) → F w ≡ G w) → Keeps k home before m bs F n → Keeps k home before m cs G n′ → bs ≡ cs
-  kept-once bs cs F G n n′ e x y =
+  pub kept-once : {bs cs : List (Block A)} {F G : L → List R} {n n′ : ℕ} → ((w : L) → F w ≡ G w) → Keeps k home before m bs F n → Keeps k home before m cs G n′ → bs ≡ cs
+  kept-once {bs} {cs} {G = G} e x y =
       one-table bs cs G (x .long) (y .long) (x .rule-3) (y .rule-3) (subst (λ (H : L → List R). Holds k m bs H) (λ j w. e w j) (x .map)) (y .map)
 
   -- INSERTION of an absent label
-  pub put-in : (bs : List (Block A)) (F : L → List R) (n : ℕ) (c : A) → Keeps k home before m bs F n → F (k .label c) ≡ [] → k .rows c ≢ [] → n < m
+  pub put-in : {bs : List (Block A)} {F : L → List R} {n : ℕ} (c : A) → Keeps k home before m bs F n → F (k .label c) ≡ [] → k .rows c ≢ [] → n < m
       → Keeps k home before m (insert-from before m (home c) m c bs) (with-chunk k c F) (suc n)
-  put-in bs F n c q e full w =
-      let j = inserted home before m (law .strict) (law .chain) tied (law .inside) c bs (q .long) (q .rule-3) (absent-other bs F c (q .map) e) (omega (arith, q .count)) in
+  put-in {bs} {F} c q e full w =
+      let j = inserted ordered c bs (q .long) (q .rule-3) (absent-other bs F c (q .map) e) (omega (arith, q .count)) in
       record { long = j .long; rule-3 = j .rule-3; map = holds-joined bs _ F c (q .map) e full j; count = j .count ∙ ap suc (q .count) }
 
   -- REMOVAL of the chunk at a place
-  pub take-out : (bs : List (Block A)) (F : L → List R) (n : ℕ) (c : A) (i : ℕ) → Keeps k home before m bs F (suc n) → around m bs i ≡ holds c
+  pub take-out : {bs : List (Block A)} {F : L → List R} {n : ℕ} (c : A) (i : ℕ) → Keeps k home before m bs F (suc n) → around m bs i ≡ holds c
       → Keeps k home before m (removed-at home m i bs) (without-label k c F) n
-  take-out bs F n c i q e =
-      let j = removed home before m (law .strict) (law .chain) tied (law .inside) i c bs (q .long) (q .rule-3) e in
+  take-out {bs} {F} c i q e =
+      let j = removed ordered i c bs (q .long) (q .rule-3) e in
       record { long = j .long; rule-3 = j .rule-3; map = holds-removed bs _ F c (q .map) j; count = omega (arith, j .count, q .count) }
 
   -- CHANGE of the rows under a label
-  pub change : (bs : List (Block A)) (F : L → List R) (n : ℕ) (c d : A) (i : ℕ) → Keeps k home before m bs F n → around m bs i ≡ holds c → k .label d ≡ k .label c → k .rows d ≢ []
+  pub change : {bs : List (Block A)} {F : L → List R} {n : ℕ} (c d : A) (i : ℕ) → Keeps k home before m bs F n → around m bs i ≡ holds c → k .label d ≡ k .label c → k .rows d ≢ []
       → Keeps k home before m (stored m bs i (holds d)) (with-chunk k d F) n
-  change bs F n c d i q e l full = record {
+  change {bs} {F} c d i q e l full = record {
     long = stored-long m bs i (holds d) (q .long);
-    rule-3 = change-keeps home before m (law .inside) bs c d i (q .long) (q .rule-3) e (law .alike d c l);
+    rule-3 = change-keeps ordered bs c d i (q .long) (q .rule-3) e (law .alike d c l);
     map = holds-changed bs F c d i (q .long) (q .rule-3) (q .map) e l full;
     count = omega (arith, q .count, store-count m bs i (holds c) (holds d) (q .long) (omega (arith, law .inside c)) e);
   }
 
-  pub search-answer : (bs : List (Block A)) (F : L → List R) (n : ℕ) (c : A) → Keeps k home before m bs F n → Answer before m c bs (search-from before m (home c) m c bs)
-  search-answer bs F n c q = rw add-zero at (search-right home before m like tied (law .inside) c bs (q .rule-3) m 0 (λ l w. absurd (omega arith)) (add-zero m))
+  pub search-answer : {bs : List (Block A)} {F : L → List R} {n : ℕ} (c : A) → Keeps k home before m bs F n → Answer before m c bs (search-from before m (home c) m c bs)
+  search-answer {bs} c q = rw add-zero at (search-right ordered c bs (q .rule-3) m 0 (λ l w. absurd (omega arith)) (add-zero m))
 
   -- SEARCH from the home of a label: its rows, or [] where it is absent
-  pub search-kept : (bs : List (Block A)) (F : L → List R) (n : ℕ) (c : A) → Keeps k home before m bs F n → rows-found k (search-from before m (home c) m c bs) ≡ F (k .label c)
-  search-kept bs F n c q = go (search-from before m (home c) m c bs) (search-answer bs F n c q)
+  pub search-kept : {bs : List (Block A)} {F : L → List R} {n : ℕ} (c : A) → Keeps k home before m bs F n → rows-found k (search-from before m (home c) m c bs) ≡ F (k .label c)
+  search-kept {bs} {F} c q = go (search-from before m (home c) m c bs) (search-answer c q)
     where
       none : Answer before m c bs absent → (ns : List R) → F (k .label c) ≡ ns → [] ≡ ns
       none h [] e = refl
@@ -278,7 +281,7 @@ module _ {A L R : Type 0} (k : Kind A L R) (home : A → ℕ) (before : A → A 
   -- THE PLACEMENT keeps the map of its chunks
   pub placed-keeps : (cs : List A) → Rising before cs → length cs ≤ m → ((c : A) → Among c cs → k .rows c ≢ []) → Keeps k home before m (placed home m cs (replicate m empty)) (map-of k cs) (length cs)
   placed-keeps cs u g n =
-      let q = placement home before m (law .inside) cs u g in record {
+      let q = placement ordered cs u g in record {
         long = q .long;
         rule-3 = q .rule-3;
         map = holds-map cs _ (q .rule-3) (q .comes) (λ c t. old c (q .only c t)) (λ c t. n c (old c (q .only c t)));
@@ -287,4 +290,4 @@ module _ {A L R : Type 0} (k : Kind A L R) (home : A → ℕ) (before : A → A 
     where
       old : (c : A) → Among c cs ⊎ Stands m (replicate m empty) c → Among c cs
       old c (inl a) = a
-      old c (inr t) = absurd (nothing home before m (law .inside) c t)
+      old c (inr t) = absurd (nothing ordered c t)

@@ -48,14 +48,14 @@ lawful m some = record {
 module _ (m : ℕ) (some : 0 < m) (bs : List (Block Piece)) (F : ℕ → List ℕ) (n : ℕ) where
   piece-in : (c : Piece) → Keeps pieces (place m) falling m bs F n → F (c .name) ≡ [] → c .bytes ≢ [] → n < m
       → Keeps pieces (place m) falling m (insert-from falling m (c .name % m) m c bs) (with-chunk pieces c F) (suc n)
-  piece-in = put-in pieces (place m) falling m (lawful m some) bs F n
+  piece-in = put-in (lawful m some)
 
   piece-out : (c : Piece) (i : ℕ) → Keeps pieces (place m) falling m bs F (suc n) → around m bs i ≡ holds c
       → Keeps pieces (place m) falling m (removed-at (place m) m i bs) (without-label pieces c F) n
-  piece-out = take-out pieces (place m) falling m (lawful m some) bs F n
+  piece-out = take-out (lawful m some)
 
   pieces-once : (cs : List (Block Piece)) (k : ℕ) → Keeps pieces (place m) falling m bs F n → Keeps pieces (place m) falling m cs F k → bs ≡ cs
-  pieces-once cs k = kept-once pieces (place m) falling m (lawful m some) bs cs F F n k (λ w. refl)
+  pieces-once cs k = kept-once (lawful m some) (λ w. refl)
 
 wide-long : (xs : List ℕ) → length (rows (big 16) xs) ≡ 16 * length xs
 wide-long = length-rows 16 (big 16) (length-big 16)

@@ -9,7 +9,7 @@ use native.Mathlib.Omega.{arith}
 use lib.ListN.{length, getD, set, replicate, length-replicate, getD-replicate}
 use Rattle.placement.specs.Blocks.{Among, Block, empty, holds, around, stored, holds-smaller, Stands, Rule-3, is-free, place-from, placed, how-many}
 use Rattle.sizes.proofs.Laws.Round.{steps-to}
-use Rattle.placement.proofs.Laws.Blocks.{stored-long}
+use Rattle.placement.proofs.Laws.Blocks.{stored-long, Ordered}
 use Rattle.placement.proofs.Laws.Unique.{one-arrangement}
 use Rattle.placement.proofs.Laws.Store.{after-store, before-store, stored-stands, store-keeps}
 
@@ -109,7 +109,7 @@ pub record Placing {A : Type 0} (home : A → ℕ) (before : A → A → Bool) (
   pub only : (x : A) → Stands m now x → Among x cs ⊎ Stands m bs x
   pub count : how-many now ≡ how-many bs + length cs
 
-module _ {A : Type 0} (home : A → ℕ) (before : A → A → Bool) (m : ℕ) (homes : (c : A) → home c < m) where
+module _ {A : Type 0} {home : A → ℕ} {before : A → A → Bool} {m : ℕ} (ord : Ordered home before m) where
   full-smaller : (c : A) (bs : List (Block A)) (i : ℕ) → ((x : A) → Stands m bs x → before x c ≡ true) → (b : Block A) → around m bs i ≡ b
       → is-free b ≡ false → holds-smaller before c b ≡ true
   full-smaller c bs i all empty e f = absurd (true≢false f)
@@ -118,12 +118,12 @@ module _ {A : Type 0} (home : A → ℕ) (before : A → A → Bool) (m : ℕ) (
   -- one chunk, whose label is larger than all that stand
   pub place-one : (c : A) (bs : List (Block A)) → length bs ≡ m → how-many bs < m → Rule-3 home before m bs → ((x : A) → Stands m bs x → before x c ≡ true)
       → Placing home before m (c ∷ []) bs (place-from m (home c) m c bs)
-  place-one c bs p g r all = go (lands m c bs (home c) (homes c) p g)
+  place-one c bs p g r all = go (lands m c bs (home c) (ord .homes c) p g)
     where
       go : First m c bs m (home c) → Placing home before m (c ∷ []) bs (place-from m (home c) m c bs)
       go f = rw (f .is) (record {
         long = stored-long m bs (home c + f .steps) (holds c) p;
-        rule-3 = store-keeps home before m homes bs c (f .steps) p (f .few) r
+        rule-3 = store-keeps ord bs c (f .steps) p (f .few) r
             (λ l h. full-smaller c bs (home c + l) all (around m bs (home c + l)) refl (f .full l h))
             (λ e h. absurd (false≢true (cc (f .free))));
         stays = λ x t. stay x (before-store m bs (home c + f .steps) p (omega arith) (holds c) x t);
@@ -188,7 +188,7 @@ module _ {A : Type 0} (home : A → ℕ) (before : A → A → Bool) (m : ℕ) (
   unfolding around
   nothing x t =
       let e : getD (replicate {A = Block A} m empty) (t .at % m) empty ≡ empty =
-      getD-replicate m (t .at % m) empty empty (mod-lt (t .at) {m = m} (omega (arith, homes x))) in
+      getD-replicate m (t .at % m) empty empty (mod-lt (t .at) {m = m} (omega (arith, ord .homes x))) in
       true≢false (cc (t .is))
 
   -- THE PLACEMENT of chunks with rising labels keeps rule 3 and holds each of them
@@ -236,23 +236,20 @@ module _ {A : Type 0} (before : A → A → Bool) (m : ℕ) (some : zero < m) (s
       go (inl e) rest = inl (cc (all c (inl refl) .is))
       go (inr s) rest = inr (rest x s)
 
-module _ {A : Type 0} (home : A → ℕ) (before : A → A → Bool) (m : ℕ)
-    (strict : (c : A) → before c c ≡ false)
-    (chain : (c d e : A) → before c d ≡ true → before d e ≡ true → before c e ≡ true)
-    (homes : (c : A) → home c < m) where
+module _ {A : Type 0} {home : A → ℕ} {before : A → A → Bool} {m : ℕ} (ord : Ordered home before m) where
   -- the table that keeps rule 3 and holds just cs is the placement of cs
   pub one-placement : (cs : List A) (bs : List (Block A)) → Rising before cs → length cs ≤ m → length bs ≡ m → Rule-3 home before m bs
       → ((c : A) → Among c cs → Stands m bs c) → ((c : A) → Stands m bs c → Among c cs) → bs ≡ placed home m cs (replicate m empty)
   one-placement cs bs u g p r in-all only =
-      let q = placement home before m homes cs u g in
-      one-arrangement home before m strict chain homes bs (placed home m cs (replicate m empty)) p (q .long) r (q .rule-3)
+      let q = placement ord cs u g in
+      one-arrangement ord bs (placed home m cs (replicate m empty)) p (q .long) r (q .rule-3)
       (λ c t. q .comes c (only c t)) (λ c t. back c (q .only c t))
     where
       back : (c : A) → Among c cs ⊎ Stands m (replicate m empty) c → Stands m bs c
       back c (inl a) = in-all c a
-      back c (inr t) = absurd (nothing home before m homes c t)
+      back c (inr t) = absurd (nothing ord c t)
 
   -- the same, where the full blocks are counted
   pub one-placement-counted : (cs : List A) (bs : List (Block A)) → Rising before cs → length cs ≤ m → zero < m → length bs ≡ m → Rule-3 home before m bs
       → ((c : A) → Among c cs → Stands m bs c) → how-many bs ≡ length cs → bs ≡ placed home m cs (replicate m empty)
-  one-placement-counted cs bs u g z p r in-all n = one-placement cs bs u g p r in-all (counted before m z strict cs bs p u in-all n)
+  one-placement-counted cs bs u g z p r in-all n = one-placement cs bs u g p r in-all (counted before m z (ord .strict) cs bs p u in-all n)

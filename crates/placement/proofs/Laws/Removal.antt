@@ -13,7 +13,7 @@ use borrow.Author.Tests.{leb-true, leb-false}
 use Rattle.placement.specs.Place.{distance-of}
 use Rattle.placement.specs.Blocks.{Block, empty, holds, around, stored, holds-smaller, Stands, Rule-3, how-many}
 use Rattle.sizes.proofs.Laws.Round.{steps-same, steps-on, steps-back, steps-apart, Which, which, less, same, more, Turn, turn, first, second}
-use Rattle.placement.proofs.Laws.Blocks.{around-mod, stored-there, stored-elsewhere, stored-long, Far, far}
+use Rattle.placement.proofs.Laws.Blocks.{around-mod, stored-there, stored-elsewhere, stored-long, Far, far, Ordered}
 use Rattle.placement.proofs.Laws.Placed.{store-count}
 use Rattle.placement.proofs.Laws.Insertion.{one-label}
 
@@ -56,10 +56,7 @@ pub data Way {A : Type 0} (home : A → ℕ) (before : A → A → Bool) (m : �
   clear : holds-smaller before c (around m bs (home c + l)) ≡ true → Way home before m bs h t e c k l
   crosses : (home c + l) % m ≡ h % m → l + t ≤ k → before e c ≡ true → Way home before m bs h t e c k l
 
-module _ {A : Type 0} (home : A → ℕ) (before : A → A → Bool) (m : ℕ)
-    (strict : (c : A) → before c c ≡ false)
-    (chain : (c d e : A) → before c d ≡ true → before d e ≡ true → before c e ≡ true)
-    (homes : (c : A) → home c < m) where
+module _ {A : Type 0} {home : A → ℕ} {before : A → A → Bool} {m : ℕ} (ord : Ordered home before m) where
   -- the first hole was at p; g steps on there is one now, that last held e; t - 1 blocks after it are looked at, and f are left
   pub record Hole (p f h t : ℕ) (e : A) (bs : List (Block A)) : Type 0 where
     pub long : length bs ≡ m
@@ -96,8 +93,8 @@ module _ {A : Type 0} (home : A → ℕ) (before : A → A → Bool) (m : ℕ)
         (omega (arith, y .left))))
       where
         go : (c : A) (k l : ℕ) → before e c ≡ true → (c ≡ e) ⊎ (before c e ≡ true) → ⊥
-        go c k l b (inl s) = true≢false (cc (strict c))
-        go c k l b (inr s) = true≢false (sym (chain c e c s b) ∙ strict c)
+        go c k l b (inl s) = true≢false (cc (ord .strict c))
+        go c k l b (inr s) = true≢false (sym (ord .chain c e c s b) ∙ ord .strict c)
 
     -- past a way's crossing, the block t steps on holds a smaller label, unless the chunk itself is there
     smaller-ahead : (c : A) (k l : ℕ) → t < m → k < m → around m bs (home c + k) ≡ holds c → (home c + l) % m ≡ h % m → l + t < k
@@ -143,7 +140,7 @@ module _ {A : Type 0} (home : A → ℕ) (before : A → A → Bool) (m : ℕ)
               let s : c ≡ d = cc (at-ahead p (suc f) h t e bs y c k l z u r) in
               let o : (home d + k) % m ≡ (home d + x .steps) % m =
               ap (λ (a : A). (home a + k) % m) (sym s) ∙ ap (λ (a : ℕ). (home c + a) % m) (sym r) ∙ ahead p (suc f) h t e bs y c l t u ∙ sym (x .there) in
-              absurd (omega (arith, steps-same m (home d) (homes d) k (x .steps) w (x .few) o))
+              absurd (omega (arith, steps-same m (home d) (ord .homes d) k (x .steps) w (x .few) o))
           by (more r) = absurd (omega arith)
 
   -- the next block holds d, whose way crosses the hole: d goes there
@@ -159,11 +156,11 @@ module _ {A : Type 0} (home : A → ℕ) (before : A → A → Bool) (m : ℕ)
 
     next-block : (j : ℕ) → j % m ≡ (h + t) % m → around m next j ≡ empty
     unfolding next filled
-    next-block j u = stored-there m filled (h + t) j empty (omega (arith, homes d)) (stored-long m bs h (holds d) (y .long)) u
+    next-block j u = stored-there m filled (h + t) j empty (omega (arith, ord .homes d)) (stored-long m bs h (holds d) (y .long)) u
 
     next-hole : (j : ℕ) → j % m ≡ h % m → around m next j ≡ holds d
     unfolding next filled
-    next-hole j u = stored-elsewhere m filled (h + t) j empty (λ w. apart (sym w ∙ u)) ∙ stored-there m bs h j (holds d) (omega (arith, homes d)) (y .long) u
+    next-hole j u = stored-elsewhere m filled (h + t) j empty (λ w. apart (sym w ∙ u)) ∙ stored-there m bs h j (holds d) (omega (arith, ord .homes d)) (y .long) u
 
     next-else : (j : ℕ) → j % m ≢ h % m → j % m ≢ (h + t) % m → around m next j ≡ around m bs j
     unfolding next filled
@@ -199,15 +196,15 @@ module _ {A : Type 0} (home : A → ℕ) (before : A → A → Bool) (m : ℕ)
     own-way k w u l g = go (y .ways d (x .steps) (x .few) (x .is) l (omega (arith, near))) (spot (home d + l))
       where
         near : k ≡ x .steps - t
-        near = steps-same m (home d) (homes d) k (x .steps - t) w (omega (arith, x .few)) (u ∙ sym pull-back)
+        near = steps-same m (home d) (ord .homes d) k (x .steps - t) w (omega (arith, x .few)) (u ∙ sym pull-back)
 
         not-there : (home d + l) % m ≡ h % m → ⊥
-        not-there q = omega (arith, steps-same m (home d) (homes d) l k (omega arith) w (q ∙ sym u))
+        not-there q = omega (arith, steps-same m (home d) (ord .homes d) l k (omega arith) w (q ∙ sym u))
 
         go : Way home before m bs h t e d (x .steps) l → Spot (home d + l) → holds-smaller before d (around m next (home d + l)) ≡ true
         go (crosses q r b) a = absurd (not-there q)
         go (clear q) (hole a) = absurd (not-there a)
-        go (clear q) (block a) = absurd (omega (arith, y .some, near, steps-same m (home d) (homes d) l (x .steps) (omega arith) (x .few) (a ∙ sym (x .there))))
+        go (clear q) (block a) = absurd (omega (arith, y .some, near, steps-same m (home d) (ord .homes d) l (x .steps) (omega arith) (x .few) (a ∙ sym (x .there))))
         go (clear q) (other a b) = rw (next-else (home d + l) a b) q
 
     -- c stands in the new table
@@ -250,7 +247,7 @@ module _ {A : Type 0} (home : A → ℕ) (before : A → A → Bool) (m : ℕ)
         where
           before-d : (c ≡ e) ⊎ (before c e ≡ true) → before c d ≡ true
           before-d (inl j) = rw j larger
-          before-d (inr j) = chain c e d j larger
+          before-d (inr j) = ord .chain c e d j larger
 
           skipped : y .past < a → around m bs (home c + k) ≡ holds c → (home c + (k - (a - y .past))) % m ≡ h % m → Way home before m bs h t e c k (k - (a - y .past)) → ⊥
           skipped j o i (clear g) = false≢true (cc (g, y .hollow, around-mod m bs (home c + (k - (a - y .past))) h i))
@@ -302,7 +299,7 @@ module _ {A : Type 0} (home : A → ℕ) (before : A → A → Bool) (m : ℕ)
     pull-count : how-many next ≡ how-many bs
     unfolding next filled
     pull-count =
-        let z : zero < m = omega (arith, homes d) in
+        let z : zero < m = omega (arith, ord .homes d) in
         omega (
           arith,
           store-count m bs h empty (holds d) (y .long) z (y .hollow),
@@ -344,8 +341,8 @@ module _ {A : Type 0} (home : A → ℕ) (before : A → A → Bool) (m : ℕ)
           → Pulled home before m bs (pull-step b bs (λ d. cond (leb t (distance-of m (home d) ((h + t) % m))) (pull-from home f (h + t) 1 m (to d)) (pull-from home f h (suc t) m bs)))
       go empty n skip move = record { long = y .long; rule-3 = stopped p (suc f) h t e bs y fewer n; stays = λ x s. s; only = λ x s. s; count = refl }
       go (holds d) n skip move =
-          let x = far home m homes bs d (h + t) n in
-          let q : distance-of m (home d) ((h + t) % m) ≡ x .steps = distance-steps m (home d) ((h + t) % m) (x .steps) (homes d) (mod-lt (h + t) (omega arith)) (x .few) (x .there) in
+          let x = far ord bs d (h + t) n in
+          let q : distance-of m (home d) ((h + t) % m) ≡ x .steps = distance-steps m (home d) ((h + t) % m) (x .steps) (ord .homes d) (mod-lt (h + t) (omega arith)) (x .few) (x .there) in
           rw q (test d (leb t (x .steps)) n x refl skip move)
 
 -- what the removal of c leaves
@@ -357,18 +354,14 @@ pub record Removed {A : Type 0} (home : A → ℕ) (before : A → A → Bool) (
   pub count : suc (how-many now) ≡ how-many bs
   pub gone : (x : A) → before x c ≡ false → before c x ≡ false → Stands m now x → ⊥
 
-module _ {A : Type 0} (home : A → ℕ) (before : A → A → Bool) (m : ℕ)
-    (strict : (c : A) → before c c ≡ false)
-    (chain : (c d e : A) → before c d ≡ true → before d e ≡ true → before c e ≡ true)
-    (tied : (c d : A) → before c d ≡ false → before d c ≡ false → home c ≡ home d)
-    (homes : (c : A) → home c < m) where
+module _ {A : Type 0} {home : A → ℕ} {before : A → A → Bool} {m : ℕ} (ord : Ordered home before m) where
   module _ (i : ℕ) (c : A) (bs : List (Block A)) (long : length bs ≡ m) (rule : Rule-3 home before m bs) (is : around m bs i ≡ holds c) where
     emptied : List (Block A)
     emptied = stored m bs i empty
 
     emptied-there : (j : ℕ) → j % m ≡ i % m → around m emptied j ≡ empty
     unfolding emptied
-    emptied-there j u = stored-there m bs i j empty (omega (arith, homes c)) long u
+    emptied-there j u = stored-there m bs i j empty (omega (arith, ord .homes c)) long u
 
     emptied-else : (j : ℕ) → j % m ≢ i % m → around m emptied j ≡ around m bs j
     unfolding emptied
@@ -380,7 +373,7 @@ module _ {A : Type 0} (home : A → ℕ) (before : A → A → Bool) (m : ℕ)
     emptied-is : (x : A) (j : ℕ) → around m emptied j ≡ holds x → around m bs j ≡ holds x
     emptied-is x j z = sym (emptied-else j (emptied-apart x j z)) ∙ z
 
-    emptied-hole : Hole home before m strict chain homes i (m - 1) i 1 c emptied
+    emptied-hole : Hole ord i (m - 1) i 1 c emptied
     unfolding emptied
     emptied-hole = record {
       long = stored-long m bs i empty long;
@@ -388,7 +381,7 @@ module _ {A : Type 0} (home : A → ℕ) (before : A → A → Bool) (m : ℕ)
       past = 0;
       at = sym (add-zero i);
       some = omega arith;
-      left = omega (arith, homes c);
+      left = omega (arith, ord .homes c);
       ways = λ d k w z l g. way d k l g (rule d k w (emptied-is d (home d + k) z) l g) (ℕ-discrete ((home d + l) % m) (i % m));
       behind = λ d k a w z u q r. absurd (omega arith);
     }
@@ -401,12 +394,12 @@ module _ {A : Type 0} (home : A → ℕ) (before : A → A → Bool) (m : ℕ)
     pub removed : Removed home before m c bs (removed-at home m i bs)
     unfolding removed-at emptied
     removed =
-        let r = pull-keeps home before m strict chain homes i (m - 1) i 1 c emptied emptied-hole in record {
+        let r = pull-keeps ord i (m - 1) i 1 c emptied emptied-hole in record {
           long = r .long;
           rule-3 = r .rule-3;
           stays = λ x s. stay x s r (ℕ-discrete (s .at % m) (i % m));
           only = λ x s. old x (r .only x s);
-          count = omega (arith, r .count, store-count m bs i (holds c) empty long (omega (arith, homes c)) is);
+          count = omega (arith, r .count, store-count m bs i (holds c) empty long (omega (arith, ord .homes c)) is);
           gone = λ x a b s. new x a b (r .only x s);
         }
       where
@@ -418,7 +411,7 @@ module _ {A : Type 0} (home : A → ℕ) (before : A → A → Bool) (m : ℕ)
 
         new : (x : A) → before x c ≡ false → before c x ≡ false → Stands m emptied x → ⊥
         new x a b s =
-            emptied-apart x (s .at) (s .is) (one-label home before m strict chain tied homes bs rule x c (s .at) i (emptied-is x (s .at) (s .is)) is a b)
+            emptied-apart x (s .at) (s .is) (one-label ord bs rule x c (s .at) i (emptied-is x (s .at) (s .is)) is a b)
 
         stay : (x : A) (s : Stands m bs x) → Pulled home before m emptied end → Dec (s .at % m ≡ i % m) → (x ≡ c) ⊎ Stands m end x
         stay x s r (yes u) = let o = around-mod m bs (s .at) i u in inl (cc (s .is, o))

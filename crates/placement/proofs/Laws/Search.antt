@@ -8,7 +8,7 @@ use native.Mathlib.Nat.{add-suc}
 use native.Mathlib.Omega.{arith}
 use Rattle.placement.specs.Blocks.{Block, empty, holds, around, holds-smaller, Smaller-to, Rule-3}
 use Rattle.sizes.proofs.Laws.Round.{Which, which, less, same, more}
-use Rattle.placement.proofs.Laws.Blocks.{Far, far}
+use Rattle.placement.proofs.Laws.Blocks.{Far, far, Ordered}
 use Rattle.placement.proofs.Laws.Insertion.{Other}
 
 -- where the search for the label of c ends: at a block that holds the label, or at one before which the label would stand
@@ -29,14 +29,10 @@ abbrev pub Answer : {A : Type 0} (before : A → A → Bool) (m : ℕ) (c : A) �
 Answer before m c bs (at-place i d) = (around m bs i ≡ holds d) × (before d c ≡ false) × (before c d ≡ false)
 Answer before m c bs absent = Other before m c bs
 
-module _ {A : Type 0} (home : A → ℕ) (before : A → A → Bool) (m : ℕ)
-    (like : (c d e : A) → before c d ≡ false → before d c ≡ false → before e c ≡ true → before e d ≡ true)
-    (tied : (c d : A) → before c d ≡ false → before d c ≡ false → home c ≡ home d)
-    (homes : (c : A) → home c < m)
-    (c : A) (bs : List (Block A)) (r : Rule-3 home before m bs) where
+module _ {A : Type 0} {home : A → ℕ} {before : A → A → Bool} {m : ℕ} (ord : Ordered home before m) (c : A) (bs : List (Block A)) (r : Rule-3 home before m bs) where
   smaller-like : (x : A) (b : Block A) → before x c ≡ false → before c x ≡ false → holds-smaller before x b ≡ true → holds-smaller before c b ≡ true
   smaller-like x empty p q h = h
-  smaller-like x (holds e) p q h = like x c e p q h
+  smaller-like x (holds e) p q h = ord .like x c e p q h
 
   -- k blocks hold smaller labels, and the next does not, nor the label itself: the label stands nowhere
   pub stands-nowhere : (k : ℕ) → Smaller-to home before m bs c k → (m ≤ k) ⊎ (holds-smaller before c (around m bs (home c + k)) ≡ false)
@@ -57,7 +53,7 @@ module _ {A : Type 0} (home : A → ℕ) (before : A → A → Bool) (m : ℕ)
 
       go : (b : Bool) → before c x ≡ b → before c x ≡ true
       go true q = q
-      go false q = by q (far home m homes bs x (t .at) (t .is)) (tied c x q p) end (which (far home m homes bs x (t .at) (t .is) .steps) k)
+      go false q = by q (far ord bs x (t .at) (t .is)) (ord .tied c x q p) end (which (far ord bs x (t .at) (t .is) .steps) k)
 
   -- THE SEARCH gives the block that has the label, or says that the label stands nowhere
   pub search-right : (f k : ℕ) → Smaller-to home before m bs c k → f + k ≡ m → Answer before m c bs (search-from before f (home c + k) m c bs)

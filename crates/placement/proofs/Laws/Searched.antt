@@ -18,9 +18,10 @@ use Rattle.sizes.specs.Parts.{block-in}
 use Rattle.placement.specs.Decode.{blocks-in}
 use Rattle.placement.specs.declared.Label.{Label}
 use Rattle.placement.specs.Place.{label-in, probe, search-in}
-use Rattle.placement.specs.Maps.{chunk, Holdable, Table}
+use Rattle.placement.specs.Maps.{chunk, map-of, Holdable, Table}
 use Rattle.placement.specs.declared.Found.the-variants.{At}
-use Rattle.placement.proofs.Laws.Maps.{nodes-at, holds-read}
+use Rattle.placement.proofs.Laws.Maps.{lawful, nodes-at}
+use Rattle.placement.proofs.Laws.Kinds.{holds-read}
 use Rattle.sizes.proofs.Laws.Round.{steps-same}
 use Rattle.sizes.proofs.Laws.Sizes.{some-blocks}
 use Rattle.placement.proofs.Laws.Labels.{home-inside}
@@ -109,11 +110,12 @@ module _ (s : Sizes) (good : made s ≡ true) (hd : List ℕ) (head : length hd 
   pub searched-keeps : ((c : Chunk) → Stands (s .blocks) bl c → c .nodes ≢ [])
       → ((c : Chunk) (i : ℕ) → i < s .blocks → getD bl i empty ≡ holds c → search-in s (hd ++ all-bytes s bl) (c .label) ≡ At i)
       → Table s (nodes-at bl) (how-many bl) hd (hd ++ all-bytes s bl)
+  unfolding nodes-at map-of
   searched-keeps full found =
       let some = some-blocks s good in
       let rule = found-rule-3 s some bl v
       (λ c i h z. sym (search-blocks s some hd head bl v long (c .label)) ∙ found c i h z) in
-      let map = holds-read s some bl long rule full in
+      let map = holds-read (lawful s some) bl long rule full in
       record {
         good = good;
         head = head;

@@ -12,15 +12,14 @@ use lib.Seq.{set-set, set-comm, getD-set-same, getD-set-other}
 use borrow.Author.Tests.{eq-eqb, ne-eqb}
 use Rattle.placement.specs.Blocks.{Block, empty, holds, around, stored, is-free}
 use Rattle.sizes.specs.declared.Sizes.{Sizes}
-use Rattle.placement.specs.Chunks.{Chunk, chunk-home, chunk-before}
+use Rattle.placement.specs.Chunks.{Chunk, chunk-before}
 use Rattle.placement.specs.Place.{settle, free-in}
-use Rattle.placement.specs.Maps.{chunk-kind}
 use Rattle.placement.specs.declared.Label.{Label}
 use Rattle.placement.specs.declared.Found.the-variants.{At}
 use Rattle.placement.proofs.Laws.Blocks.{stored-there, stored-elsewhere}
 use Rattle.placement.proofs.Laws.Insertion.{insert-from, Carry, carry-on, carry-swap}
 use Rattle.placement.proofs.Laws.Labels.{labels-strict, labels-chain}
-use Rattle.placement.proofs.Laws.Kinds.{tied}
+use Rattle.placement.proofs.Laws.Kinds.{ordered}
 use Rattle.placement.proofs.Laws.Maps.{lawful}
 use Rattle.placement.proofs.Laws.Bridge.{places}
 
@@ -33,9 +32,7 @@ module _ (s : Sizes) (some : 0 < s .blocks) where
     pub full : (l : ℕ) → l < k → is-free (around (s .blocks) bs (i + l)) ≡ false
 
   abbrev pub Carried : (fuel i : ℕ) → Chunk → List (Block Chunk) → Type 0
-  Carried f i c bs =
-      let law = lawful s some in
-      Carry (chunk-home s) chunk-before (s .blocks) (law .strict) (law .chain) (tied chunk-kind (chunk-home s) chunk-before (s .blocks) law) (law .inside) f i c bs
+  Carried = Carry (ordered (lawful s some))
 
   module _ (e : ℕ) (inside : e < s .blocks) where
     swapped : (bs : List (Block Chunk)) (j : ℕ) (c d : Chunk) → j ≢ e → set (set (set bs e (holds c)) j (holds c)) e (holds d) ≡ set (set bs j (holds c)) e (holds d)
@@ -139,11 +136,11 @@ module _ (s : Sizes) (some : 0 < s .blocks) where
 
             by : (b : Bool) → chunk-before (w .chunk) c ≡ b → settle places (s .blocks) (suc k) e i (set bs e (holds c)) ≡ insert-from chunk-before (suc f) i (s .blocks) c bs
             by true h =
-                rw (carried-at bs c (a .long), other-at (i % s .blocks) bs c (w .chunk) ne z, not-both c (w .chunk) h, w .is, h) (on (carry-on _ _ _ _ _ _ _ f i c (w .chunk) bs y (w .is) h))
+                rw (carried-at bs c (a .long), other-at (i % s .blocks) bs c (w .chunk) ne z, not-both c (w .chunk) h, w .is, h) (on (carry-on (ordered (lawful s some)) f i c (w .chunk) bs y (w .is) h))
             by false h =
                 rw (carried-at bs c (a .long), other-at (i % s .blocks) bs c (w .chunk) ne z, y .other (w .chunk) (record { at = i; is = w .is }) h, w .is, h)
                 (ap (λ (x : List (Block Chunk)). settle places (s .blocks) k e (suc i) x) (swapped-in i bs c (w .chunk) ne)
-                ∙ swap (w .chunk) (carry-swap _ _ _ _ _ _ _ f i c (w .chunk) bs y (w .is) h) ne)
+                ∙ swap (w .chunk) (carry-swap (ordered (lawful s some)) f i c (w .chunk) bs y (w .is) h) ne)
 
 -- the code finds the first empty block, k steps on
 pub free-first : (look : ℕ → Label) (m fuel i k : ℕ) → k < fuel → look ((i + k) % m) .level ≡ 0 → ((l : ℕ) → l < k → look ((i + l) % m) .level ≢ 0) → free-in look m fuel i ≡ At ((i + k) % m)

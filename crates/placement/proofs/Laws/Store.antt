@@ -9,7 +9,7 @@ use native.Mathlib.Omega.{arith}
 use lib.ListN.{length}
 use Rattle.placement.specs.Blocks.{Block, empty, holds, around, stored, holds-smaller, Stands, Smaller-to, Rule-3}
 use Rattle.sizes.proofs.Laws.Round.{steps-same}
-use Rattle.placement.proofs.Laws.Blocks.{around-mod, stored-mod, stored-there, stored-elsewhere, far}
+use Rattle.placement.proofs.Laws.Blocks.{around-mod, stored-mod, stored-there, stored-elsewhere, far, Ordered}
 
 module _ {A : Type 0} (m : ℕ) (bs : List (Block A)) (i : ℕ) (long : length bs ≡ m) (some : zero < m) where
   -- what stands after a store stood before, or is what was stored
@@ -37,7 +37,7 @@ pub record Alike {A : Type 0} (home : A → ℕ) (before : A → A → Bool) (d 
   pub left : (x : A) → before d x ≡ before c x
   pub right : (x : A) → before x d ≡ before x c
 
-module _ {A : Type 0} (home : A → ℕ) (before : A → A → Bool) (m : ℕ) (homes : (c : A) → home c < m) where
+module _ {A : Type 0} {home : A → ℕ} {before : A → A → Bool} {m : ℕ} (ord : Ordered home before m) where
   -- A chunk goes to a block that is empty or holds a larger label, where every block from its home on holds a smaller one: rule 3 stays
   pub store-keeps : (bs : List (Block A)) (c : A) (k : ℕ) → length bs ≡ m → k < m → Rule-3 home before m bs → Smaller-to home before m bs c k
       → ((e : A) → holds-smaller before e (around m bs (home c + k)) ≡ true → before c e ≡ true)
@@ -57,10 +57,10 @@ module _ {A : Type 0} (home : A → ℕ) (before : A → A → Bool) (m : ℕ) (
       own : (e : A) → e ≡ c → (home e + k′) % m ≡ (home c + k) % m → (home e + l) % m ≢ (home c + k) % m → holds-smaller before e (around m bs (home e + l)) ≡ true
       own e q w n =
           let t : (home c + k′) % m ≡ (home c + k) % m = rw q at w in
-          rw q (s l (omega (arith, steps-same m (home c) (homes c) k′ k g′ g t)))
+          rw q (s l (omega (arith, steps-same m (home c) (ord .homes c) k′ k g′ g t)))
 
       go : Dec ((home e + k′) % m ≡ (home c + k) % m) → Dec ((home e + l) % m ≡ (home c + k) % m) → holds-smaller before e (around m now (home e + l)) ≡ true
-      go (yes q) (yes w) = absurd (omega (arith, steps-same m (home e) (homes e) k′ l g′ (omega arith) (q ∙ sym w)))
+      go (yes q) (yes w) = absurd (omega (arith, steps-same m (home e) (ord .homes e) k′ l g′ (omega arith) (q ∙ sym w)))
       go (yes q) (no w) = rw (elsewhere (home e + l) w) (own e (cc (there (home e + k′) q)) q w)
       go (no q) (yes w) = rw (there (home e + l) w) (over e (rw (around-mod m bs (home e + l) (home c + k) w) at (r e k′ g′ (sym (elsewhere (home e + k′) q) ∙ f) l h)))
       go (no q) (no w) = rw (elsewhere (home e + l) w) (r e k′ g′ (sym (elsewhere (home e + k′) q) ∙ f) l h)
@@ -72,7 +72,7 @@ module _ {A : Type 0} (home : A → ℕ) (before : A → A → Bool) (m : ℕ) (
   -- a chunk changed for one with its label: rule 3 stays
   pub change-keeps : (bs : List (Block A)) (c d : A) (i : ℕ) → length bs ≡ m → Rule-3 home before m bs → around m bs i ≡ holds c → Alike home before d c → Rule-3 home before m (stored m bs i (holds d))
   change-keeps bs c d i p r e a =
-      let f = far home m homes bs c i e in
+      let f = far ord bs c i e in
       let at : (home d + f .steps) % m ≡ i % m = ap (λ (x : ℕ). (x + f .steps) % m) (a .home-same) ∙ f .there in
       rw (stored-mod m bs i (home d + f .steps) (holds d) (sym at))
       (store-keeps bs d (f .steps) p (f .few) r

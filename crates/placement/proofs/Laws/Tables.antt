@@ -25,7 +25,8 @@ use Rattle.placement.specs.declared.Found.the-variants.{At, Nothing}
 use Rattle.placement.proofs.Laws.Labels.{Label-is, is, isnt, label-is}
 use Rattle.sizes.proofs.Laws.Sizes.{some-blocks, limits}
 use Rattle.placement.proofs.Laws.Blocks.{around-inside}
-use Rattle.placement.proofs.Laws.Keeps.{kept-once, put-in, take-out, change}
+use Rattle.placement.proofs.Laws.Kinds.{kept-once, put-in, take-out, change}
+use Rattle.placement.proofs.Laws.Maps.{lawful}
 use Rattle.sizes.proofs.Laws.Headers.{sizes-head, sets-left, count-sizes}
 use Rattle.placement.proofs.Laws.Removal.{removed-at}
 use Rattle.placement.proofs.Laws.Insertion.{insert-from}
@@ -84,11 +85,6 @@ how-many-most [] = omega arith
 how-many-most (empty ∷ bl) = omega (arith, how-many-most bl)
 how-many-most (holds c ∷ bl) = omega (arith, how-many-most bl)
 
--- only the label counts
-cleared-same : (w : Label) (ns : List Order) (F : Map) → without-label (labelled w ns) F ≡ cleared w F
-unfolding without-label
-cleared-same w ns F = refl
-
 -- ---- the promises
 
 module _ (s : Sizes) (F : Map) (n : ℕ) (hd bs : List ℕ) (t : Table s F n hd bs) where
@@ -137,6 +133,7 @@ module _ (s : Sizes) (F : Map) (n : ℕ) (hd bs : List ℕ) (t : Table s F n hd 
   -- REMOVAL of the chunk in a block that was found
   pub pull-keeps : (w : Label) (i : ℕ) → 0 < w .level → search-in s bs w ≡ At i
       → Table s (cleared w F) (n - 1) hd (pull (bytes (block-long s)) (home s) (s .blocks) (s .blocks - 1) i (i + 1) bs)
+  unfolding without-label
   pull-keeps w i pos e = go (found-there w i pos e)
     where
       go : Told s F w (t .blocks) (At i) → Table s (cleared w F) (n - 1) hd (pull (bytes (block-long s)) (home s) (s .blocks) (s .blocks - 1) i (i + 1) bs)
@@ -145,8 +142,7 @@ module _ (s : Sizes) (F : Map) (n : ℕ) (hd bs : List ℕ) (t : Table s F n hd 
           now-keeps (cleared w F) (n - 1) (removed-at (chunk-home s) (s .blocks) i (t .blocks)) _
           (ap (λ (x : List ℕ). pull (bytes (block-long s)) (home s) (s .blocks) (s .blocks - 1) i (i + 1) x) (t .is) ∙ pull-at s some hd (t .head) (t .blocks) all (t .keeps .long) i h)
           (sound-without s F (labelled w []) (t .sound))
-          (subst (λ (G : Map). Keeps s (removed-at (chunk-home s) (s .blocks) i (t .blocks)) G (n - 1)) (cleared-same w (nodes-of F w) F)
-          (take-out s some (t .blocks) F (n - 1) (labelled w (nodes-of F w)) i (subst (λ (x : ℕ). Keeps s (t .blocks) F x) c (t .keeps)) z))
+          (take-out (lawful s some) (labelled w (nodes-of F w)) i (subst (λ (x : ℕ). Keeps s (t .blocks) F x) c (t .keeps)) z)
 
   -- as `remove` has it: the label is cleared where it is there, and nothing changes where it is not
   pub remove-keeps : (w : Label) → 0 < w .level → nodes-of F w ≢ []
@@ -171,16 +167,18 @@ module _ (s : Sizes) (F : Map) (n : ℕ) (hd bs : List ℕ) (t : Table s F n hd 
   pub insert-keeps : (w : Label) (ns : List Order) → Holdable s (labelled w ns) → nodes-of F w ≡ [] → ns ≢ [] → n < s .blocks
       → (r : Found) (bs′ : List ℕ) → r ≡ free-in (label-in (block-long s) bs) (s .blocks) (s .blocks) (home s w)
       → bs′ ≡ inserted s r w (length ns) (nodes-bytes ns) bs → Table s (with-nodes w ns F) (suc n) hd bs′
+  unfolding with-chunk
   insert-keeps w ns q gone full room r bs′ er eb =
       now-keeps (with-nodes w ns F) (suc n) (insert-from chunk-before (s .blocks) (home s w) (s .blocks) (labelled w ns) (t .blocks)) bs′
       (eb ∙ ap (inserted s r w (length ns) (nodes-bytes ns)) (t .is)
       ∙ insert-at s some hd (t .head) (t .blocks) all (t .keeps .long) F n (t .keeps) w ns q gone room r
       (er ∙ ap (λ (x : List ℕ). free-in (label-in (block-long s) x) (s .blocks) (s .blocks) (home s w)) (t .is)))
-      (sound-with s F (labelled w ns) (t .sound) q) (put-in s some (t .blocks) F n (labelled w ns) (t .keeps) gone full room)
+      (sound-with s F (labelled w ns) (t .sound) q) (put-in (lawful s some) (labelled w ns) (t .keeps) gone full room)
 
   -- CHANGE of the nodes in a block that was found
   pub write-keeps : (w : Label) (i : ℕ) (ns : List Order) → 0 < w .level → search-in s bs w ≡ At i → Holdable s (labelled w ns) → ns ≢ []
       → Table s (with-nodes w ns F) n hd (put-block (block-long s) bs i (block-with (block-long s) w (length ns) (nodes-bytes ns)))
+  unfolding with-chunk
   write-keeps w i ns pos e q full = go (found-there w i pos e)
     where
       go : Told s F w (t .blocks) (At i) → Table s (with-nodes w ns F) n hd (put-block (block-long s) bs i (block-with (block-long s) w (length ns) (nodes-bytes ns)))
@@ -191,7 +189,7 @@ module _ (s : Sizes) (F : Map) (n : ℕ) (hd bs : List ℕ) (t : Table s F n hd 
           ∙ block-put s some hd (t .head) (t .blocks) all (t .keeps .long) i (holds (labelled w ns)) h (held q)
           ∙ ap (λ (x : List (Block Chunk)). hd ++ all-bytes s x) (stored-inside (s .blocks) (t .blocks) i (holds (labelled w ns)) h))
           (sound-with s F (labelled w ns) (t .sound) q)
-          (change s some (t .blocks) F n (labelled w (nodes-of F w)) (labelled w ns) i (t .keeps) z refl full)
+          (change (lawful s some) (labelled w (nodes-of F w)) (labelled w ns) i (t .keeps) z refl full)
 
   -- the form of the bytes that the functions ask
   pub shaped : Shaped s bs
@@ -225,4 +223,4 @@ module _ (s : Sizes) (F : Map) (n : ℕ) (hd bs : List ℕ) (t : Table s F n hd 
 -- ONE TABLE keeps a map under a header
 pub same-bytes : (s : Sizes) (F G : Map) (n k : ℕ) (hd bs cs : List ℕ) → ((l f i : ℕ) → F l f i ≡ G l f i) → Table s F n hd bs → Table s G k hd cs → bs ≡ cs
 same-bytes s F G n k hd bs cs e x y =
-    x .is ∙ ap (λ (z : List (Block Chunk)). hd ++ all-bytes s z) (kept-once s (some-blocks s (x .good)) (x .blocks) (y .blocks) F G n k e (x .keeps) (y .keeps)) ∙ sym (y .is)
+    x .is ∙ ap (λ (z : List (Block Chunk)). hd ++ all-bytes s z) (kept-once (lawful s (some-blocks s (x .good))) (λ w. e (w .level) (w .first) (w .number)) (x .keeps) (y .keeps)) ∙ sym (y .is)

@@ -7,7 +7,7 @@ use native.Mathlib.Omega.{arith}
 use lib.ListN.{length, getD}
 use Rattle.placement.specs.Blocks.{Block, empty, holds, around, holds-smaller, Stands, Rule-3}
 use Rattle.sizes.proofs.Laws.Round.{Which, which, less, same, more}
-use Rattle.placement.proofs.Laws.Blocks.{around-mod, same-table, Far, far}
+use Rattle.placement.proofs.Laws.Blocks.{around-mod, same-table, Far, far, Ordered}
 
 -- the label in a block that holds a smaller one
 pub record Found {A : Type 0} (before : A → A → Bool) (c : A) (b : Block A) : Type 0 where
@@ -33,12 +33,10 @@ unfolding count
 count-le false q h = omega arith
 count-le true q h = rw (h refl) (omega arith)
 
-module _ {A : Type 0} (before : A → A → Bool)
-    (strict : (c : A) → before c c ≡ false)
-    (chain : (c d e : A) → before c d ≡ true → before d e ≡ true → before c e ≡ true) where
+module _ {A : Type 0} {home : A → ℕ} {before : A → A → Bool} {m : ℕ} (ord : Ordered home before m) where
   smaller-chain : (d c : A) (b : Block A) → before d c ≡ true → holds-smaller before d b ≡ true → holds-smaller before c b ≡ true
   smaller-chain d c empty h s = s
-  smaller-chain d c (holds e) h s = chain e d c s h
+  smaller-chain d c (holds e) h s = ord .chain e d c s h
 
   rank-le : (bs : List (Block A)) (d c : A) → before d c ≡ true → rank before bs d ≤ rank before bs c
   unfolding rank
@@ -48,13 +46,10 @@ module _ {A : Type 0} (before : A → A → Bool)
   rank-lt : (bs : List (Block A)) (j : ℕ) (d c : A) → getD bs j empty ≡ holds d → before d c ≡ true → rank before bs d < rank before bs c
   unfolding rank count
   rank-lt [] j d c e h = absurd (true≢false cc)
-  rank-lt (b ∷ bs) zero d c e h = rw (e, strict, h) (omega (arith, rank-le bs d c h))
+  rank-lt (b ∷ bs) zero d c e h = rw (e, ord .strict, h) (omega (arith, rank-le bs d c h))
   rank-lt (b ∷ bs) (suc j) d c e h = omega (arith, rank-lt bs j d c e h, count-le _ _ (smaller-chain d c b h))
 
-module _ {A : Type 0} (home : A → ℕ) (before : A → A → Bool) (m : ℕ)
-    (strict : (c : A) → before c c ≡ false)
-    (chain : (c d e : A) → before c d ≡ true → before d e ≡ true → before c e ≡ true)
-    (homes : (c : A) → home c < m) where
+module _ {A : Type 0} {home : A → ℕ} {before : A → A → Bool} {m : ℕ} (ord : Ordered home before m) where
   -- where a table has the chunk, the other has it at that place
   Agree : (bs cs : List (Block A)) → A → Type 0
   Agree bs cs c = (i : ℕ) → around m bs i ≡ holds c → around m cs i ≡ holds c
@@ -67,15 +62,15 @@ module _ {A : Type 0} (home : A → ℕ) (before : A → A → Bool) (m : ℕ)
   clash bs cs c k l e g f r h ih =
       let w = found before c (around m cs (home c + k)) (r c l g f k h) in
       let a : around m bs (home c + k) ≡ holds (w .chunk) = ih (w .chunk) (w .smaller) (record { at = home c + k; is = w .is }) (home c + k) (w .is) in
-      true≢false (cc (strict c, w .smaller))
+      true≢false (cc (ord .strict c, w .smaller))
 
   agree-step : (bs cs : List (Block A)) (c : A) → Rule-3 home before m bs → Rule-3 home before m cs → (Stands m bs c → Stands m cs c)
       → ((d : A) → before d c ≡ true → Stands m bs d → Agree bs cs d) → ((d : A) → before d c ≡ true → Stands m cs d → Agree cs bs d) → Agree bs cs c
   unfolding Agree
   agree-step bs cs c r q t to fro i e =
       let s = t (record { at = i; is = e }) in
-      let x = far home m homes bs c i e in
-      let y = far home m homes cs c (s .at) (s .is) in
+      let x = far ord bs c i e in
+      let y = far ord cs c (s .at) (s .is) in
       go x y (which (x .steps) (y .steps))
     where
       go : {j : ℕ} (x : Far home m bs c i) (y : Far home m cs c j) → Which (x .steps) (y .steps) → around m cs i ≡ holds c
@@ -91,7 +86,7 @@ module _ {A : Type 0} (home : A → ℕ) (before : A → A → Bool) (m : ℕ)
   agree-below bs cs p r q to fro zero c l = absurd (omega arith)
   agree-below bs cs p r q to fro (suc n) c l =
       let lower : (d : A) → before d c ≡ true → Stands m bs d → rank before bs d < n =
-      λ d h s. omega (arith, rank-lt before strict chain bs (s .at % m) d c (s .is) h) in
+      λ d h s. omega (arith, rank-lt ord bs (s .at % m) d c (s .is) h) in
       let one : (d : A) → before d c ≡ true → Stands m bs d → Agree bs cs d × Agree cs bs d =
       λ d h s. agree-below bs cs p r q to fro n d (lower d h s) in (
         agree-step bs cs c r q (to c) (λ d h s. one d h s .0) (λ d h s. one d h (fro d s) .1),

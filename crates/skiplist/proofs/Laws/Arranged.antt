@@ -10,6 +10,7 @@ use Rattle.sizes.specs.declared.Sizes.{Sizes}
 use Rattle.placement.specs.declared.Order.{Order}
 use Rattle.placement.proofs.Laws.Placed.{Placing, placement, one-placement-counted}
 use Rattle.placement.proofs.Laws.Maps.{lawful}
+use Rattle.placement.proofs.Laws.Kinds.{ordered}
 use Rattle.sizes.proofs.Laws.Sizes.{some-blocks}
 use Rattle.skiplist.specs.Lists.{chunks, blocks}
 use Rattle.skiplist.specs.Image.{orders-good, fits}
@@ -20,7 +21,7 @@ use Rattle.skiplist.proofs.Laws.Rising.{chunks-rising}
 pub blocks-placing : (s : Sizes) (os : List Order) → made s ≡ true → orders-good 1 os ≡ true → fits s os ≡ true →
     Placing (chunk-home s) chunk-before (s .blocks) (chunks s os) (replicate (s .blocks) empty) (blocks s os)
 unfolding blocks
-blocks-placing s os m g f = placement (chunk-home s) chunk-before (s .blocks) (lawful s (some-blocks s m) .inside) (chunks s os) (chunks-rising s os g) (fits-parts s os f .room)
+blocks-placing s os m g f = placement (ordered (lawful s (some-blocks s m))) (chunks s os) (chunks-rising s os g) (fits-parts s os f .room)
 
 pub rule-three : Rule-three
 unfolding Rule-three
@@ -29,5 +30,4 @@ rule-three s os m g f = blocks-placing s os m g f .rule-3
 pub one-arrangement : One-arrangement
 unfolding One-arrangement blocks
 one-arrangement s os bs m g f p r all n =
-    one-placement-counted (chunk-home s) chunk-before (s .blocks) (lawful s (some-blocks s m) .strict) (lawful s (some-blocks s m) .chain) (lawful s (some-blocks s m) .inside) (chunks s os) bs (chunks-rising s os g) (fits-parts s os f .room) (some-blocks s m) p r
-    (λ c a. all c a) n
+    one-placement-counted (ordered (lawful s (some-blocks s m))) (chunks s os) bs (chunks-rising s os g) (fits-parts s os f .room) (some-blocks s m) p r all n

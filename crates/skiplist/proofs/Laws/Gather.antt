@@ -10,7 +10,7 @@ use borrow.Author.Tests.{lt-ltb}
 use lib.Dec.{eqb}
 use lib.ListN.{length, getD, set, replicate, length-replicate}
 use Rattle.placement.specs.Blocks.{Block, empty, holds, around, stored, Stands, placed, how-many}
-use Rattle.placement.specs.Chunks.{Chunk, chunk-before, chunk-home}
+use Rattle.placement.specs.Chunks.{Chunk, chunk-home}
 use Rattle.sizes.specs.declared.Sizes.{Sizes}
 use Rattle.placement.specs.declared.Order.{Order}
 use Rattle.placement.proofs.Laws.Blocks.{around-inside, stored-long}
@@ -18,6 +18,7 @@ use Rattle.placement.proofs.Laws.Store.{after-store}
 use Rattle.placement.proofs.Laws.Placed.{how-many-empty, store-count, lands, nothing}
 use Rattle.placement.proofs.Laws.Labels.{home-inside}
 use Rattle.placement.proofs.Laws.Maps.{lawful}
+use Rattle.placement.proofs.Laws.Kinds.{ordered}
 use Rattle.skiplist.specs.Lists.{front, chunks, blocks}
 use Rattle.skiplist.specs.Image.{all-into, gathered}
 use Rattle.skiplist.proofs.Laws.Parts.{Up, up-front, below}
@@ -106,6 +107,6 @@ pub blocks-gather : (s : Sizes) (os : List Order) → 0 < s .nodes → 0 < s .bl
 unfolding blocks all-into front
 blocks-gather s os b some u h =
     let e = nodes-one s os b (omega (arith, beta-least s)) in
-    placed-gathers s some (chunks s os) (replicate (s .blocks) empty) 0 (rw e (omega arith, u)) (λ x t. absurd (nothing (chunk-home s) chunk-before (s .blocks) (lawful s some .inside) x t))
+    placed-gathers s some (chunks s os) (replicate (s .blocks) empty) 0 (rw e (omega arith, u)) (λ x t. absurd (nothing (ordered (lawful s some)) x t))
     (length-replicate (s .blocks) empty) (omega (arith, how-many-empty Chunk (s .blocks)))
     ∙ rw (e, gathered-none (s .blocks)) (all-rising [] os u)

@@ -18,7 +18,8 @@ use Rattle.placement.proofs.Laws.Blocks.{around-inside, stored-long, Far, far}
 use Rattle.placement.proofs.Laws.Store.{before-store}
 use Rattle.placement.proofs.Laws.Placed.{Rising, store-count, nothing, one-placement}
 use Rattle.placement.proofs.Laws.Labels.{labels-strict}
-use Rattle.placement.proofs.Laws.Maps.{lawful, one-place}
+use Rattle.placement.proofs.Laws.Maps.{lawful}
+use Rattle.placement.proofs.Laws.Kinds.{ordered, one-place}
 use Rattle.placement.proofs.Laws.Tables.{how-many-most}
 use Rattle.sizes.proofs.Laws.Sizes.{some-blocks}
 use Rattle.skiplist.specs.Lists.{chunks, blocks}
@@ -73,7 +74,7 @@ module _ (s : Sizes) (os : List Order) (x : List ℕ) (w : Rules s os x) where
   unfolding image blocks around
   rules-image =
       w .bytes ∙ ap (λ (z : List (Block Chunk)). header s (length os) ++ all-bytes s z)
-      (one-placement (chunk-home s) chunk-before (s .blocks) (lawful s some .strict) (lawful s some .chain) (lawful s some .inside) (chunks s os) (w .table) (chunks-rising s os (w .good)) room (w .number) ruled stands
+      (one-placement (ordered (lawful s some)) (chunks s os) (w .table) (chunks-rising s os (w .good)) room (w .number) ruled stands
       (λ c t. w .only (t .at % s .blocks) c (t .is)))
 
 -- AN IMAGE obeys the rules
@@ -95,12 +96,12 @@ module _ (s : Sizes) (os : List Order) (m : made s ≡ true) (g : orders-good 1 
 
   placed-only : (c : Chunk) → Among c (chunks s os) ⊎ Stands (s .blocks) (replicate (s .blocks) empty) c → Among c (chunks s os)
   placed-only c (inl a) = a
-  placed-only c (inr t) = absurd (nothing (chunk-home s) chunk-before (s .blocks) (lawful s some-block .inside) c t)
+  placed-only c (inr t) = absurd (nothing (ordered (lawful s some-block)) c t)
 
   passed : (j : ℕ) (c : Chunk) → getD (blocks s os) j empty ≡ holds c → (t : ℕ) → ((u : ℕ) → u ≤ t → (chunk-home s c + u) % s .blocks ≡ j → ⊥) →
       holds-smaller chunk-before c (getD (blocks s os) ((chunk-home s c + t) % s .blocks) empty) ≡ true
   unfolding around
-  passed j c e t never = go (far (chunk-home s) (s .blocks) (lawful s some-block .inside) (blocks s os) c j (here j c e))
+  passed j c e t never = go (far (ordered (lawful s some-block)) (blocks s os) c j (here j c e))
     where
       before : (y : Far (chunk-home s) (s .blocks) (blocks s os) c j) → Which t (y .steps) → t < y .steps
       before y (less h) = h
@@ -122,7 +123,7 @@ module _ (s : Sizes) (os : List Order) (m : made s ≡ true) (g : orders-good 1 
     there = λ c a. let t = blocks-placing s os m g f .comes c a in (t .at % s .blocks, omega (arith, mod-lt (t .at) some-block, long), t .is);
     only = λ j c e. placed-only c (blocks-placing s os m g f .only c (record { at = j; is = here j c e }));
     once = λ i j c e h.
-        sym (mod-eq-of-lt (below i c e)) ∙ sym (one-place s some-block (blocks s os) ruled-blocks c c i j (here i c e) (here j c h) refl) ∙ mod-eq-of-lt (below j c h);
+        sym (mod-eq-of-lt (below i c e)) ∙ sym (one-place (lawful s some-block) (blocks s os) ruled-blocks c c i j (here i c e) (here j c h) refl) ∙ mod-eq-of-lt (below j c h);
     smaller = passed;
   }
 
