@@ -41,27 +41,26 @@ pub suc-mod-same : (m i j : ℕ) → i % m ≡ j % m → suc i % m ≡ suc j % m
 suc-mod-same m i j e = suc-mod i m ∙ ap (λ (x : ℕ). suc x % m) e ∙ sym (suc-mod j m)
 
 module _ {A : Type 0} {home : A → ℕ} {before : A → A → Bool} {m : ℕ} (ord : Ordered home before m) where
+  -- of alike labels none stands nearer its home
+  none-nearer : (bs : List (Block A)) → Rule-3 home before m bs → (c d : A) {i j : ℕ} (x : Far home m bs c i) (y : Far home m bs d j) → home c ≡ home d → before c d ≡ false
+      → x .steps < y .steps → ⊥
+  none-nearer bs r c d x y t p h =
+      let z = r d (y .steps) (y .few) (y .is) (x .steps) h in
+      let w : around m bs (home d + x .steps) ≡ holds c = rw (← t) (x .is) in
+      true≢false (cc)
+
   -- one label stands in one block
   pub one-label : (bs : List (Block A)) → Rule-3 home before m bs → (c d : A) (i j : ℕ) → around m bs i ≡ holds c → around m bs j ≡ holds d
       → before c d ≡ false → before d c ≡ false → i % m ≡ j % m
-  one-label bs r c d i j e f p q = go (far ord bs c i e) (far ord bs d j f)
+  one-label bs r c d i j e f p q = go (far ord bs c i e) (far ord bs d j f) (ord .tied c d p q)
     where
-      go : Far home m bs c i → Far home m bs d j → i % m ≡ j % m
-      go x y = by (which (x .steps) (y .steps))
+      go : (x : Far home m bs c i) (y : Far home m bs d j) → home c ≡ home d → i % m ≡ j % m
+      go x y t = by (which (x .steps) (y .steps))
         where
-          t : home c ≡ home d
-          t = ord .tied c d p q
-
           by : Which (x .steps) (y .steps) → i % m ≡ j % m
-          by (less h) =
-              let z : holds-smaller before d (around m bs (home d + x .steps)) ≡ true = r d (y .steps) (y .few) (y .is) (x .steps) h in
-              let w : around m bs (home d + x .steps) ≡ holds c = rw (← t) (x .is) in
-              absurd (true≢false (cc))
+          by (less h) = absurd (none-nearer bs r c d x y t p h)
           by (same h) = sym (x .there) ∙ ap (λ (n : ℕ). (home c + n) % m) h ∙ ap (λ (n : ℕ). (n + y .steps) % m) t ∙ y .there
-          by (more h) =
-              let z : holds-smaller before c (around m bs (home c + y .steps)) ≡ true = r c (x .steps) (x .few) (x .is) (y .steps) h in
-              let w : around m bs (home c + y .steps) ≡ holds d = rw t (y .is) in
-              absurd (true≢false (cc))
+          by (more h) = absurd (none-nearer bs r d c y x (sym t) q h)
 
   -- a walk over smaller labels does not come round to an empty block
   pub room : (bs : List (Block A)) (c : A) (k g : ℕ) → around m bs g ≡ empty → Smaller-to home before m bs c k → k < m
@@ -75,7 +74,7 @@ module _ {A : Type 0} {home : A → ℕ} {before : A → A → Bool} {m : ℕ} (
           let w = around-mod m bs (home c + t .steps) g (t .there) in
           absurd (false≢true (cc (z, w)))
 
-  smaller-on : (bs : List (Block A)) (c : A) (k : ℕ) → Smaller-to home before m bs c k → holds-smaller before c (around m bs (home c + k)) ≡ true → Smaller-to home before m bs c (suc k)
+  pub smaller-on : (bs : List (Block A)) (c : A) (k : ℕ) → Smaller-to home before m bs c k → holds-smaller before c (around m bs (home c + k)) ≡ true → Smaller-to home before m bs c (suc k)
   smaller-on bs c k s h l w = go (which l k)
     where
       go : Which l k → holds-smaller before c (around m bs (home c + l)) ≡ true
@@ -83,80 +82,21 @@ module _ {A : Type 0} {home : A → ℕ} {before : A → A → Bool} {m : ℕ} (
       go (same v) = rw v h
       go (more v) = absurd (omega arith)
 
-  -- the carried chunk c comes to the block i, k steps from its home
-  module _ (bs : List (Block A)) (c : A) (i k : ℕ) (p : length bs ≡ m) (r : Rule-3 home before m bs) (q : (home c + k) % m ≡ i % m)
-      (s : Smaller-to home before m bs c k) where
-    now : List (Block A)
-    now = stored m bs i (holds c)
+  -- an empty block is near
+  pub record Near (fuel i : ℕ) (bs : List (Block A)) : Type 0 where
+    pub gap : ℕ
+    pub few : gap < fuel
+    pub free : around m bs (i + gap) ≡ empty
 
-    store-rule : k < m → ((e : A) → holds-smaller before e (around m bs i) ≡ true → before c e ≡ true) → Rule-3 home before m now
-    unfolding now
-    store-rule g over =
-        rw (stored-mod m bs i (home c + k) (holds c) (sym q))
-        (store-keeps ord bs c k p g r s (λ e h. over e (rw (around-mod m bs (home c + k) i q) at h)))
+  -- past a full block it is one step nearer
+  nearer : (f i g : ℕ) (bs : List (Block A)) (d : A) → around m bs i ≡ holds d → g < suc f → around m bs (i + g) ≡ empty → Near f (suc i) bs
+  nearer f i zero bs d e w h = absurd (true≢false (cc (add-zero i)))
+  nearer f i (suc g) bs d e w h = record { gap = g; few = omega arith; free = ap (λ (x : ℕ). around m bs x) (omega arith) ∙ h }
 
-    -- the block is empty
-    join-here : around m bs i ≡ empty → Joined home before m c bs now
-    unfolding now
-    join-here e = record {
-      long = stored-long m bs i (holds c) p;
-      rule-3 = store-rule (room bs c k i e s) (λ d h. absurd (false≢true (cc)));
-      stays = λ x t. stay x (before-store m bs i p (omega (arith, ord .homes c)) (holds c) x t);
-      comes = stored-stands m bs i p (omega (arith, ord .homes c)) c;
-      only = λ x t. after-store m bs i p (omega (arith, ord .homes c)) c x t;
-      count = omega (arith, store-count m bs i empty (holds c) p (omega (arith, ord .homes c)) e);
-    }
-      where
-        stay : (x : A) → (around m bs i ≡ holds x) ⊎ Stands m now x → Stands m now x
-        stay x (inl f) = absurd (true≢false (cc))
-        stay x (inr t) = t
+  on-mod : (h k i : ℕ) → (h + k) % m ≡ i % m → (h + suc k) % m ≡ suc i % m
+  on-mod h k i e = ap (λ (x : ℕ). x % m) (omega arith) ∙ suc-mod-same m (h + k) i e
 
-    -- the block holds d, and c goes before d: c takes the block, and d is carried on
-    module _ (d : A) (e : around m bs i ≡ holds d) (h : before d c ≡ false) (g : before c d ≡ true) (v : k < m) where
-      swap-rule : Rule-3 home before m now
-      swap-rule = store-rule v (λ x w. ord .chain c d x g (let u : holds-smaller before x (holds d) ≡ true = rw e at w in u))
-
-      swap-other : Other before m d now
-      unfolding now
-      swap-other x t n = go (ℕ-discrete (t .at % m) (i % m))
-        where
-          by : around m bs (t .at) ≡ holds x → ((t .at % m ≡ i % m) → ⊥) → (b : Bool) → before d x ≡ b → before d x ≡ true
-          by y w true z = z
-          by y w false z = absurd (w (sym (one-label bs r d x i (t .at) e y z n)))
-
-          go : Dec (t .at % m ≡ i % m) → before d x ≡ true
-          go (yes w) = let u = stored-there m bs i (t .at) (holds c) (omega arith) p w in let y : x ≡ c = cc (t .is, u) in absurd (true≢false (cc))
-          go (no w) = by (sym (stored-elsewhere m bs i (t .at) (holds c) w) ∙ t .is) w (before d x) refl
-
-      swap-smaller : (x : Far home m bs d i) → Smaller-to home before m now d (suc (x .steps))
-      unfolding now
-      swap-smaller x =
-          smaller-on now d (x .steps)
-          (λ l w.
-          rw (stored-elsewhere m bs i (home d + l) (holds c) (λ u. omega (arith, steps-same m (home d) (ord .homes d) l (x .steps) (omega (arith, x .few)) (x .few) (u ∙ sym (x .there)))))
-          (r d (x .steps) (x .few) (x .is) l w))
-          (rw (stored-there m bs i (home d + x .steps) (holds c) (omega arith) p (x .there)) g)
-
-      swap-joined : (end : List (Block A)) → Joined home before m d now end → Joined home before m c bs end
-      unfolding now
-      swap-joined end j = record {
-        long = j .long;
-        rule-3 = j .rule-3;
-        stays = λ x t. stay x (before-store m bs i p (omega (arith, ord .homes c)) (holds c) x t);
-        comes = j .stays c (stored-stands m bs i p (omega (arith, ord .homes c)) c);
-        only = λ x t. only x (j .only x t);
-        count = omega (arith, j .count, store-count m bs i (holds d) (holds c) p (omega (arith, ord .homes c)) e);
-      }
-        where
-          stay : (x : A) → (around m bs i ≡ holds x) ⊎ Stands m now x → Stands m end x
-          stay x (inl f) = let z : x ≡ d = cc in rw z (j .comes)
-          stay x (inr t) = j .stays x t
-
-          only : (x : A) → (x ≡ d) ⊎ Stands m now x → (x ≡ c) ⊎ Stands m bs x
-          only x (inl f) = inr (record { at = i; is = rw f e })
-          only x (inr t) = after-store m bs i p (omega (arith, ord .homes c)) c x t
-
-  -- c is carried to the block i: every block from its home on held a smaller label, and an empty block is near
+  -- c is carried to the block i: every block from its home on held a smaller label
   pub record Carry (fuel i : ℕ) (c : A) (bs : List (Block A)) : Type 0 where
     pub long : length bs ≡ m
     pub rule-3 : Rule-3 home before m bs
@@ -164,9 +104,7 @@ module _ {A : Type 0} {home : A → ℕ} {before : A → A → Bool} {m : ℕ} (
     pub steps : ℕ
     pub there : (home c + steps) % m ≡ i % m
     pub smaller : Smaller-to home before m bs c steps
-    pub gap : ℕ
-    pub near : gap < fuel
-    pub free : around m bs (i + gap) ≡ empty
+    pub near : Near fuel i bs
 
   -- at its home it has passed nothing
   pub carry-start : (c : A) (bs : List (Block A)) → length bs ≡ m → Rule-3 home before m bs → Other before m c bs → First m c bs m (home c) → Carry m (home c) c bs
@@ -177,72 +115,117 @@ module _ {A : Type 0} {home : A → ℕ} {before : A → A → Bool} {m : ℕ} (
     steps = 0;
     there = ap (λ (x : ℕ). x % m) (add-zero (home c));
     smaller = λ l w. absurd (omega arith);
-    gap = f .steps;
-    near = f .few;
-    free = f .free;
+    near = record { gap = f .steps; few = f .few; free = f .free };
   }
 
-  -- past a full block the empty one is one step nearer
-  pub record Nearer (f i : ℕ) (bs : List (Block A)) : Type 0 where
-    pub gap : ℕ
-    pub near : gap < f
-    pub free : around m bs (suc i + gap) ≡ empty
+  module _ {f i : ℕ} {c : A} {bs : List (Block A)} (y : Carry (suc f) i c bs) where
+    abbrev now : List (Block A)
+    now = stored m bs i (holds c)
 
-  nearer : (f i g : ℕ) (bs : List (Block A)) (d : A) → around m bs i ≡ holds d → g < suc f → around m bs (i + g) ≡ empty → Nearer f i bs
-  nearer f i zero bs d e w h = absurd (true≢false (cc (add-zero i)))
-  nearer f i (suc g) bs d e w h = record { gap = g; near = omega arith; free = ap (λ (x : ℕ). around m bs x) (omega arith) ∙ h }
+    some : zero < m
+    some = omega (arith, ord .homes c)
 
-  on-mod : (h k i : ℕ) → (h + k) % m ≡ i % m → (h + suc k) % m ≡ suc i % m
-  on-mod h k i e = ap (λ (x : ℕ). x % m) (omega arith) ∙ suc-mod-same m (h + k) i e
+    store-rule : ((e : A) → holds-smaller before e (around m bs i) ≡ true → before c e ≡ true) → Rule-3 home before m now
+    store-rule over =
+        rw (stored-mod m bs i (home c + y .steps) (holds c) (sym (y .there)))
+        (store-keeps ord bs c (y .steps) (y .long) (room bs c (y .steps) (i + y .near .gap) (y .near .free) (y .smaller)) (y .rule-3) (y .smaller)
+        (λ e h. over e (rw (around-mod m bs (home c + y .steps) i (y .there)) at h)))
 
-  pub carry-on : (f i : ℕ) (c d : A) (bs : List (Block A)) → Carry (suc f) i c bs → around m bs i ≡ holds d → before d c ≡ true → Carry f (suc i) c bs
-  carry-on f i c d bs y e h =
-      let n = nearer f i (y .gap) bs d e (y .near) (y .free) in
-      record {
+    -- the block is empty
+    join-here : around m bs i ≡ empty → Joined home before m c bs now
+    join-here e = record {
+      long = stored-long m bs i (holds c) (y .long);
+      rule-3 = store-rule (λ d h. absurd (false≢true (cc)));
+      stays = λ x t. stay x (before-store m bs i (y .long) some (holds c) x t);
+      comes = stored-stands m bs i (y .long) some c;
+      only = after-store m bs i (y .long) some c;
+      count = omega (arith, store-count m bs i empty (holds c) (y .long) some e);
+    }
+      where
+        stay : (x : A) → (around m bs i ≡ holds x) ⊎ Stands m now x → Stands m now x
+        stay x (inl f) = absurd (true≢false (cc))
+        stay x (inr t) = t
+
+    -- the block holds d
+    module _ (d : A) (e : around m bs i ≡ holds d) where
+      next-near : Near f (suc i) bs
+      next-near = nearer f i (y .near .gap) bs d e (y .near .few) (y .near .free)
+
+      pub carry-on : before d c ≡ true → Carry f (suc i) c bs
+      carry-on h = record {
         long = y .long;
         rule-3 = y .rule-3;
         other = y .other;
         steps = suc (y .steps);
         there = on-mod (home c) (y .steps) i (y .there);
         smaller = smaller-on bs c (y .steps) (y .smaller) (rw (around-mod m bs (home c + y .steps) i (y .there), e) h);
-        gap = n .gap;
-        near = n .near;
-        free = n .free;
+        near = next-near;
       }
 
-  module _ (f i : ℕ) (c d : A) (bs : List (Block A)) (y : Carry (suc f) i c bs) (e : around m bs i ≡ holds d) (h : before d c ≡ false) where
-    swap-before : before c d ≡ true
-    swap-before = y .other d (record { at = i; is = e }) h
+      -- c goes before d: c takes the block, and d is carried on
+      module _ (h : before d c ≡ false) where
+        goes-first : before c d ≡ true
+        goes-first = y .other d (record { at = i; is = e }) h
 
-    swap-room : y .steps < m
-    swap-room = room bs c (y .steps) (i + y .gap) (y .free) (y .smaller)
+        swap-other : Other before m d now
+        swap-other x t n = go (ℕ-discrete (t .at % m) (i % m))
+          where
+            by : around m bs (t .at) ≡ holds x → ((t .at % m ≡ i % m) → ⊥) → (b : Bool) → before d x ≡ b → before d x ≡ true
+            by z w true q = q
+            by z w false q = absurd (w (sym (one-label bs (y .rule-3) d x i (t .at) e z q n)))
 
-    pub carry-swap : Carry f (suc i) d (stored m bs i (holds c))
-    unfolding now
-    carry-swap =
-        let x = far ord bs d i e in
-        let n = nearer f i (y .gap) bs d e (y .near) (y .free) in
-        record {
-          long = stored-long m bs i (holds c) (y .long);
-          rule-3 = swap-rule bs c i (y .steps) (y .long) (y .rule-3) (y .there) (y .smaller) d e h swap-before swap-room;
-          other = swap-other bs c i (y .steps) (y .long) (y .rule-3) (y .there) (y .smaller) d e h swap-before swap-room;
-          steps = suc (x .steps);
-          there = on-mod (home d) (x .steps) i (x .there);
-          smaller = swap-smaller bs c i (y .steps) (y .long) (y .rule-3) (y .there) (y .smaller) d e h swap-before swap-room x;
-          gap = n .gap;
-          near = n .near;
-          free = stored-elsewhere m bs i (suc i + n .gap) (holds c)
-              (λ u. true≢false (cc (around-mod m bs (suc i + n .gap) i u, n .free))) ∙ n .free;
+            go : Dec (t .at % m ≡ i % m) → before d x ≡ true
+            go (yes w) = let u = stored-there m bs i (t .at) (holds c) some (y .long) w in let z : x ≡ c = cc (t .is, u) in absurd (true≢false (cc goes-first))
+            go (no w) = by (sym (stored-elsewhere m bs i (t .at) (holds c) w) ∙ t .is) w (before d x) refl
+
+        swap-smaller : (x : Far home m bs d i) → Smaller-to home before m now d (suc (x .steps))
+        swap-smaller x =
+            smaller-on now d (x .steps)
+            (λ l w.
+            rw (stored-elsewhere m bs i (home d + l) (holds c) (λ u. omega (arith, steps-same m (home d) (ord .homes d) l (x .steps) (omega (arith, x .few)) (x .few) (u ∙ sym (x .there)))))
+            (y .rule-3 d (x .steps) (x .few) (x .is) l w))
+            (rw (stored-there m bs i (home d + x .steps) (holds c) some (y .long) (x .there)) goes-first)
+
+        pub carry-swap : Carry f (suc i) d now
+        carry-swap =
+            let x = far ord bs d i e in
+            let n = next-near in
+            record {
+              long = stored-long m bs i (holds c) (y .long);
+              rule-3 = store-rule (λ x w. ord .chain c d x goes-first (let u : holds-smaller before x (holds d) ≡ true = rw e at w in u));
+              other = swap-other;
+              steps = suc (x .steps);
+              there = on-mod (home d) (x .steps) i (x .there);
+              smaller = swap-smaller x;
+              near = record {
+                gap = n .gap;
+                few = n .few;
+                free = stored-elsewhere m bs i (suc i + n .gap) (holds c) (λ u. true≢false (cc (around-mod m bs (suc i + n .gap) i u, n .free))) ∙ n .free;
+              };
+            }
+
+        swap-joined : (end : List (Block A)) → Joined home before m d now end → Joined home before m c bs end
+        swap-joined end j = record {
+          long = j .long;
+          rule-3 = j .rule-3;
+          stays = λ x t. stay x (before-store m bs i (y .long) some (holds c) x t);
+          comes = j .stays c (stored-stands m bs i (y .long) some c);
+          only = λ x t. only x (j .only x t);
+          count = omega (arith, j .count, store-count m bs i (holds d) (holds c) (y .long) some e);
         }
+          where
+            stay : (x : A) → (around m bs i ≡ holds x) ⊎ Stands m now x → Stands m end x
+            stay x (inl f) = let z : x ≡ d = cc in rw z (j .comes)
+            stay x (inr t) = j .stays x t
 
-    swapped-joined : (end : List (Block A)) → Joined home before m d (stored m bs i (holds c)) end → Joined home before m c bs end
-    unfolding now
-    swapped-joined end j = swap-joined bs c i (y .steps) (y .long) (y .rule-3) (y .there) (y .smaller) d e h swap-before swap-room end j
+            only : (x : A) → (x ≡ d) ⊎ Stands m now x → (x ≡ c) ⊎ Stands m bs x
+            only x (inl f) = inr (record { at = i; is = rw f e })
+            only x (inr t) = after-store m bs i (y .long) some c x t
 
   -- THE WALK joins the carried chunk to the table
   pub insert-keeps : (fuel i : ℕ) (c : A) (bs : List (Block A)) → Carry fuel i c bs → Joined home before m c bs (insert-from before fuel i m c bs)
-  unfolding insert-from now
-  insert-keeps zero i c bs y = absurd (omega (arith, y .near))
+  unfolding insert-from
+  insert-keeps zero i c bs y = absurd (omega (arith, y .near .few))
   insert-keeps (suc f) i c bs y =
       go (around m bs i) refl (λ x. insert-keeps f (suc i) c bs x) (λ d x. insert-keeps f (suc i) d (stored m bs i (holds c)) x)
     where
@@ -256,14 +239,14 @@ module _ {A : Type 0} {home : A → ℕ} {before : A → A → Bool} {m : ℕ} (
           → (Carry f (suc i) c bs → Joined home before m c bs (insert-from before f (suc i) m c bs))
           → ((d : A) → Carry f (suc i) d next → Joined home before m d next (insert-from before f (suc i) m d next))
           → Joined home before m c bs (cond t (insert-from before f (suc i) m c bs) (insert-from before f (suc i) m d next))
-      test d true e h on swap = on (carry-on f i c d bs y e h)
-      test d false e h on swap = swapped-joined f i c d bs y e h (insert-from before f (suc i) m d next) (swap d (carry-swap f i c d bs y e h))
+      test d true e h on swap = on (carry-on y d e h)
+      test d false e h on swap = swap-joined y d e h (insert-from before f (suc i) m d next) (swap d (carry-swap y d e h))
 
       go : (b : Block A) → around m bs i ≡ b
           → (Carry f (suc i) c bs → Joined home before m c bs (insert-from before f (suc i) m c bs))
           → ((d : A) → Carry f (suc i) d next → Joined home before m d next (insert-from before f (suc i) m d next))
           → Joined home before m c bs (end b)
-      go empty e on swap = join-here bs c i (y .steps) (y .long) (y .rule-3) (y .there) (y .smaller) e
+      go empty e on swap = join-here y e
       go (holds d) e on swap = test d (before d c) e refl on swap
 
   -- THE INSERTION of a chunk whose label is absent, where some block is empty

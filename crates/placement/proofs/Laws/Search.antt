@@ -9,7 +9,7 @@ use native.Mathlib.Omega.{arith}
 use Rattle.placement.specs.Blocks.{Block, empty, holds, around, holds-smaller, Smaller-to, Rule-3}
 use Rattle.sizes.proofs.Laws.Round.{Which, which, less, same, more}
 use Rattle.placement.proofs.Laws.Blocks.{Far, far, Ordered}
-use Rattle.placement.proofs.Laws.Insertion.{Other}
+use Rattle.placement.proofs.Laws.Insertion.{Other, smaller-on}
 
 -- where the search for the label of c ends: at a block that holds the label, or at one before which the label would stand
 pub data Found (A : Type 0) : Type 0 where
@@ -64,20 +64,12 @@ module _ {A : Type 0} {home : A → ℕ} {before : A → A → Bool} {m : ℕ} (
       i : ℕ
       i = home c + k
 
-      further : (d : A) → around m bs i ≡ holds d → before d c ≡ true → Smaller-to home before m bs c (suc k)
-      further d z h l w = at (which l k)
-        where
-          at : Which l k → holds-smaller before c (around m bs (home c + l)) ≡ true
-          at (less v) = s l v
-          at (same v) = rw (v, z) h
-          at (more v) = absurd (omega arith)
-
       rest : Found A
       rest = search-from before f (suc i) m c bs
 
       test : (d : A) (p q : Bool) → around m bs i ≡ holds d → before d c ≡ p → before c d ≡ q
           → (Smaller-to home before m bs c (suc k) → Answer before m c bs (search-from before f (home c + suc k) m c bs)) → Answer before m c bs (cond p rest (cond q absent (at-place i d)))
-      test d true q z h g on = rw add-suc at (on (further d z h))
+      test d true q z h g on = rw add-suc at (on (smaller-on ord bs c k s (rw z h)))
       test d false true z h g on = stands-nowhere k s (inr (rw (z, h))) (λ x w v p. (let o : x ≡ d = cc (z, w) in rw o g))
       test d false false z h g on = (z, h, g)
 

@@ -115,7 +115,7 @@ module _ (s : Sizes) (some : 0 < s .blocks) where
     pub settle-theory : (k f i : ℕ) (c : Chunk) (bs : List (Block Chunk)) → Carried f i c bs → Ahead k i e bs
         → settle places (s .blocks) k e i (set bs e (holds c)) ≡ insert-from chunk-before f i (s .blocks) c bs
     unfolding settle insert-from
-    settle-theory k zero i c bs y a = absurd (omega (arith, y .near))
+    settle-theory k zero i c bs y a = absurd (omega (arith, y .near .few))
     settle-theory zero (suc f) i c bs y a = rw (lands-free i bs a) (lands-in i bs (holds c) a)
     settle-theory (suc k) (suc f) i c bs y a =
         go (first-full k i bs a) (λ u. settle-theory k f (suc i) c bs u (ahead-on k i bs a))
@@ -136,11 +136,11 @@ module _ (s : Sizes) (some : 0 < s .blocks) where
 
             by : (b : Bool) → chunk-before (w .chunk) c ≡ b → settle places (s .blocks) (suc k) e i (set bs e (holds c)) ≡ insert-from chunk-before (suc f) i (s .blocks) c bs
             by true h =
-                rw (carried-at bs c (a .long), other-at (i % s .blocks) bs c (w .chunk) ne z, not-both c (w .chunk) h, w .is, h) (on (carry-on (ordered (lawful s some)) f i c (w .chunk) bs y (w .is) h))
+                rw (carried-at bs c (a .long), other-at (i % s .blocks) bs c (w .chunk) ne z, not-both c (w .chunk) h, w .is, h) (on (carry-on (ordered (lawful s some)) y (w .chunk) (w .is) h))
             by false h =
                 rw (carried-at bs c (a .long), other-at (i % s .blocks) bs c (w .chunk) ne z, y .other (w .chunk) (record { at = i; is = w .is }) h, w .is, h)
                 (ap (λ (x : List (Block Chunk)). settle places (s .blocks) k e (suc i) x) (swapped-in i bs c (w .chunk) ne)
-                ∙ swap (w .chunk) (carry-swap (ordered (lawful s some)) f i c (w .chunk) bs y (w .is) h) ne)
+                ∙ swap (w .chunk) (carry-swap (ordered (lawful s some)) y (w .chunk) (w .is) h) ne)
 
 -- the code finds the first empty block, k steps on
 pub free-first : (look : ℕ → Label) (m fuel i k : ℕ) → k < fuel → look ((i + k) % m) .level ≡ 0 → ((l : ℕ) → l < k → look ((i + l) % m) .level ≢ 0) → free-in look m fuel i ≡ At ((i + k) % m)
