@@ -68,7 +68,7 @@ module _ {A : Type 0} {home : A → ℕ} {before : A → A → Bool} {m : ℕ} (
     pub ways : (c : A) (k : ℕ) → k < m → around m bs (home c + k) ≡ holds c → (l : ℕ) → l < k → Way home before m bs h t e c k l
     pub behind : (c : A) (k a : ℕ) → k < m → around m bs (home c + k) ≡ holds c → a < past → (home c + k) % m ≡ (p + a) % m → a < k → (c ≡ e) ⊎ (before c e ≡ true)
 
-  module _ (p f h t : ℕ) (e : A) (bs : List (Block A)) (y : Hole p f h t e bs) where
+  module _ {p f h t : ℕ} {e : A} {bs : List (Block A)} (y : Hole p f h t e bs) where
     -- no way crosses the hole: rule 3
     whole : ((c : A) (k l : ℕ) → k < m → around m bs (home c + k) ≡ holds c → (home c + l) % m ≡ h % m → l + t ≤ k → before e c ≡ true → ⊥) → Rule-3 home before m bs
     whole none c k w z l v = go (y .ways c k w z l v)
@@ -118,8 +118,8 @@ module _ {A : Type 0} {home : A → ℕ} {before : A → A → Bool} {m : ℕ} (
         go c k l w z u q b (more x) = omega arith
 
   -- the next block holds d, whose way does not cross the hole
-  pass : (p f h t : ℕ) (e d : A) (bs : List (Block A)) (y : Hole p (suc f) h t e bs) (x : Far home m bs d (h + t)) → around m bs (h + t) ≡ holds d → x .steps < t → Hole p f h (suc t) e bs
-  pass p f h t e d bs y x n v = record {
+  pass : {p f h t : ℕ} {e d : A} {bs : List (Block A)} (y : Hole p (suc f) h t e bs) (x : Far home m bs d (h + t)) → around m bs (h + t) ≡ holds d → x .steps < t → Hole p f h (suc t) e bs
+  pass {h = h} {t} {e} {d} {bs} y x n v = record {
     long = y .long;
     hollow = y .hollow;
     past = y .past;
@@ -137,33 +137,30 @@ module _ {A : Type 0} {home : A → ℕ} {before : A → A → Bool} {m : ℕ} (
           by : Which (l + t) k → l + suc t ≤ k
           by (less r) = omega arith
           by (same r) =
-              let s : c ≡ d = cc (at-ahead p (suc f) h t e bs y c k l z u r) in
+              let s : c ≡ d = cc (at-ahead y c k l z u r) in
               let o : (home d + k) % m ≡ (home d + x .steps) % m =
-              ap (λ (a : A). (home a + k) % m) (sym s) ∙ ap (λ (a : ℕ). (home c + a) % m) (sym r) ∙ ahead p (suc f) h t e bs y c l t u ∙ sym (x .there) in
+              ap (λ (a : A). (home a + k) % m) (sym s) ∙ ap (λ (a : ℕ). (home c + a) % m) (sym r) ∙ ahead y c l t u ∙ sym (x .there) in
               absurd (omega (arith, steps-same m (home d) (ord .homes d) k (x .steps) w (x .few) o))
           by (more r) = absurd (omega arith)
 
   -- the next block holds d, whose way crosses the hole: d goes there
-  module _ (p f h t : ℕ) (e d : A) (bs : List (Block A)) (y : Hole p (suc f) h t e bs) (x : Far home m bs d (h + t)) (n : around m bs (h + t) ≡ holds d) (v : t ≤ x .steps) where
-    filled : List (Block A)
+  module _ {p f h t : ℕ} {e d : A} {bs : List (Block A)} (y : Hole p (suc f) h t e bs) (x : Far home m bs d (h + t)) (n : around m bs (h + t) ≡ holds d) (v : t ≤ x .steps) where
+    abbrev filled : List (Block A)
     filled = stored m bs h (holds d)
 
-    next : List (Block A)
+    abbrev next : List (Block A)
     next = stored m filled (h + t) empty
 
     apart : (h + t) % m ≢ h % m
-    apart = not-hole p (suc f) h t e bs y t (y .some) (omega (arith, y .left))
+    apart = not-hole y t (y .some) (omega (arith, y .left))
 
     next-block : (j : ℕ) → j % m ≡ (h + t) % m → around m next j ≡ empty
-    unfolding next filled
     next-block j u = stored-there m filled (h + t) j empty (omega (arith, ord .homes d)) (stored-long m bs h (holds d) (y .long)) u
 
     next-hole : (j : ℕ) → j % m ≡ h % m → around m next j ≡ holds d
-    unfolding next filled
     next-hole j u = stored-elsewhere m filled (h + t) j empty (λ w. apart (sym w ∙ u)) ∙ stored-there m bs h j (holds d) (omega (arith, ord .homes d)) (y .long) u
 
     next-else : (j : ℕ) → j % m ≢ h % m → j % m ≢ (h + t) % m → around m next j ≡ around m bs j
-    unfolding next filled
     next-else j u w = stored-elsewhere m filled (h + t) j empty w ∙ stored-elsewhere m bs h j (holds d) u
 
     -- a place is the hole, the next block or another one
@@ -233,8 +230,8 @@ module _ {A : Type 0} {home : A → ℕ} {before : A → A → Bool} {m : ℕ} (
             where
               ahead-of : Which (l + t) k → before d c ≡ true
               ahead-of (less j) =
-                  let r : holds-smaller before c (holds d) ≡ true = rw n at (smaller-ahead p (suc f) h t e bs y c k l (omega (arith, y .left)) w o q j) in r
-              ahead-of (same j) = absurd (b (ap (λ (i : ℕ). (home c + i) % m) (sym j) ∙ ahead p (suc f) h t e bs y c l t q))
+                  let r : holds-smaller before c (holds d) ≡ true = rw n at (smaller-ahead y c k l (omega (arith, y .left)) w o q j) in r
+              ahead-of (same j) = absurd (b (ap (λ (i : ℕ). (home c + i) % m) (sym j) ∙ ahead y c l t q))
               ahead-of (more j) = absurd (omega arith)
 
           by : Spot (home c + k) → Way home before m next (h + t) 1 d c k l
@@ -268,7 +265,6 @@ module _ {A : Type 0} {home : A → ℕ} {before : A → A → Bool} {m : ℕ} (
           by (other i j) = old i (stood i) (which a (y .past))
 
     pull : Hole p f (h + t) 1 d next
-    unfolding next filled
     pull = record {
       long = stored-long m filled (h + t) empty (stored-long m bs h (holds d) (y .long));
       hollow = next-block (h + t) refl;
@@ -297,7 +293,6 @@ module _ {A : Type 0} {home : A → ℕ} {before : A → A → Bool} {m : ℕ} (
         go (other u w) = record { at = s .at; is = sym (next-else (s .at) u w) ∙ s .is }
 
     pull-count : how-many next ≡ how-many bs
-    unfolding next filled
     pull-count =
         let z : zero < m = omega (arith, ord .homes d) in
         omega (
@@ -307,12 +302,12 @@ module _ {A : Type 0} {home : A → ℕ} {before : A → A → Bool} {m : ℕ} (
         )
 
   -- PULLING keeps what stands and restores rule 3
-  pub pull-keeps : (p f h t : ℕ) (e : A) (bs : List (Block A)) → Hole p f h t e bs → Pulled home before m bs (pull-from home f h t m bs)
-  unfolding pull-from next filled
-  pull-keeps p zero h t e bs y = record { long = y .long; rule-3 = finished p zero h t e bs y refl; stays = λ x s. s; only = λ x s. s; count = refl }
-  pull-keeps p (suc f) h t e bs y =
-      go (around m bs (h + t)) refl (λ e′ t′ u. pull-keeps p f h t′ e′ bs u)
-      (λ d u. pull-keeps p f (h + t) 1 d (stored m (stored m bs h (holds d)) (h + t) empty) u)
+  pub pull-keeps : {p : ℕ} (f h t : ℕ) (e : A) (bs : List (Block A)) → Hole p f h t e bs → Pulled home before m bs (pull-from home f h t m bs)
+  unfolding pull-from
+  pull-keeps zero h t e bs y = record { long = y .long; rule-3 = finished y refl; stays = λ x s. s; only = λ x s. s; count = refl }
+  pull-keeps {p} (suc f) h t e bs y =
+      go (around m bs (h + t)) refl (λ e′ t′ u. pull-keeps f h t′ e′ bs u)
+      (λ d u. pull-keeps f (h + t) 1 d (stored m (stored m bs h (holds d)) (h + t) empty) u)
     where
       to : A → List (Block A)
       to d = stored m (stored m bs h (holds d)) (h + t) empty
@@ -326,20 +321,20 @@ module _ {A : Type 0} {home : A → ℕ} {before : A → A → Bool} {m : ℕ} (
           → Pulled home before m bs (cond b (pull-from home f (h + t) 1 m (to d)) (pull-from home f h (suc t) m bs))
       test d true n x q skip move =
           let v : t ≤ x .steps = leb-true t (x .steps) q in
-          let r = move d (pull p f h t e d bs y x n v) in record {
+          let r = move d (pull y x n v) in record {
             long = r .long;
             rule-3 = r .rule-3;
-            stays = λ a s. r .stays a (pull-stays p f h t e d bs y x n v a s);
-            only = λ a s. pull-only p f h t e d bs y x n v a (r .only a s);
-            count = r .count ∙ pull-count p f h t e d bs y x n v;
+            stays = λ a s. r .stays a (pull-stays y x n v a s);
+            only = λ a s. pull-only y x n v a (r .only a s);
+            count = r .count ∙ pull-count y x n v;
           }
-      test d false n x q skip move = skip e (suc t) (pass p f h t e d bs y x n (leb-false t (x .steps) q))
+      test d false n x q skip move = skip e (suc t) (pass y x n (leb-false t (x .steps) q))
 
       go : (b : Block A) → around m bs (h + t) ≡ b
           → ((e : A) (t : ℕ) → Hole p f h t e bs → Pulled home before m bs (pull-from home f h t m bs))
           → ((d : A) → Hole p f (h + t) 1 d (to d) → Pulled home before m (to d) (pull-from home f (h + t) 1 m (to d)))
           → Pulled home before m bs (pull-step b bs (λ d. cond (leb t (distance-of m (home d) ((h + t) % m))) (pull-from home f (h + t) 1 m (to d)) (pull-from home f h (suc t) m bs)))
-      go empty n skip move = record { long = y .long; rule-3 = stopped p (suc f) h t e bs y fewer n; stays = λ x s. s; only = λ x s. s; count = refl }
+      go empty n skip move = record { long = y .long; rule-3 = stopped y fewer n; stays = λ x s. s; only = λ x s. s; count = refl }
       go (holds d) n skip move =
           let x = far ord bs d (h + t) n in
           let q : distance-of m (home d) ((h + t) % m) ≡ x .steps = distance-steps m (home d) ((h + t) % m) (x .steps) (ord .homes d) (mod-lt (h + t) (omega arith)) (x .few) (x .there) in
@@ -356,15 +351,13 @@ pub record Removed {A : Type 0} (home : A → ℕ) (before : A → A → Bool) (
 
 module _ {A : Type 0} {home : A → ℕ} {before : A → A → Bool} {m : ℕ} (ord : Ordered home before m) where
   module _ (i : ℕ) (c : A) (bs : List (Block A)) (long : length bs ≡ m) (rule : Rule-3 home before m bs) (is : around m bs i ≡ holds c) where
-    emptied : List (Block A)
+    abbrev emptied : List (Block A)
     emptied = stored m bs i empty
 
     emptied-there : (j : ℕ) → j % m ≡ i % m → around m emptied j ≡ empty
-    unfolding emptied
     emptied-there j u = stored-there m bs i j empty (omega (arith, ord .homes c)) long u
 
     emptied-else : (j : ℕ) → j % m ≢ i % m → around m emptied j ≡ around m bs j
-    unfolding emptied
     emptied-else j u = stored-elsewhere m bs i j empty u
 
     emptied-apart : (x : A) (j : ℕ) → around m emptied j ≡ holds x → j % m ≢ i % m
@@ -374,7 +367,6 @@ module _ {A : Type 0} {home : A → ℕ} {before : A → A → Bool} {m : ℕ} (
     emptied-is x j z = sym (emptied-else j (emptied-apart x j z)) ∙ z
 
     emptied-hole : Hole ord i (m - 1) i 1 c emptied
-    unfolding emptied
     emptied-hole = record {
       long = stored-long m bs i empty long;
       hollow = emptied-there i refl;
@@ -392,9 +384,9 @@ module _ {A : Type 0} {home : A → ℕ} {before : A → A → Bool} {m : ℕ} (
 
     -- THE REMOVAL of the chunk at the place i
     pub removed : Removed home before m c bs (removed-at home m i bs)
-    unfolding removed-at emptied
+    unfolding removed-at
     removed =
-        let r = pull-keeps ord i (m - 1) i 1 c emptied emptied-hole in record {
+        let r = pull-keeps ord (m - 1) i 1 c emptied emptied-hole in record {
           long = r .long;
           rule-3 = r .rule-3;
           stays = λ x s. stay x s r (ℕ-discrete (s .at % m) (i % m));

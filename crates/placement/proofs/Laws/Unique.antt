@@ -20,16 +20,15 @@ found before c empty h = absurd (true≢false cc)
 found before c (holds d) h = record { chunk = d; is = refl; smaller = h }
 
 -- how many blocks hold a label before that of c
-count : Bool → ℕ
+abbrev count : Bool → ℕ
 count false = 0
 count true = 1
 
-rank : {A : Type 0} → (A → A → Bool) → List (Block A) → A → ℕ
+abbrev rank : {A : Type 0} → (A → A → Bool) → List (Block A) → A → ℕ
 rank before [] c = 0
 rank before (b ∷ bs) c = count (holds-smaller before c b) + rank before bs c
 
 count-le : (p q : Bool) → (p ≡ true → q ≡ true) → count p ≤ count q
-unfolding count
 count-le false q h = omega arith
 count-le true q h = rw (h refl) (omega arith)
 
@@ -39,26 +38,23 @@ module _ {A : Type 0} {home : A → ℕ} {before : A → A → Bool} {m : ℕ} (
   smaller-chain d c (holds e) h s = ord .chain e d c s h
 
   rank-le : (bs : List (Block A)) (d c : A) → before d c ≡ true → rank before bs d ≤ rank before bs c
-  unfolding rank
   rank-le [] d c h = omega arith
   rank-le (b ∷ bs) d c h = omega (arith, rank-le bs d c h, count-le _ _ (smaller-chain d c b h))
 
   rank-lt : (bs : List (Block A)) (j : ℕ) (d c : A) → getD bs j empty ≡ holds d → before d c ≡ true → rank before bs d < rank before bs c
-  unfolding rank count
   rank-lt [] j d c e h = absurd (true≢false cc)
   rank-lt (b ∷ bs) zero d c e h = rw (e, ord .strict, h) (omega (arith, rank-le bs d c h))
   rank-lt (b ∷ bs) (suc j) d c e h = omega (arith, rank-lt bs j d c e h, count-le _ _ (smaller-chain d c b h))
 
 module _ {A : Type 0} {home : A → ℕ} {before : A → A → Bool} {m : ℕ} (ord : Ordered home before m) where
   -- where a table has the chunk, the other has it at that place
-  Agree : (bs cs : List (Block A)) → A → Type 0
+  abbrev Agree : (bs cs : List (Block A)) → A → Type 0
   Agree bs cs c = (i : ℕ) → around m bs i ≡ holds c → around m cs i ≡ holds c
 
   -- what stands k steps on in one table, where the other needs a smaller label
   clash : (bs cs : List (Block A)) (c : A) (k l : ℕ) → around m bs (home c + k) ≡ holds c
       → l < m → around m cs (home c + l) ≡ holds c → Rule-3 home before m cs → k < l
       → ((d : A) → before d c ≡ true → Stands m cs d → Agree cs bs d) → ⊥
-  unfolding Agree
   clash bs cs c k l e g f r h ih =
       let w = found before c (around m cs (home c + k)) (r c l g f k h) in
       let a : around m bs (home c + k) ≡ holds (w .chunk) = ih (w .chunk) (w .smaller) (record { at = home c + k; is = w .is }) (home c + k) (w .is) in
@@ -66,7 +62,6 @@ module _ {A : Type 0} {home : A → ℕ} {before : A → A → Bool} {m : ℕ} (
 
   agree-step : (bs cs : List (Block A)) (c : A) → Rule-3 home before m bs → Rule-3 home before m cs → (Stands m bs c → Stands m cs c)
       → ((d : A) → before d c ≡ true → Stands m bs d → Agree bs cs d) → ((d : A) → before d c ≡ true → Stands m cs d → Agree cs bs d) → Agree bs cs c
-  unfolding Agree
   agree-step bs cs c r q t to fro i e =
       let s = t (record { at = i; is = e }) in
       let x = far ord bs c i e in
@@ -82,7 +77,7 @@ module _ {A : Type 0} {home : A → ℕ} {before : A → A → Bool} {m : ℕ} (
   agree-below : (bs cs : List (Block A)) → length bs ≡ m → Rule-3 home before m bs → Rule-3 home before m cs
       → ((c : A) → Stands m bs c → Stands m cs c) → ((c : A) → Stands m cs c → Stands m bs c)
       → (n : ℕ) (c : A) → rank before bs c < n → Agree bs cs c × Agree cs bs c
-  unfolding Agree around
+  unfolding around
   agree-below bs cs p r q to fro zero c l = absurd (omega arith)
   agree-below bs cs p r q to fro (suc n) c l =
       let lower : (d : A) → before d c ≡ true → Stands m bs d → rank before bs d < n =
@@ -96,7 +91,6 @@ module _ {A : Type 0} {home : A → ℕ} {before : A → A → Bool} {m : ℕ} (
   -- RULE 3 LEAVES ONE ARRANGEMENT: two tables that keep it and hold the same chunks are equal
   pub one-arrangement : (bs cs : List (Block A)) → length bs ≡ m → length cs ≡ m → Rule-3 home before m bs → Rule-3 home before m cs
       → ((c : A) → Stands m bs c → Stands m cs c) → ((c : A) → Stands m cs c → Stands m bs c) → bs ≡ cs
-  unfolding Agree
   one-arrangement bs cs p p′ r q to fro = same-table m bs cs p p′ (λ i. go i (around m bs i) (around m cs i) refl refl)
     where
       both : (c : A) → Agree bs cs c × Agree cs bs c
