@@ -1,22 +1,15 @@
 -- THE PROMISES FOR THIS VERSION: those of chunks of any kind, for its chunks and for maps by the parts of a label.
 use mathlib.Core.Logic.{_≢_}
 use mathlib.Core.List.{List, []}
-use Prim.Native.Nat.{ℕ, zero, _≤_, _<_}
+use Prim.Native.Nat.{zero, _≤_, _<_}
 use lib.ListN.{length, replicate}
 use Rattle.placement.specs.Blocks.{Among, empty, placed}
 use Rattle.sizes.specs.declared.Sizes.{Sizes}
-use Rattle.placement.specs.Labels.{label}
 use Rattle.placement.specs.Chunks.{Chunk, chunk-home, chunk-before}
-use Rattle.placement.specs.Maps.{chunk, Keeps, map-of}
+use Rattle.placement.specs.Maps.{Keeps, map-of}
 use Rattle.placement.proofs.Laws.Placed.{Rising}
 use Rattle.placement.proofs.Laws.Maps.{lawful}
 use Rattle.placement.proofs.Laws.Kinds
-
-module _ (s : Sizes) (some : zero < s .blocks) where
-  -- what is true of some chunks is true of those that their map tells
-  pub map-only : (P : Chunk → Type 0) (cs : List Chunk) → ((c : Chunk) → Among c cs → P c) → (l f i : ℕ) → map-of cs l f i ≢ [] → P (chunk (map-of cs) l f i)
-  unfolding map-of
-  map-only P cs h l f i = Kinds.map-only (lawful s some) P cs h (label l f i)
 
 -- THE PLACEMENT keeps the map of its chunks
 pub placed-keeps : (s : Sizes) (cs : List Chunk) → zero < s .blocks → Rising chunk-before cs → length cs ≤ s .blocks → ((c : Chunk) → Among c cs → c .nodes ≢ [])

@@ -11,7 +11,7 @@ use Rattle.placement.specs.Chunks.{Chunk}
 use Rattle.sizes.specs.declared.Sizes.{Sizes}
 use Rattle.placement.specs.declared.Order.{Order}
 use Rattle.placement.specs.declared.Label.{Label}
-use Rattle.placement.proofs.Laws.Labels.{by-level, by-first, by-number, before-is}
+use Rattle.placement.proofs.Laws.Labels.{by-level, by-first, by-number}
 use Rattle.skiplist.specs.Lists.{list-at, partitions, first-key, masked, chunks-of, all-chunks, chunks-from, chunks}
 use Rattle.skiplist.specs.Promise.{labels-rise, Labels-rise}
 use Rattle.skiplist.proofs.Laws.Parts.{Up, Heads, good-up}
@@ -28,7 +28,7 @@ unfolding chunks-of
 of-rise zero b l f i p ds w h g e = e
 of-rise (suc k) b l f i [] ds w h g e = e
 of-rise (suc k) b l f i (o ∷ os) ds w h g e =
-    (h, of-rise k b l f (suc i) (drop b (o ∷ os)) ds (label l f i) (before-is (label l f i) (label l f (suc i)) (by-number refl refl (omega arith))) g (g i))
+    (h, of-rise k b l f (suc i) (drop b (o ∷ os)) ds (label l f i) (by-number (label l f i) (label l f (suc i)) refl refl (omega arith)) g (g i))
 
 all-rise : (s : Sizes) (l : ℕ) (ps : List (List Order)) (ds : List Chunk) (a : ℕ) (w : Label) → Heads a ps → ((f : ℕ) → a ≤ f → before w (label l f 0) ≡ true) →
     ((f j : ℕ) → Rises (label l f j) ds) → Rises w ds → Rises w (all-chunks s l ps ++ ds)
@@ -37,7 +37,7 @@ all-rise s l [] ds a w u h g e = e
 all-rise s l (p ∷ ps) ds a w u h g e =
     rw (append-assoc (chunks-of (length p) (s .nodes) l (first-key p) 0 (map (masked l) p)) (all-chunks s l ps) ds)
     (of-rise (length p) (s .nodes) l (first-key p) 0 (map (masked l) p) (all-chunks s l ps ++ ds) w (h (first-key p) (u .0))
-    (λ j. all-rise s l ps ds (suc (first-key p)) (label l (first-key p) j) (u .1) (λ f q. before-is (label l (first-key p) j) (label l f 0) (by-first refl q)) g (g (first-key p) j))
+    (λ j. all-rise s l ps ds (suc (first-key p)) (label l (first-key p) j) (u .1) (λ f q. by-first (label l (first-key p) j) (label l f 0) refl q) g (g (first-key p) j))
     (all-rise s l ps ds (suc (first-key p)) w (u .1) (λ f q. h f (omega (arith, u .0))) g e))
 
 from-rise : (k l : ℕ) (w : Label) (s : Sizes) (os : List Order) → Up 1 os → w .level < l → Rises w (chunks-from k l s os)
@@ -45,7 +45,7 @@ unfolding chunks-from
 from-rise zero l w s os u h = tt
 from-rise (suc k) l w s os u h =
     all-rise s l (partitions s l (list-at s l os)) (chunks-from k (suc l) s os) 0 w (parts-heads s l os u)
-    (λ f q. before-is w (label l f 0) (by-level h)) (λ f j. from-rise k (suc l) (label l f j) s os u (omega arith)) (from-rise k (suc l) w s os u (omega arith))
+    (λ f q. by-level w (label l f 0) h) (λ f j. from-rise k (suc l) (label l f j) s os u (omega arith)) (from-rise k (suc l) w s os u (omega arith))
 
 pub chunks-rise : (s : Sizes) (os : List Order) → Up 1 os → Rises (label 0 0 0) (chunks s os)
 unfolding chunks

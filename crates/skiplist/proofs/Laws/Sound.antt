@@ -12,11 +12,13 @@ use lib.ListN.{length, take, drop, length-append, length-drop, length-take, leng
 use Rattle.sizes.specs.Sizes.{prime, made}
 use Rattle.sizes.specs.Hash.{level}
 use Rattle.placement.specs.Chunks.{Chunk}
+use Rattle.placement.specs.Labels.{label}
 use Rattle.placement.specs.Maps.{map-of, Fine, Fines, Holdable, Sound}
 use Rattle.sizes.specs.declared.Sizes.{Sizes}
 use Rattle.placement.specs.declared.Order.{Order}
 use Rattle.sizes.proofs.Laws.Sizes.{some-blocks}
-use Rattle.placement.proofs.Laws.Keeps.{map-only}
+use Rattle.placement.proofs.Laws.Kinds.{map-only}
+use Rattle.placement.proofs.Laws.Maps.{lawful}
 use Rattle.skiplist.specs.Lists.{front, at-least, list-at, partitions, first-key, masked, chunks}
 use Rattle.skiplist.specs.Image.{quantities-good, orders-good, fits}
 use Rattle.skiplist.specs.Rules.{Piece, Chunks-are}
@@ -122,6 +124,6 @@ unfolding Chunks-are
 chunks-full s os m c a e = omega (arith, piece-full s os c (limits s m .nodes-some) (chunks-are s os c m .0 a), ap length e)
 
 pub chunks-sound : (s : Sizes) (os : List Order) → made s ≡ true → orders-good 1 os ≡ true → fits s os ≡ true → Sound s (map-of (chunks s os))
-unfolding Chunks-are
-chunks-sound s os m g f l h i w =
-    map-only s (some-blocks s m) (Holdable s) (chunks s os) (λ c a. piece-holdable s os c m g f (chunks-are s os c m .0 a)) l h i w
+unfolding Chunks-are map-of
+chunks-sound s os m g f l h i =
+    map-only (lawful s (some-blocks s m)) (Holdable s) (chunks s os) (λ c a. piece-holdable s os c m g f (chunks-are s os c m .0 a)) (label l h i)
