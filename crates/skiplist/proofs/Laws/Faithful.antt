@@ -15,7 +15,7 @@ use Rattle.placement.specs.declared.Label.{Label}
 use Rattle.placement.proofs.Laws.Labels.{labels-chain, same-is, isnt-same}
 use Rattle.skiplist.specs.Lists.{list-at, partitions, first-key, masked, chunks-of, all-chunks, chunks-from, chunks}
 use Rattle.skiplist.proofs.Laws.Parts.{Up, part}
-use Rattle.skiplist.proofs.Laws.Content.{content, content-is}
+use Rattle.skiplist.proofs.Laws.Content.{picked, content, content-is}
 use Rattle.skiplist.proofs.Laws.Rise.{Rises, chunks-rise}
 
 rises-from : (v w : Label) (cs : List Chunk) → before v w ≡ true → Rises w cs → Rises v cs
@@ -24,14 +24,14 @@ rises-from v w (c ∷ cs) h r = (labels-chain v w (c .label) h (r .0), r .1)
 
 -- nothing stands under a label before all
 content-before : (l f i : ℕ) (cs : List Chunk) → Rises (label l f i) cs → content l f i cs ≡ []
-unfolding content
+unfolding picked
 content-before l f i [] r = refl
 content-before l f i (c ∷ cs) r =
     rw (isnt-same (c .label) (label l f i) (r .0)) (content-before l f i cs (rises-from (label l f i) (c .label) cs (r .0) (r .1)))
 
 -- where labels rise a label stands once, so all that stands under it is what the map of the chunks tells
 pub map-content : (l f i : ℕ) (cs : List Chunk) (w : Label) → Rises w cs → map-of cs l f i ≡ content l f i cs
-unfolding map-of content
+unfolding map-of picked
 map-content l f i [] w r = refl
 map-content l f i (c ∷ cs) w r = go (map-content l f i cs (c .label) (r .1)) (same-label (c .label) (label l f i)) refl
   where

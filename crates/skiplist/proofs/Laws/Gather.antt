@@ -23,6 +23,7 @@ use Rattle.skiplist.specs.Lists.{front, chunks, blocks}
 use Rattle.skiplist.specs.Image.{all-into, gathered}
 use Rattle.skiplist.proofs.Laws.Parts.{Up, up-front, below}
 use Rattle.skiplist.proofs.Laws.Edits.{beta-least}
+use Rattle.skiplist.proofs.Laws.Content.{picked}
 use Rattle.skiplist.proofs.Laws.Nodes.{all-nodes, nodes-one, all-into-append, below-more, all-comm, all-rising}
 
 -- a chunk's nodes, if it is of level 1
@@ -80,7 +81,7 @@ module _ (s : Sizes) (some : zero < s .blocks) where
   -- CHUNKS BY RISING NODES, placed one after the other
   placed-gathers : (cs : List Chunk) (bs : List (Block Chunk)) (a : ℕ) → Up a (all-nodes 1 cs) → ((x : Chunk) → Stands (s .blocks) bs x → below a (ones x) ≡ true) → length bs ≡ s .blocks →
       how-many bs + length cs ≤ s .blocks → gathered (placed (chunk-home s) (s .blocks) cs bs) [] ≡ all-into (all-nodes 1 cs) (gathered bs [])
-  unfolding placed all-nodes all-into ones around stored
+  unfolding placed picked all-into ones around stored
   placed-gathers [] bs a u w q h = refl
   placed-gathers (c ∷ cs) bs a u w q h =
       let f = lands (s .blocks) c bs (chunk-home s c) (home-inside s some (c .label)) q (omega arith) in

@@ -4,14 +4,14 @@ use mathlib.Core.Bool.{Bool, true, false, cond}
 use mathlib.Core.List.{List, [], _∷_, _++_, map, append-assoc, append-nil, map-append}
 use Prim.Native.Nat.{ℕ, zero, suc, _+_, _≤_, _<_}
 use native.Mathlib.Omega.{arith}
-use borrow.Author.Tests.{ltb-true, ltb-false, eqb-true, eqb-false, eq-eqb, ne-eqb, lt-ltb, le-ltb}
+use borrow.Author.Tests.{ltb-true, ltb-false, eq-eqb, ne-eqb, lt-ltb, le-ltb}
 use lib.Dec.{ltb, eqb}
 use lib.ListN.{length, drop, length-drop, length-map, take-append-drop}
 use Rattle.sizes.specs.Sizes.{beta}
 use Rattle.placement.specs.Chunks.{Chunk}
 use Rattle.sizes.specs.declared.Sizes.{Sizes}
 use Rattle.placement.specs.declared.Order.{Order}
-use Rattle.skiplist.specs.Lists.{front, at-least, list-at, starts-one, partitions, first-key, masked, chunks-of, all-chunks, chunks-from, chunks}
+use Rattle.skiplist.specs.Lists.{front, at-least, list-at, starts-one, partitions, first-key, masked, chunks-of, all-chunks, chunks}
 use Rattle.skiplist.specs.Image.{into, all-into}
 use Rattle.skiplist.proofs.Laws.Runs.{partitions-front}
 use Rattle.skiplist.proofs.Laws.Parts.{Up, and-left, and-right, up-past, below, below-here}
@@ -19,75 +19,35 @@ use Rattle.skiplist.proofs.Laws.Shapes.{into-between}
 use Rattle.skiplist.proofs.Laws.Descent.{all-there}
 use Rattle.skiplist.proofs.Laws.Walk.{flat, run-flat}
 use Rattle.skiplist.proofs.Laws.Masks.{masked-one}
+use Rattle.skiplist.proofs.Laws.Content.{picked, picked-append, picked-from}
 
-unfoldable pub all-nodes : (l : ℕ) → List Chunk → List Order
-all-nodes l [] = []
-all-nodes l (c ∷ cs) = cond (eqb (c .label .level) l) (c .nodes) [] ++ all-nodes l cs
+abbrev pub all-nodes : (l : ℕ) → List Chunk → List Order
+all-nodes l cs = picked (λ w. eqb (w .level) l) cs
 
 module _ (l : ℕ) where
-  pub nodes-append : (cs ds : List Chunk) → all-nodes l (cs ++ ds) ≡ all-nodes l cs ++ all-nodes l ds
-  unfolding all-nodes
-  nodes-append [] ds = refl
-  nodes-append (c ∷ cs) ds = rw (nodes-append cs ds, append-assoc)
-
   pub nodes-of : (k b f i : ℕ) (p : List Order) → 0 < b → length p ≤ k → all-nodes l (chunks-of k b l f i p) ≡ p
-  unfolding all-nodes chunks-of
+  unfolding picked chunks-of
   nodes-of zero b f i [] h g = refl
   nodes-of zero b f i (o ∷ os) h g = absurd (omega arith)
   nodes-of (suc k) b f i [] h g = refl
   nodes-of (suc k) b f i (o ∷ os) h g =
       rw (eq-eqb l l refl, nodes-of k b f (suc i) (drop b (o ∷ os)) h (simp length-drop (omega arith))) (take-append-drop b (o ∷ os))
 
-  pub nodes-not : (k b l′ f i : ℕ) (p : List Order) → (l′ ≡ l → ⊥) → all-nodes l (chunks-of k b l′ f i p) ≡ []
-  unfolding all-nodes chunks-of
-  nodes-not zero b l′ f i p h = refl
-  nodes-not (suc k) b l′ f i [] h = refl
-  nodes-not (suc k) b l′ f i (o ∷ os) h = rw (ne-eqb l′ l h) (nodes-not k b l′ f (suc i) (drop b (o ∷ os)) h)
-
   module _ (s : Sizes) where
     pub nodes-all : (ps : List (List Order)) → 0 < s .nodes → all-nodes l (all-chunks s l ps) ≡ map (masked l) (flat ps)
-    unfolding all-nodes all-chunks flat
+    unfolding picked all-chunks flat
     nodes-all [] h = refl
-    nodes-all (p ∷ ps) h = rw (nodes-append (chunks-of (length p) (s .nodes) l (first-key p) 0 (map (masked l) p)) (all-chunks s l ps), nodes-of (length p) (s .nodes) (first-key p) 0 (map (masked l) p) h (simp length-map (omega arith)), nodes-all ps h, map-append)
-
-    pub nodes-none : (l′ : ℕ) (ps : List (List Order)) → (l′ ≡ l → ⊥) → all-nodes l (all-chunks s l′ ps) ≡ []
-    unfolding all-nodes all-chunks
-    nodes-none l′ [] h = refl
-    nodes-none l′ (p ∷ ps) h = rw (nodes-append (chunks-of (length p) (s .nodes) l′ (first-key p) 0 (map (masked l′) p)) (all-chunks s l′ ps), nodes-not (length p) (s .nodes) l′ (first-key p) 0 (map (masked l′) p) h, nodes-none l′ ps h)
-
-    pub nodes-past : (k l′ : ℕ) (os : List Order) → l < l′ → all-nodes l (chunks-from k l′ s os) ≡ []
-    unfolding all-nodes chunks-from
-    nodes-past zero l′ os h = refl
-    nodes-past (suc k) l′ os h =
-        rw (nodes-append (all-chunks s l′ (partitions s l′ (list-at s l′ os))) (chunks-from k (suc l′) s os), nodes-none l′ (partitions s l′ (list-at s l′ os)) (omega arith))
-        (nodes-past k (suc l′) os (omega arith))
+    nodes-all (p ∷ ps) h = rw (picked-append, nodes-of (length p) (s .nodes) (first-key p) 0 (map (masked l) p) h (simp length-map (omega arith)), nodes-all ps h, map-append)
 
     pub nodes-list : (os : List Order) → flat (partitions s l (list-at s l os)) ≡ list-at s l os
     unfolding flat list-at
     nodes-list os = rw (partitions-front s l (at-least s l os), run-flat (starts-one s l) (at-least s l os))
 
-    pub nodes-from : (k l′ : ℕ) (os : List Order) → 0 < s .nodes → l′ ≤ l → l < l′ + k → all-nodes l (chunks-from k l′ s os) ≡ map (masked l) (list-at s l os)
-    unfolding chunks-from
-    nodes-from zero l′ os b h g = absurd (omega arith)
-    nodes-from (suc k) l′ os b h g =
-        rw (nodes-append (all-chunks s l′ (partitions s l′ (list-at s l′ os))) (chunks-from k (suc l′) s os)) (go (λ e. nodes-from k (suc l′) os b e (omega arith)) (eqb l′ l) refl)
-      where
-        go : (suc l′ ≤ l → all-nodes l (chunks-from k (suc l′) s os) ≡ map (masked l) (list-at s l os)) → (t : Bool) → eqb l′ l ≡ t →
-            all-nodes l (all-chunks s l′ (partitions s l′ (list-at s l′ os))) ++ all-nodes l (chunks-from k (suc l′) s os) ≡ map (masked l) (list-at s l os)
-        go ih true e =
-            rw (
-              eqb-true l′ l e,
-              nodes-past k (suc l) os (omega arith),
-              append-nil (all-nodes l (all-chunks s l (partitions s l (list-at s l os)))),
-              nodes-all (partitions s l (list-at s l os)) b,
-              nodes-list os,
-            )
-        go ih false e = rw (nodes-none l′ (partitions s l′ (list-at s l′ os)) (eqb-false l′ l e)) (ih (omega (arith, eqb-false l′ l e)))
-
 -- ALL NODES OF A LEVEL: its list, masked; of level 1: the front and the orders
 pub nodes-level : (s : Sizes) (l : ℕ) (os : List Order) → 0 < s .nodes → 1 ≤ l → l ≤ beta s → all-nodes l (chunks s os) ≡ map (masked l) (list-at s l os)
 unfolding chunks
-nodes-level s l os b h g = nodes-from l s (beta s) 1 os b h (omega arith)
+nodes-level s l os b h g =
+    picked-from _ s (beta s) 1 l os h (omega arith) (λ l′ f n e. ne-eqb l′ l e) ∙ nodes-all l s (partitions s l (list-at s l os)) b ∙ ap (map (masked l)) (nodes-list l s os)
 
 pub nodes-one : (s : Sizes) (os : List Order) → 0 < s .nodes → 1 ≤ beta s → all-nodes 1 (chunks s os) ≡ front ∷ os
 unfolding list-at
