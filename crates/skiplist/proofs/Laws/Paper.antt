@@ -1,6 +1,6 @@
 -- The partitions are the sets of the paper's section 3.2, level by level.
 use mathlib.Core.Path.{_≡_, refl, sym, ap, _∙_}
-use mathlib.Core.Bool.{Bool, true, false, _&&_, cond, and-false}
+use mathlib.Core.Bool.{Bool, true, false, _&&_, cond, and-false, and-true}
 use mathlib.Core.List.{List, [], _∷_, _++_, append-assoc, append-nil}
 use Prim.Native.Nat.{ℕ, suc, _≤_, _<_}
 use native.Mathlib.Omega.{arith}
@@ -18,17 +18,13 @@ abbrev pub Within : (lo hi : ℕ) → List Order → Type 0
 Within lo hi [] = Unit {0}
 Within lo hi (x ∷ xs) = (lo ≤ x .key) × (x .key < hi) × Within lo hi xs
 
-within-more : (lo hi hi′ : ℕ) (xs : List Order) → hi ≤ hi′ → Within lo hi xs → Within lo hi′ xs
-within-more lo hi hi′ [] h w = tt
-within-more lo hi hi′ (x ∷ xs) h w = (w .0, omega (arith, w .1), within-more lo hi hi′ xs h (w .2))
+within-from : (lo lo′ hi hi′ : ℕ) (xs : List Order) → lo′ ≤ lo → hi ≤ hi′ → Within lo hi xs → Within lo′ hi′ xs
+within-from lo lo′ hi hi′ [] g h w = tt
+within-from lo lo′ hi hi′ (x ∷ xs) g h w = (omega (arith, w .0), omega (arith, w .1), within-from lo lo′ hi hi′ xs g h (w .2))
 
-within-less : (lo lo′ hi : ℕ) (xs : List Order) → lo′ ≤ lo → Within lo hi xs → Within lo′ hi xs
-within-less lo lo′ hi [] h w = tt
-within-less lo lo′ hi (x ∷ xs) h w = (omega (arith, w .0), w .1, within-less lo lo′ hi xs h (w .2))
-
-within-append : (lo hi : ℕ) (xs ys : List Order) → Within lo hi xs → Within lo hi ys → Within lo hi (xs ++ ys)
-within-append lo hi [] ys w v = v
-within-append lo hi (x ∷ xs) ys w v = (w .0, w .1, within-append lo hi xs ys (w .2) v)
+within-append : (lo mid hi : ℕ) (xs ys : List Order) → lo ≤ mid → mid ≤ hi → Within lo mid xs → Within mid hi ys → Within lo hi (xs ++ ys)
+within-append lo mid hi [] ys g h w v = within-from mid lo hi hi ys g (omega arith) v
+within-append lo mid hi (x ∷ xs) ys g h w v = (w .0, omega (arith, w .1), within-append lo mid hi xs ys g h (w .2) v)
 
 from-to-append : (lo hi : ℕ) (xs ys : List Order) → from-to lo hi (xs ++ ys) ≡ from-to lo hi xs ++ from-to lo hi ys
 unfolding from-to
@@ -37,16 +33,6 @@ from-to-append lo hi (x ∷ xs) ys = go (leb lo (x .key) && ltb (x .key) hi) (fr
   where
     go : (t : Bool) → from-to lo hi (xs ++ ys) ≡ from-to lo hi xs ++ from-to lo hi ys →
         cond t (x ∷ from-to lo hi (xs ++ ys)) (from-to lo hi (xs ++ ys)) ≡ cond t (x ∷ from-to lo hi xs) (from-to lo hi xs) ++ from-to lo hi ys
-    go true e = ap (λ (z : List Order). x ∷ z) e
-    go false e = e
-
-from-on-append : (lo : ℕ) (xs ys : List Order) → from-on lo (xs ++ ys) ≡ from-on lo xs ++ from-on lo ys
-unfolding from-on
-from-on-append lo [] ys = refl
-from-on-append lo (x ∷ xs) ys = go (leb lo (x .key)) (from-on-append lo xs ys)
-  where
-    go : (t : Bool) → from-on lo (xs ++ ys) ≡ from-on lo xs ++ from-on lo ys →
-        cond t (x ∷ from-on lo (xs ++ ys)) (from-on lo (xs ++ ys)) ≡ cond t (x ∷ from-on lo xs) (from-on lo xs) ++ from-on lo ys
     go true e = ap (λ (z : List Order). x ∷ z) e
     go false e = e
 
@@ -65,42 +51,38 @@ unfolding from-to
 from-to-over lo hi a [] h u = refl
 from-to-over lo hi a (x ∷ xs) h u = rw (le-ltb (x .key) hi (omega (arith, u .0)), and-false) (from-to-over lo hi (suc (x .key)) xs (omega (arith, u .0)) (u .1))
 
-from-on-in : (lo hi : ℕ) (xs : List Order) → Within lo hi xs → from-on lo xs ≡ xs
-unfolding from-on
-from-on-in lo hi [] w = refl
-from-on-in lo hi (x ∷ xs) w = rw (le-leb lo (x .key) (w .0), from-on-in lo hi xs (w .2))
+-- those from lo up to below hi, where others come before and behind; and to the end, where all are below hi
+from-to-cut : (lo hi : ℕ) (pre p xs : List Order) → Within 0 lo pre → Within lo hi p → Up hi xs → from-to lo hi (pre ++ p ++ xs) ≡ p
+from-to-cut lo hi pre p xs w v u =
+    rw (from-to-append lo hi (pre ++ p) xs, from-to-append lo hi pre p, from-to-under 0 lo hi pre w, from-to-in lo hi p v, from-to-over lo hi hi xs (omega arith) u, append-nil)
 
-from-on-under : (a lo : ℕ) (xs : List Order) → Within a lo xs → from-on lo xs ≡ []
-unfolding from-on
-from-on-under a lo [] w = refl
-from-on-under a lo (x ∷ xs) w = rw (lt-leb lo (x .key) (w .1)) (from-on-under a lo xs (w .2))
+from-on-all : (a lo hi : ℕ) (xs : List Order) → Within a hi xs → from-on lo xs ≡ from-to lo hi xs
+unfolding from-on from-to
+from-on-all a lo hi [] w = refl
+from-on-all a lo hi (x ∷ xs) w = rw (lt-ltb (x .key) hi (w .1), and-true, from-on-all a lo hi xs (w .2))
 
 -- p is open, and starts with o; what stands before it is smaller, what follows is larger
 pub sets-runs : (st : Order → Bool) (o : Order) (pre p xs : List Order) (a : ℕ) → Within 0 (o .key) pre → Within (o .key) a p → Up a xs → o .key < a →
     paper-sets (o ∷ starting st xs) (pre ++ p ++ xs) ≡ (p ++ run st xs) ∷ rest st xs
 unfolding paper-sets starting run rest
 sets-runs st o pre p [] a w v u l =
-    ap (λ (z : List Order). z ∷ []) (
-    ap (from-on (o .key)) (append-nil (pre ++ p)) ∙ from-on-append (o .key) pre p
-    ∙ (λ i. from-on-under 0 (o .key) pre w i ++ from-on-in (o .key) a p v i) ∙ sym (append-nil p)
-    )
+    rw (from-on-all 0 (o .key) a (pre ++ p ++ []) (rw append-nil (within-append 0 (o .key) a pre p (omega arith) (omega arith) w v)), from-to-cut (o .key) a pre p [] w v u, append-nil)
 sets-runs st o pre p (x ∷ xs) a w v u l =
     go (st x)
     (sets-runs st x (pre ++ p) (x ∷ []) xs (suc (x .key)) lower (omega arith, omega arith, tt) (u .1) (omega arith))
     (sets-runs st o pre (p ++ x ∷ []) xs (suc (x .key)) w upper (u .1) (omega (arith, u .0)))
   where
+    within : Within (o .key) (x .key) p
+    within = within-from (o .key) (o .key) a (x .key) p (omega arith) (u .0) v
+
     lower : Within 0 (x .key) (pre ++ p)
-    lower = within-append 0 (x .key) pre p (within-more 0 (o .key) (x .key) pre (omega (arith, u .0)) w) (within-less (o .key) 0 (x .key) p (omega arith) (within-more (o .key) a (x .key) p (u .0) v))
+    lower = within-append 0 (o .key) (x .key) pre p (omega arith) (omega (arith, u .0)) w within
 
     upper : Within (o .key) (suc (x .key)) (p ++ x ∷ [])
-    upper = within-append (o .key) (suc (x .key)) p (x ∷ []) (within-more (o .key) a (suc (x .key)) p (omega (arith, u .0)) v) (omega (arith, u .0), omega arith, tt)
+    upper = within-append (o .key) (x .key) (suc (x .key)) p (x ∷ []) (omega (arith, u .0)) (omega arith) within (omega arith, omega arith, tt)
 
     cut : from-to (o .key) (x .key) (pre ++ p ++ x ∷ xs) ≡ p
-    cut =
-        from-to-append (o .key) (x .key) (pre ++ p) (x ∷ xs)
-        ∙ ap (λ (z : List Order). z ++ from-to (o .key) (x .key) (x ∷ xs)) (from-to-append (o .key) (x .key) pre p)
-        ∙ (λ i. from-to-under 0 (o .key) (x .key) pre w i ++ from-to-in (o .key) (x .key) p (within-more (o .key) a (x .key) p (u .0) v) i ++ from-to-over (o .key) (x .key) (x .key) (x ∷ xs) (omega arith) (omega arith, u .1) i)
-        ∙ append-nil p
+    cut = from-to-cut (o .key) (x .key) pre p (x ∷ xs) w within (omega arith, u .1)
 
     go : (t : Bool) → paper-sets (x ∷ starting st xs) (pre ++ p ++ x ∷ [] ++ xs) ≡ (x ∷ run st xs) ∷ rest st xs →
         paper-sets (o ∷ starting st xs) (pre ++ (p ++ x ∷ []) ++ xs) ≡ (p ++ x ∷ [] ++ run st xs) ∷ rest st xs →
