@@ -2,10 +2,11 @@
 use mathlib.Core.Path.{_≡_, refl, _∙_, subst}
 use mathlib.Core.Bool.{Bool, true, false, cond}
 use mathlib.Core.List.{List, [], _∷_, _++_, map, append-nil}
-use Prim.Native.Nat.{ℕ, zero, suc, _*_, _≤_, _<_}
-use native.Mathlib.Omega.{arith}
-use lib.ListN.{length, take, drop, length-take}
+use mathlib.Core.Logic.{inl, inr}
+use Prim.Native.Nat.{ℕ, _*_, _≤_, _<_}
+use lib.ListN.{length, take, drop}
 use Rattle.sizes.specs.Sizes.{beta}
+use Rattle.placement.specs.Blocks.{Among}
 use Rattle.placement.specs.Labels.{label, before, same-label}
 use Rattle.placement.specs.Chunks.{Chunk}
 use Rattle.placement.specs.Maps.{map-of}
@@ -13,9 +14,10 @@ use Rattle.sizes.specs.declared.Sizes.{Sizes}
 use Rattle.placement.specs.declared.Order.{Order}
 use Rattle.placement.specs.declared.Label.{Label}
 use Rattle.placement.proofs.Laws.Labels.{labels-chain, same-is, isnt-same}
-use Rattle.skiplist.specs.Lists.{list-at, partitions, first-key, masked, chunks-of, all-chunks, chunks-from, chunks}
+use Rattle.skiplist.specs.Lists.{masked, chunks}
 use Rattle.skiplist.proofs.Laws.Parts.{Up, part}
 use Rattle.skiplist.proofs.Laws.Content.{picked, content, content-is}
+use Rattle.skiplist.proofs.Laws.Pieces.{piece-of, piece-filled}
 use Rattle.skiplist.proofs.Laws.Rise.{Rises, chunks-rise}
 
 rises-from : (v w : Label) (cs : List Chunk) → before v w ≡ true → Rises w cs → Rises v cs
@@ -46,31 +48,12 @@ abbrev pub Filled : (b : ℕ) → List Chunk → Type 0
 Filled b [] = Unit {0}
 Filled b (c ∷ cs) = (0 < length (c .nodes)) × (length (c .nodes) ≤ b) × Filled b cs
 
-pub filled-both : (b : ℕ) (cs ds : List Chunk) → Filled b cs → Filled b ds → Filled b (cs ++ ds)
-filled-both b [] ds u v = v
-filled-both b (c ∷ cs) ds u v = (u .0, u .1, filled-both b cs ds (u .2) v)
-
-pub filled-of : (k b l f i : ℕ) (p : List Order) → 0 < b → Filled b (chunks-of k b l f i p)
-unfolding chunks-of
-filled-of zero b l f i p h = tt
-filled-of (suc k) b l f i [] h = tt
-filled-of (suc k) b l f i (o ∷ os) h = (simp length-take (omega arith), simp length-take (omega arith), filled-of k b l f (suc i) (drop b (o ∷ os)) h)
-
-pub filled-all : (s : Sizes) (l : ℕ) (ps : List (List Order)) → 0 < s .nodes → Filled (s .nodes) (all-chunks s l ps)
-unfolding all-chunks
-filled-all s l [] h = tt
-filled-all s l (p ∷ ps) h =
-    filled-both (s .nodes) (chunks-of (length p) (s .nodes) l (first-key p) 0 (map (masked l) p)) (all-chunks s l ps) (filled-of (length p) (s .nodes) l (first-key p) 0 (map (masked l) p) h) (filled-all s l ps h)
-
-pub filled-from : (k l : ℕ) (s : Sizes) (os : List Order) → 0 < s .nodes → Filled (s .nodes) (chunks-from k l s os)
-unfolding chunks-from
-filled-from zero l s os h = tt
-filled-from (suc k) l s os h =
-    filled-both (s .nodes) (all-chunks s l (partitions s l (list-at s l os))) (chunks-from k (suc l) s os) (filled-all s l (partitions s l (list-at s l os)) h) (filled-from k (suc l) s os h)
+filled-each : (b : ℕ) (cs : List Chunk) → ((c : Chunk) → Among c cs → (0 < length (c .nodes)) × (length (c .nodes) ≤ b)) → Filled b cs
+filled-each b [] h = tt
+filled-each b (c ∷ cs) h = let w = h c (inl refl) in (w .0, w .1, filled-each b cs (λ d a. h d (inr a)))
 
 pub chunks-filled : (s : Sizes) (os : List Order) → 0 < s .nodes → Filled (s .nodes) (chunks s os)
-unfolding chunks
-chunks-filled s os h = filled-from (beta s) 1 s os h
+chunks-filled s os h = filled-each (s .nodes) (chunks s os) (λ c a. piece-filled s os c h (piece-of s os c a))
 
 -- THE MAP OF THE CHUNKS: under (l, f, i) stands the i-th piece of the partition that f heads, masked
 pub map-is : (s : Sizes) (l f i : ℕ) (os : List Order) → 0 < s .nodes → Up 1 os → 1 ≤ l → l ≤ beta s → map-of (chunks s os) l f i ≡ map (masked l) (take (s .nodes) (drop (i * s .nodes) (part s os l f)))

@@ -8,14 +8,14 @@ use native.Mathlib.Nat.{zero-add, add-zero, add-suc, suc-add, add-comm, zero-mul
 use native.Mathlib.Omega.{arith}
 use borrow.Author.Tests.{eqb-true, eqb-false}
 use lib.Dec.{eqb}
-use lib.ListN.{length, take, drop, length-drop, length-map}
+use lib.ListN.{length, take, drop, length-drop, length-take, length-map}
 use lib.Seq.{drop-drop}
 use Rattle.sizes.specs.Sizes.{beta}
 use Rattle.placement.specs.Chunks.{Chunk}
 use Rattle.sizes.specs.declared.Sizes.{Sizes}
 use Rattle.placement.specs.declared.Order.{Order}
 use Rattle.skiplist.specs.Lists.{list-at, partitions, first-key, masked, chunks-of, all-chunks, chunks-from, chunks}
-use Rattle.skiplist.specs.Rules.{Chunks-are}
+use Rattle.skiplist.specs.Rules.{Piece, Chunks-are}
 use Rattle.skiplist.proofs.Laws.Masks.{map-take, map-drop}
 use Rattle.placement.specs.Blocks.{Among}
 use Rattle.sizes.proofs.Laws.Sizes.{limits}
@@ -141,24 +141,33 @@ of-from (suc k) l s os c a b h = go (λ z. of-from k (suc l) s os c z (omega ari
     go ih true e = among-left c (all-chunks s l (partitions s l (list-at s l os))) (chunks-from k (suc l) s os) (subst (λ (z : ℕ). Among c (all-chunks s z (partitions s z (list-at s z os)))) (eqb-true (c .label .level) l e) h)
     go ih false e = among-right c (all-chunks s l (partitions s l (list-at s l os))) (chunks-from k (suc l) s os) (ih (omega (arith, eqb-false (c .label .level) l e)))
 
+-- every chunk is a piece
+pub piece-of : (s : Sizes) (os : List Order) (c : Chunk) → Among c (chunks s os) → Piece s os c
+unfolding chunks
+piece-of s os c h =
+    let w = from-of (beta s) 1 s os c h in
+    let v = w .it .cut in
+    let n : c .label .number ≡ v .past = v .number-is ∙ zero-add (v .past) in
+    record {
+      part = w .it .part;
+      low = w .low;
+      high = omega (arith, w .high);
+      of-level = w .it .among;
+      first-is = v .first-is;
+      inside = subst (λ (z : ℕ). z * s .nodes < length (w .it .part)) (sym n) (rw length-map at (v .inside));
+      nodes-are =
+          v .nodes-are ∙ ap (λ (z : ℕ). take (s .nodes) (drop (z * s .nodes) (map (masked (c .label .level)) (w .it .part)))) (sym n)
+          ∙ sym (map-take (masked (c .label .level)) (s .nodes) (drop (c .label .number * s .nodes) (w .it .part)) ∙ ap (take (s .nodes)) (map-drop (masked (c .label .level)) (c .label .number * s .nodes) (w .it .part)));
+    }
+
+-- .. and a piece has nodes, and no more than a chunk has
+pub piece-filled : (s : Sizes) (os : List Order) (c : Chunk) → 0 < s .nodes → Piece s os c → (0 < length (c .nodes)) × (length (c .nodes) ≤ s .nodes)
+piece-filled s os c b w = rw (w .nodes-are) (simp (length-map, length-take, length-drop) (omega (arith, w .inside)))
+
 pub chunks-are : Chunks-are
 unfolding Chunks-are chunks
 chunks-are s os c m = (
-  λ h.
-      let w = from-of (beta s) 1 s os c h in
-      let v = w .it .cut in
-      let n : c .label .number ≡ v .past = v .number-is ∙ zero-add (v .past) in
-      record {
-        part = w .it .part;
-        low = w .low;
-        high = omega (arith, w .high);
-        of-level = w .it .among;
-        first-is = v .first-is;
-        inside = subst (λ (z : ℕ). z * s .nodes < length (w .it .part)) (sym n) (rw length-map at (v .inside));
-        nodes-are =
-            v .nodes-are ∙ ap (λ (z : ℕ). take (s .nodes) (drop (z * s .nodes) (map (masked (c .label .level)) (w .it .part)))) (sym n)
-            ∙ sym (map-take (masked (c .label .level)) (s .nodes) (drop (c .label .number * s .nodes) (w .it .part)) ∙ ap (take (s .nodes)) (map-drop (masked (c .label .level)) (c .label .number * s .nodes) (w .it .part)));
-      },
+  piece-of s os c,
   λ w.
       of-from (beta s) 1 s os c (w .low) (omega (arith, w .high))
       (of-all s (c .label .level) (partitions s (c .label .level) (list-at s (c .label .level) os)) c (w .part) (limits s m .nodes-some) (w .of-level) refl (w .first-is) (w .inside) (w .nodes-are)),

@@ -8,7 +8,7 @@ use native.Mathlib.Nat.{le-mul-of-pos-right}
 use native.Mathlib.Omega.{arith}
 use borrow.Author.Tests.{ltb-true, leb-true}
 use lib.Dec.{leb, eqb}
-use lib.ListN.{length, take, drop, length-append, length-drop, length-take, length-map, take-append-drop}
+use lib.ListN.{length, take, drop, length-append, take-append-drop}
 use Rattle.sizes.specs.Sizes.{prime, made}
 use Rattle.sizes.specs.Hash.{level}
 use Rattle.placement.specs.Chunks.{Chunk}
@@ -21,12 +21,12 @@ use Rattle.placement.proofs.Laws.Kinds.{map-only}
 use Rattle.placement.proofs.Laws.Maps.{lawful}
 use Rattle.skiplist.specs.Lists.{front, at-least, list-at, partitions, first-key, masked, chunks}
 use Rattle.skiplist.specs.Image.{quantities-good, orders-good, fits}
-use Rattle.skiplist.specs.Rules.{Piece, Chunks-are}
+use Rattle.skiplist.specs.Rules.{Piece}
 use Rattle.skiplist.proofs.Laws.Parts.{and-left, and-right, Good, good-parts}
 use Rattle.skiplist.proofs.Laws.Walk.{flat}
 use Rattle.skiplist.proofs.Laws.Nodes.{nodes-list}
 use Rattle.skiplist.proofs.Laws.Kept.{fits-parts}
-use Rattle.skiplist.proofs.Laws.Pieces.{chunks-are}
+use Rattle.skiplist.proofs.Laws.Pieces.{piece-of, piece-filled}
 use Rattle.placement.specs.Blocks.{Among}
 use Rattle.sizes.proofs.Laws.Sizes.{limits}
 
@@ -98,9 +98,6 @@ first-fine (o ∷ p) f = f .0 .key
 
 -- ---- pieces
 
-piece-full : (s : Sizes) (os : List Order) (c : Chunk) → 0 < s .nodes → Piece s os c → 0 < length (c .nodes)
-piece-full s os c b w = rw (w .nodes-are) (simp (length-map, length-take, length-drop) (omega (arith, w .inside)))
-
 piece-holdable : (s : Sizes) (os : List Order) (c : Chunk) → made s ≡ true → orders-good 1 os ≡ true → fits s os ≡ true → Piece s os c → Holdable s c
 unfolding front
 piece-holdable s os c m g f w =
@@ -115,15 +112,14 @@ piece-holdable s os c m g f w =
       first = rw (w .first-is) (first-fine (w .part) fine);
       number = omega (arith, le-mul-of-pos-right (c .label .number) (d .nodes-some), w .inside, fits-parts s os f .few, d .orders-most);
       fine = rw (w .nodes-are) (fines-masked (c .label .level) (take (s .nodes) (drop (c .label .number * s .nodes) (w .part))) (fines-piece (s .nodes) (c .label .number * s .nodes) (w .part) fine));
-      nodes = rw (w .nodes-are) (simp (length-map, length-take) (omega arith));
+      nodes = piece-filled s os c (d .nodes-some) w .1;
     }
 
 -- THE CHUNKS of good orders that fit
 pub chunks-full : (s : Sizes) (os : List Order) → made s ≡ true → (c : Chunk) → Among c (chunks s os) → c .nodes ≢ []
-unfolding Chunks-are
-chunks-full s os m c a e = omega (arith, piece-full s os c (limits s m .nodes-some) (chunks-are s os c m .0 a), ap length e)
+chunks-full s os m c a e = omega (arith, piece-filled s os c (limits s m .nodes-some) (piece-of s os c a) .0, ap length e)
 
 pub chunks-sound : (s : Sizes) (os : List Order) → made s ≡ true → orders-good 1 os ≡ true → fits s os ≡ true → Sound s (map-of (chunks s os))
-unfolding Chunks-are map-of
+unfolding map-of
 chunks-sound s os m g f l h i =
-    map-only (lawful s (some-blocks s m)) (Holdable s) (chunks s os) (λ c a. piece-holdable s os c m g f (chunks-are s os c m .0 a)) (label l h i)
+    map-only (lawful s (some-blocks s m)) (Holdable s) (chunks s os) (λ c a. piece-holdable s os c m g f (piece-of s os c a)) (label l h i)
