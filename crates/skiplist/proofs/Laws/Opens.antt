@@ -5,14 +5,15 @@ use mathlib.Core.List.{List, [], _∷_, _++_, append-assoc, append-nil}
 use mathlib.Core.Logic.{_⊎_, inl, inr}
 use Prim.Native.Nat.{ℕ, zero, suc, _≤_, _<_}
 use native.Mathlib.Omega.{arith}
-use borrow.Author.Tests.{ltb-true, ltb-false, leb-true, eqb-true, eqb-false, le-leb, lt-leb}
-use lib.Dec.{ltb, leb, eqb}
+use borrow.Author.Tests.{ltb-true, ltb-false, leb-true, le-leb, lt-leb}
+use lib.Dec.{ltb, leb}
 use lib.ListN.{length, length-append}
 use Rattle.sizes.specs.Sizes.{beta}
 use Rattle.sizes.specs.Hash.{level}
 use Rattle.sizes.specs.declared.Sizes.{Sizes}
 use Rattle.placement.specs.declared.Order.{Order}
 use Rattle.skiplist.specs.Lists.{front, at-least, starts-one, run, first-key}
+use Rattle.sizes.proofs.Laws.Round.{Which, which, less, same, more}
 use Rattle.skiplist.proofs.Laws.Runs.{opened}
 use Rattle.skiplist.proofs.Laws.Parts.{Up, up-from, at-least-append, part, up-front}
 use Rattle.skiplist.proofs.Laws.Edits.{level-most, starts, head-part, tail-part, part-at, part-right}
@@ -153,7 +154,11 @@ split (x ∷ a) b (z ∷ u) y v e = go (split a b u y v (w .1))
     go (right r p q) = right r (rw (w .0, p)) q
 
 module _ (s : Sizes) (T : (l f : ℕ) → List Order) where
-  pub here : (l : ℕ) (x : Order) (seg : List Order) → Walks s T l x seg → (u : List Order) (y : Order) (v : List Order) → seg ≡ u ++ y ∷ v → (0 < length u → l < level s (y .key)) → Found s T l y v
+  -- each place of seg, but the first of a level that is not above j, is found in a walk of level j
+  abbrev Dives : (j : ℕ) → (seg : List Order) → Type 0
+  Dives j seg = (u : List Order) (y : Order) (v : List Order) → seg ≡ u ++ y ∷ v → (0 < length u → j < level s (y .key)) → Found s T j y v
+
+  here : (l : ℕ) (x : Order) (seg : List Order) → Walks s T l x seg → Dives l seg
   here l x seg w [] y v e h =
       let p = shape s T l x seg w in
       let q = head-same (p .head) y (p .rest) v (sym (p .whole) ∙ e) in
@@ -163,45 +168,43 @@ module _ (s : Sizes) (T : (l f : ℕ) → List Order) where
       let q = head-same (p .head) z (p .rest) (u ++ y ∷ v) (sym (p .whole) ∙ e) in
       absurd (omega (arith, h (omega arith), low-at s l u y v (rw (q .1) at (p .low))))
 
-  pub nodes-dive : (l : ℕ) →
-      ((x : Order) (seg : List Order) → Walks s T l x seg → (j : ℕ) → j ≤ l → (u : List Order) (y : Order) (v : List Order) → seg ≡ u ++ y ∷ v → (0 < length u → j < level s (y .key)) → Found s T j y v) →
-      (ns : List Order) (n : Order) (seg : List Order) → Exact s (suc l) ns → Nodes s T (Walks s T l) (n ∷ ns) seg → (j : ℕ) → j ≤ l →
-      (u : List Order) (y : Order) (v : List Order) → seg ≡ u ++ y ∷ v → (0 < length u → j < level s (y .key)) → Found s T j y v
-  nodes-dive l f [] n seg ex w j h u y v e g = go (split (w .0) (w .1) u y v (sym (w .2) ∙ e))
+  -- .. so in two parts, if it is in each
+  both-dive : (j : ℕ) (a b : List Order) → Dives j a → High s j b → Dives j b → Dives j (a ++ b)
+  both-dive j a b p k q u y v e g = go (split a b u y v e)
     where
-      go : Split (w .0) (w .1) u y v → Found s T j y v
-      go (left r p q) =
-          let x = f n (w .0) (w .3) j h u y r p g in
-          record { mine = x .mine; others = x .others; whole = q ∙ rw (w .4, append-nil) (x .whole); node = x .node; same = x .same; walk = x .walk; high = x .high }
-      go (right r p q) = absurd (nothing r y v (sym (w .4) ∙ q))
-  nodes-dive l f (m ∷ ns) n seg ex w j h u y v e g =
-      go (λ r q k. nodes-dive l f ns m (w .1) (ex .1) (w .4) j h r y v q k) (split (w .0) (w .1) u y v (sym (w .2) ∙ e))
-    where
-      go : ((r : List Order) → w .1 ≡ r ++ y ∷ v → (0 < length r → j < level s (y .key)) → Found s T j y v) → Split (w .0) (w .1) u y v → Found s T j y v
-      go ih (left r p q) =
-          let x = f n (w .0) (w .3) j h u y r p g in
+      go : Split a b u y v → Found s T j y v
+      go (left r m o) =
+          let x = p u y r m g in
           record {
             mine = x .mine;
-            others = x .others ++ w .1;
-            whole = q ∙ ap (λ (z : List Order). z ++ w .1) (x .whole) ∙ append-assoc (x .mine) (x .others) (w .1);
+            others = x .others ++ b;
+            whole = o ∙ ap (λ (z : List Order). z ++ b) (x .whole) ∙ append-assoc (x .mine) (x .others) b;
             node = x .node;
             same = x .same;
             walk = x .walk;
-            high = high-both s j (x .others) (w .1) (x .high) (nodes-high s T l j (m ∷ ns) (w .1) h ex (w .4));
+            high = high-both s j (x .others) b (x .high) k;
           }
-      go ih (right r p q) = ih r q (λ k. g (omega (arith, k, simp length-append at (ap length p))))
+      go (right r m o) = q r y v o (λ k. g (omega (arith, k, simp length-append at (ap length m))))
+
+  nodes-dive : (l j : ℕ) → ((x : Order) (seg : List Order) → Walks s T l x seg → Dives j seg) → j ≤ l → (ns seg : List Order) → Exact s (suc l) ns → Nodes s T (Walks s T l) ns seg → Dives j seg
+  nodes-dive l j f h [] seg ex w u y v e g = absurd (nothing u y v (sym w ∙ e))
+  nodes-dive l j f h (n ∷ ns) seg ex w u y v e g =
+      both-dive j (w .0) (w .1) (f n (w .0) (w .3)) (nodes-high s T l j ns (w .1) h (ex .1) (w .4)) (nodes-dive l j f h ns (w .1) (ex .1) (w .4)) u y v (sym (w .2) ∙ e) g
 
   pub dive : (l : ℕ) (x : Order) (seg : List Order) → Walks s T l x seg → (j : ℕ) → j ≤ l → (u : List Order) (y : Order) (v : List Order) → seg ≡ u ++ y ∷ v → (0 < length u → j < level s (y .key)) → Found s T j y v
   dive zero x seg w j h u y v e g =
       let q : 0 ≡ j = omega arith in
       subst (λ (i : ℕ). Found s T i y v) q (here 0 x seg w u y v e (λ k. omega (arith, g k)))
-  dive (suc l) x seg w j h u y v e g = go (λ h′. nodes-dive l (dive l) (w .1) (w .0) seg (w .4) (w .5) j h′ u y v e g) (eqb (suc l) j) refl
+  dive (suc l) x seg w j h u y v e g = go (λ k x seg w. dive l x seg w j k) (which (suc l) j)
     where
-      go : (j ≤ l → Found s T j y v) → (t : Bool) → eqb (suc l) j ≡ t → Found s T j y v
-      go ih true q =
-          let k = eqb-true (suc l) j q in
-          subst (λ (i : ℕ). Found s T i y v) k (here (suc l) x seg w u y v e (λ z. omega (arith, g z, k)))
-      go ih false q = ih (omega (arith, eqb-false (suc l) j q))
+      go : (j ≤ l → (x : Order) (seg : List Order) → Walks s T l x seg → Dives j seg) → Which (suc l) j → Found s T j y v
+      go ih (less k) = absurd (omega arith)
+      go ih (same k) = subst (λ (i : ℕ). Found s T i y v) k (here (suc l) x seg w u y v e (λ z. omega (arith, g z, k)))
+      go ih (more k) =
+          let n = w .5 in
+          let f = ih (omega arith) in
+          both-dive j (n .0) (n .1) (f (w .0) (n .0) (n .3)) (nodes-high s T l j (w .1) (n .1) (omega arith) (w .4) (n .4))
+          (nodes-dive l j f (omega arith) (w .1) (n .1) (w .4) (n .4)) u y v (sym (n .2) ∙ e) g
 
   -- THE PARTITIONS THAT WERE READ are those of the orders at the bottom
   pub record Piece (j : ℕ) (y : Order) (mine : List Order) : Type 0 where
