@@ -10,7 +10,8 @@ use Rattle.skiplist.proofs.Laws.Lists.{lists-are}
 use Rattle.skiplist.proofs.Laws.Paper.{paper-partitions, paper-top}
 use Rattle.skiplist.proofs.Laws.Pieces.{chunks-are}
 use Rattle.skiplist.proofs.Laws.Rise.{labels-do-rise}
-use Rattle.skiplist.proofs.Laws.Readback.{reads-back, lists-image-holds, equal-exactly-holds, checks-exactly-holds}
+use Rattle.skiplist.proofs.Laws.Readback.{reads-back, lists-image-holds}
+use Rattle.skiplist.proofs.Laws.Third.{equal-exactly, checks-exactly}
 use Rattle.skiplist.proofs.Laws.Arranged.{rule-three, one-arrangement}
 use Rattle.skiplist.proofs.Laws.Rules.{image-exactly}
 
@@ -55,8 +56,8 @@ proved = record {
   top = paper-top;
   pieces = chunks-are;
   book = lists-image-holds;
-  equal = equal-exactly-holds;
-  checks = checks-exactly-holds;
+  equal = equal-exactly reads-back;
+  checks = checks-exactly reads-back;
   examples = examples-hold .0;
   others = examples-hold .1;
 }

@@ -114,27 +114,19 @@ horner a0 a1 a2 a3 a4 x =
     let p4 : x ^ 4 * (a4 + x * 0) ≡ a4 * x ^ 4 = ap (λ (z : ℕ). x ^ 4 * z) (ap (λ (z : ℕ). a4 + z) (mul-zero x) ∙ add-zero a4) ∙ mul-comm (x ^ 4) a4 in
     omega (arith, p1, p2, p3, p4)
 
-sums : (ss : List ℕ) (i x : ℕ) →
-    hash-from 5 i ss x ≡ (getD ss i 0 + x * (getD ss (suc i) 0 + x * (getD ss (suc (suc i)) 0 + x * (getD ss (suc (suc (suc i))) 0 + x * (getD ss (suc (suc (suc (suc i)))) 0 + x * 0))))) % prime
+-- the sums of Horner's rule, taken mod p at the end alone
+abbrev sum : (k i : ℕ) → (ss : List ℕ) → (x : ℕ) → ℕ
+sum zero i ss x = 0
+sum (suc k) i ss x = getD ss i 0 + x * sum k (suc i) ss x
+
+sums : (k i : ℕ) (ss : List ℕ) (x : ℕ) → hash-from k i ss x ≡ sum k i ss x % prime
 unfolding hash-from
-sums ss i x =
-    let a0 = getD ss i 0 in
-    let a1 = getD ss (suc i) 0 in
-    let a2 = getD ss (suc (suc i)) 0 in
-    let a3 = getD ss (suc (suc (suc i))) 0 in
-    let a4 = getD ss (suc (suc (suc (suc i)))) 0 in
-    let v4 = a4 + x * 0 in
-    let v3 = a3 + x * v4 in
-    let v2 = a2 + x * v3 in
-    let v1 = a1 + x * v2 in
-    let e3 : (a3 + x * (v4 % prime)) % prime ≡ v3 % prime = keep a3 x v4 prime in
-    let e2 : (a2 + x * ((a3 + x * (v4 % prime)) % prime)) % prime ≡ v2 % prime = ap (λ (z : ℕ). (a2 + x * z) % prime) e3 ∙ keep a2 x v3 prime in
-    let e1 : (a1 + x * ((a2 + x * ((a3 + x * (v4 % prime)) % prime)) % prime)) % prime ≡ v1 % prime = ap (λ (z : ℕ). (a1 + x * z) % prime) e2 ∙ keep a1 x v2 prime in
-    ap (λ (z : ℕ). (a0 + x * z) % prime) e1 ∙ keep a0 x v1 prime
+sums zero i ss x = refl
+sums (suc k) i ss x = rw (sums k (suc i) ss x) (keep (getD ss i 0) x (sum k (suc i) ss x) prime)
 
 pub hash-is : Hash-is
 unfolding Hash-is h g poly
 hash-is s x = (
-  sums (s .seed) 0 x ∙ ap (λ (z : ℕ). z % prime) (horner (getD (s .seed) 0 0) (getD (s .seed) 1 0) (getD (s .seed) 2 0) (getD (s .seed) 3 0) (getD (s .seed) 4 0) x),
-  sums (s .seed) 5 x ∙ ap (λ (z : ℕ). z % prime) (horner (getD (s .seed) 5 0) (getD (s .seed) 6 0) (getD (s .seed) 7 0) (getD (s .seed) 8 0) (getD (s .seed) 9 0) x),
+  sums 5 0 (s .seed) x ∙ ap (λ (z : ℕ). z % prime) (horner (getD (s .seed) 0 0) (getD (s .seed) 1 0) (getD (s .seed) 2 0) (getD (s .seed) 3 0) (getD (s .seed) 4 0) x),
+  sums 5 5 (s .seed) x ∙ ap (λ (z : ℕ). z % prime) (horner (getD (s .seed) 5 0) (getD (s .seed) 6 0) (getD (s .seed) 7 0) (getD (s .seed) 8 0) (getD (s .seed) 9 0) x),
 )

@@ -20,14 +20,14 @@ use Rattle.sizes.proofs.Laws.Headers.{header-long}
 use Rattle.placement.proofs.Laws.Tables.{sound-blocks, sizes-read, shaped}
 use Rattle.skiplist.specs.Lists.{chunks, blocks}
 use Rattle.skiplist.specs.Image.{image, gathered, orders-in, orders-good, fits, same, is-image}
-use Rattle.skiplist.specs.Promise.{Image-reads-back, Lists-image, Equal-exactly, Checks-exactly}
+use Rattle.skiplist.specs.Promise.{Image-reads-back, Lists-image}
 use Rattle.skiplist.proofs.Laws.Parts.{good-up}
 use Rattle.skiplist.proofs.Laws.Kept.{fits-parts}
 use Rattle.skiplist.proofs.Laws.Sound.{chunks-sound}
 use Rattle.skiplist.proofs.Laws.Image.{blocks-keep, image-keeps}
 use Rattle.skiplist.proofs.Laws.Decode.{blocks-back}
 use Rattle.skiplist.proofs.Laws.Gather.{blocks-gather}
-use Rattle.skiplist.proofs.Laws.Third.{lists-image, equal-exactly, checks-exactly}
+use Rattle.skiplist.proofs.Laws.Third.{lists-image}
 
 -- the numbers of the header
 long-small : (s : Sizes) → Limits s → table-long s < 4294967296
@@ -99,9 +99,3 @@ reads-back s os m g f = (rw (image-rule-1 s os m g f, sizes-back s os m g f, ord
 -- LISTS OF CALLS
 pub lists-image-holds : Lists-image
 lists-image-holds = lists-image reads-back
-
-pub equal-exactly-holds : Equal-exactly
-equal-exactly-holds = equal-exactly reads-back
-
-pub checks-exactly-holds : Checks-exactly
-checks-exactly-holds = checks-exactly reads-back
