@@ -3,7 +3,7 @@ use mathlib.Core.Path.{_≡_, refl, sym, ap, _∙_, subst}
 use mathlib.Core.Bool.{Bool, true, false, cond}
 use mathlib.Core.List.{List}
 use Prim.Native.Nat.{ℕ, zero, suc, _+_, _*_, _-_, _/_, _%_, _^_, _≤_, _<_, _∣_}
-use native.Mathlib.Nat.{add-zero, add-suc, suc-add, add-assoc, pow-suc, pow-zero, pow-le-pow-left, dvd-refl, dvd-trans, dvd-mul-right-of-dvd, mod-eq-zero-of-dvd, dvd-of-mod-eq-zero, mod-one, mod-add-div, add-mul-mod-self-left, mul-add, mul-assoc, mul-comm, mul-left-comm, mul-zero, one-mul}
+use native.Mathlib.Nat.{add-zero, add-suc, suc-add, pow-suc, pow-zero, pow-le-pow-left, dvd-refl, dvd-trans, dvd-mul-right-of-dvd, mod-eq-zero-of-dvd, dvd-of-mod-eq-zero, mod-one, mod-add-div, add-mul-mod-self-left, one-mul}
 use native.Mathlib.Omega.{arith}
 use borrow.Author.Tests.{leb-true, leb-false, eqb-true, eqb-false, ne-eqb}
 use lib.Dec.{leb, eqb}
@@ -96,23 +96,17 @@ level-is s x m l =
 -- HASHES
 keep : (a x v p : ℕ) → (a + x * (v % p)) % p ≡ (a + x * v) % p
 keep a x v p =
-    sym (add-mul-mod-self-left (a + x * (v % p)) p (x * (v / p)))
-    ∙ ap (λ (z : ℕ). z % p) (add-assoc a (x * (v % p)) (p * (x * (v / p))) ∙ ap (λ (z : ℕ). a + z) (ap (λ (z : ℕ). x * (v % p) + z) (mul-left-comm p x (v / p)) ∙ sym (mul-add x (v % p) (p * (v / p))) ∙ ap (λ (z : ℕ). x * z) (mod-add-div v p)))
-
--- one step of Horner's rule
-out : (x k a w : ℕ) → x ^ k * (a + x * w) ≡ a * x ^ k + x ^ suc k * w
-out x k a w = mul-add (x ^ k) a (x * w) ∙ (λ i. mul-comm (x ^ k) a i + (sym (mul-assoc (x ^ k) x w) ∙ ap (λ (z : ℕ). z * w) (sym (pow-suc x k))) i)
+    let e : x * v ≡ x * (v % p + p * (v / p)) = ap (λ (z : ℕ). x * z) (sym (mod-add-div v p)) in
+    let f : a + x * v ≡ a + x * (v % p) + p * (x * (v / p)) = omega arith in
+    sym (ap (λ (z : ℕ). z % p) f ∙ add-mul-mod-self-left (a + x * (v % p)) p (x * (v / p)))
 
 horner : (a0 a1 a2 a3 a4 x : ℕ) → a0 + x * (a1 + x * (a2 + x * (a3 + x * (a4 + x * 0)))) ≡ a0 + a1 * x + a2 * x ^ 2 + a3 * x ^ 3 + a4 * x ^ 4
 horner a0 a1 a2 a3 a4 x =
-    let w3 = a3 + x * (a4 + x * 0) in
-    let w2 = a2 + x * w3 in
-    let one : x ^ 1 ≡ x = pow-suc x 0 ∙ ap (λ (z : ℕ). z * x) (pow-zero x) ∙ one-mul x in
-    let p1 : x * (a1 + x * w2) ≡ a1 * x + x ^ 2 * w2 = ap (λ (z : ℕ). z * (a1 + x * w2)) (sym one) ∙ out x 1 a1 w2 ∙ ap (λ (z : ℕ). a1 * z + x ^ 2 * w2) one in
-    let p2 : x ^ 2 * w2 ≡ a2 * x ^ 2 + x ^ 3 * w3 = out x 2 a2 w3 in
-    let p3 : x ^ 3 * w3 ≡ a3 * x ^ 3 + x ^ 4 * (a4 + x * 0) = out x 3 a3 (a4 + x * 0) in
-    let p4 : x ^ 4 * (a4 + x * 0) ≡ a4 * x ^ 4 = ap (λ (z : ℕ). x ^ 4 * z) (ap (λ (z : ℕ). a4 + z) (mul-zero x) ∙ add-zero a4) ∙ mul-comm (x ^ 4) a4 in
-    omega (arith, p1, p2, p3, p4)
+    let p1 : x ^ 1 ≡ x = pow-suc x 0 ∙ rw pow-zero (one-mul x) in
+    let p2 : x ^ 2 ≡ x * x = pow-suc x 1 ∙ rw p1 in
+    let p3 : x ^ 3 ≡ x * x * x = pow-suc x 2 ∙ rw p2 in
+    let p4 : x ^ 4 ≡ x * x * x * x = pow-suc x 3 ∙ rw p3 in
+    rw (p2, p3, p4) (omega arith)
 
 -- the sums of Horner's rule, taken mod p at the end alone
 abbrev sum : (k i : ℕ) → (ss : List ℕ) → (x : ℕ) → ℕ
