@@ -1,7 +1,7 @@
 -- The insertion by the code, on a list of blocks, is the insertion of the theory.
 use mathlib.Core.Path.{_≡_, refl, sym, ap, _∙_}
 use mathlib.Core.Logic.{_≢_}
-use mathlib.Core.Bool.{Bool, true, false, true≢false}
+use mathlib.Core.Bool.{Bool, true, false, cond, true≢false}
 use mathlib.Core.List.{List}
 use Prim.Native.Nat.{ℕ, zero, suc, _+_, _%_, _<_}
 use native.Mathlib.Nat.{add-zero}
@@ -35,12 +35,6 @@ module _ (s : Sizes) (some : 0 < s .blocks) where
   Carried = Carry (ordered (lawful s some))
 
   module _ (e : ℕ) (inside : e < s .blocks) where
-    swapped : (bs : List (Block Chunk)) (j : ℕ) (c d : Chunk) → j ≢ e → set (set (set bs e (holds c)) j (holds c)) e (holds d) ≡ set (set bs j (holds c)) e (holds d)
-    swapped bs j c d ne = rw (set-comm bs e j (holds c) (holds c) (λ u. ne (sym u)), set-set (set bs j (holds c)) e (holds c) (holds d))
-
-    not-e : (bs : List (Block Chunk)) (j : ℕ) (d : Chunk) → getD bs e empty ≡ empty → getD bs j empty ≡ holds d → j ≢ e
-    not-e bs j d u w q = true≢false cc
-
     full-after : (k i : ℕ) (bs : List (Block Chunk)) (b : Block Chunk) → is-free b ≡ false → length bs ≡ s .blocks
         → ((l : ℕ) → l < suc k → is-free (around (s .blocks) bs (i + l)) ≡ false) → (l : ℕ) → l < k → is-free (around (s .blocks) (stored (s .blocks) bs i b) (suc i + l)) ≡ false
     full-after k i bs b fb long full l w = go (ℕ-discrete ((suc i + l) % s .blocks) (i % s .blocks))
@@ -78,32 +72,6 @@ module _ (s : Sizes) (some : 0 < s .blocks) where
     first-full : (k i : ℕ) (bs : List (Block Chunk)) → Ahead (suc k) i e bs → Full i bs
     first-full k i bs a = is-full (around (s .blocks) bs i) i bs refl (ap (λ (n : ℕ). is-free (around (s .blocks) bs n)) (sym (add-zero i)) ∙ a .full 0 (omega arith))
 
-    landed : (i : ℕ) (bs : List (Block Chunk)) → Ahead 0 i e bs → i % s .blocks ≡ e
-    landed i bs a = ap (λ (n : ℕ). n % s .blocks) (sym (add-zero i)) ∙ a .there
-
-    lands-free : (i : ℕ) (bs : List (Block Chunk)) → Ahead 0 i e bs → around (s .blocks) bs i ≡ empty
-    unfolding around
-    lands-free i bs a = ap (λ (n : ℕ). getD bs n empty) (landed i bs a) ∙ a .free
-
-    lands-in : (i : ℕ) (bs : List (Block Chunk)) (b : Block Chunk) → Ahead 0 i e bs → set bs e b ≡ stored (s .blocks) bs i b
-    unfolding stored
-    lands-in i bs b a = ap (λ (n : ℕ). set bs n b) (sym (landed i bs a))
-
-    carried-at : (bs : List (Block Chunk)) (c : Chunk) → length bs ≡ s .blocks → getD (set bs e (holds c)) e empty ≡ holds c
-    carried-at bs c l = getD-set-same bs e (holds c) empty (omega arith)
-
-    block-at : (i : ℕ) (bs : List (Block Chunk)) (d : Chunk) → around (s .blocks) bs i ≡ holds d → getD bs (i % s .blocks) empty ≡ holds d
-    unfolding around
-    block-at i bs d z = z
-
-    other-at : (j : ℕ) (bs : List (Block Chunk)) (c d : Chunk) → j ≢ e → getD bs j empty ≡ holds d → getD (set bs e (holds c)) j empty ≡ holds d
-    other-at j bs c d ne z = getD-set-other bs e j (holds c) empty ne ∙ z
-
-    swapped-in : (i : ℕ) (bs : List (Block Chunk)) (c d : Chunk) → i % s .blocks ≢ e
-        → set (set (set bs e (holds c)) (i % s .blocks) (holds c)) e (holds d) ≡ set (stored (s .blocks) bs i (holds c)) e (holds d)
-    unfolding stored
-    swapped-in i bs c d ne = swapped bs (i % s .blocks) c d ne
-
     not-both : (c d : Chunk) → chunk-before d c ≡ true → chunk-before c d ≡ false
     not-both c d h = go (chunk-before c d) refl
       where
@@ -114,9 +82,11 @@ module _ (s : Sizes) (some : 0 < s .blocks) where
     -- the code keeps the carried chunk in the empty block
     pub settle-theory : (k f i : ℕ) (c : Chunk) (bs : List (Block Chunk)) → Carried f i c bs → Ahead k i e bs
         → settle places (s .blocks) k e i (set bs e (holds c)) ≡ insert-from chunk-before f i (s .blocks) c bs
-    unfolding settle insert-from
+    unfolding settle insert-from around stored
     settle-theory k zero i c bs y a = absurd (omega (arith, y .near .few))
-    settle-theory zero (suc f) i c bs y a = rw (lands-free i bs a) (lands-in i bs (holds c) a)
+    settle-theory zero (suc f) i c bs y a =
+        let at : i % s .blocks ≡ e = rw add-zero at (a .there) in
+        rw (at, a .free)
     settle-theory (suc k) (suc f) i c bs y a =
         go (first-full k i bs a) (λ u. settle-theory k f (suc i) c bs u (ahead-on k i bs a))
         (λ d u n. settle-theory k f (suc i) d (stored (s .blocks) bs i (holds c)) u (ahead-swap k i bs c n a))
@@ -126,21 +96,26 @@ module _ (s : Sizes) (some : 0 < s .blocks) where
             → ((d : Chunk) → Carried f (suc i) d (stored (s .blocks) bs i (holds c)) → i % s .blocks ≢ e
             → settle places (s .blocks) k e (suc i) (set (stored (s .blocks) bs i (holds c)) e (holds d)) ≡ insert-from chunk-before f (suc i) (s .blocks) d (stored (s .blocks) bs i (holds c)))
             → settle places (s .blocks) (suc k) e i (set bs e (holds c)) ≡ insert-from chunk-before (suc f) i (s .blocks) c bs
-        go w on swap = by (chunk-before (w .chunk) c) refl
+        go w on swap = rw (own, other) (by (chunk-before (w .chunk) c) refl)
           where
-            z : getD bs (i % s .blocks) empty ≡ holds (w .chunk)
-            z = block-at i bs (w .chunk) (w .is)
-
             ne : i % s .blocks ≢ e
-            ne = not-e bs (i % s .blocks) (w .chunk) (a .free) z
+            ne q = true≢false (cc (a .free, w .is))
 
-            by : (b : Bool) → chunk-before (w .chunk) c ≡ b → settle places (s .blocks) (suc k) e i (set bs e (holds c)) ≡ insert-from chunk-before (suc f) i (s .blocks) c bs
-            by true h =
-                rw (carried-at bs c (a .long), other-at (i % s .blocks) bs c (w .chunk) ne z, not-both c (w .chunk) h, w .is, h) (on (carry-on (ordered (lawful s some)) y (w .chunk) (w .is) h))
+            own : getD (set bs e (holds c)) e empty ≡ holds c
+            own = getD-set-same bs e (holds c) empty (omega (arith, a .long))
+
+            other : getD (set bs e (holds c)) (i % s .blocks) empty ≡ holds (w .chunk)
+            other = getD-set-other bs e (i % s .blocks) (holds c) empty ne ∙ w .is
+
+            swapped : set (set (set bs e (holds c)) (i % s .blocks) (holds c)) e (holds (w .chunk)) ≡ set (set bs (i % s .blocks) (holds c)) e (holds (w .chunk))
+            swapped = rw (set-comm bs e (i % s .blocks) (holds c) (holds c) (λ u. ne (sym u)), set-set (set bs (i % s .blocks) (holds c)) e (holds c) (holds (w .chunk)))
+
+            by : (b : Bool) → chunk-before (w .chunk) c ≡ b
+                → settle places (s .blocks) k e (suc i) (cond (chunk-before c (w .chunk)) (set (set (set bs e (holds c)) (i % s .blocks) (holds c)) e (holds (w .chunk))) (set bs e (holds c)))
+                ≡ insert-from chunk-before (suc f) i (s .blocks) c bs
+            by true h = rw (not-both c (w .chunk) h, w .is, h) (on (carry-on (ordered (lawful s some)) y (w .chunk) (w .is) h))
             by false h =
-                rw (carried-at bs c (a .long), other-at (i % s .blocks) bs c (w .chunk) ne z, y .other (w .chunk) (record { at = i; is = w .is }) h, w .is, h)
-                (ap (λ (x : List (Block Chunk)). settle places (s .blocks) k e (suc i) x) (swapped-in i bs c (w .chunk) ne)
-                ∙ swap (w .chunk) (carry-swap (ordered (lawful s some)) y (w .chunk) (w .is) h) ne)
+                rw (y .other (w .chunk) (record { at = i; is = w .is }) h, w .is, h, swapped) (swap (w .chunk) (carry-swap (ordered (lawful s some)) y (w .chunk) (w .is) h) ne)
 
 -- the code finds the first empty block, k steps on
 pub free-first : (look : ℕ → Label) (m fuel i k : ℕ) → k < fuel → look ((i + k) % m) .level ≡ 0 → ((l : ℕ) → l < k → look ((i + l) % m) .level ≢ 0) → free-in look m fuel i ≡ At ((i + k) % m)
