@@ -76,41 +76,30 @@ module _ (s : Sizes) (some : 0 < s .blocks) (bl : List (Block Chunk)) (v : All-g
   abbrev pub All-found : Type 0
   All-found = (c : Chunk) (i : ℕ) → i < s .blocks → getD bl i empty ≡ holds c → probe (λ j. label-of (getD bl j empty)) (s .blocks) (c .label) (s .blocks) (chunk-home s c) ≡ At i
 
-  chunk-at : (c : Chunk) (i : ℕ) → around (s .blocks) bl i ≡ holds c → getD bl (i % s .blocks) empty ≡ holds c
-  unfolding around
-  chunk-at c i z = z
-
-  level-at : (c : Chunk) (b : Block Chunk) → Good s b → b ≡ holds c → 0 < c .label .level
-  level-at c empty g e = absurd (true≢false cc)
-  level-at c (holds d) (held q) e = let z : d ≡ c = cc in rw (← z) (q .level)
+  -- what stands in a good block can be held
+  holdable : (c : Chunk) (i : ℕ) → getD bl i empty ≡ holds c → Holdable s c
+  holdable c i z = go (rw z at (good-at s v i))
+    where
+      go : Good s (holds c) → Holdable s c
+      go (held q) = q
 
   -- RULE 3
   pub found-rule-3 : All-found → Rule-3 (chunk-home s) chunk-before (s .blocks) bl
+  unfolding around
   found-rule-3 found c k few z =
       let i : ℕ = (chunk-home s c + k) % s .blocks in
-      let y = chunk-at c (chunk-home s c + k) z in
-      let p = level-at c (getD bl i empty) (good-at s v i) y in
       let e : place-of (s .blocks) (search-from chunk-before (s .blocks) (chunk-home s c) (s .blocks) c bl) ≡ At i =
-      sym (probe-theory (c .label) p (c .nodes) s (s .blocks) (s .blocks) (chunk-home s c) bl v) ∙ found c i (mod-lt (chunk-home s c + k) some) y in
-      go (ended (s .blocks) c bl (s .blocks) (chunk-home s c) i e)
-    where
-      go : Ended chunk-before (s .blocks) c bl (s .blocks) (chunk-home s c) ((chunk-home s c + k) % s .blocks) → (l : ℕ) → l < k → holds-smaller chunk-before c (around (s .blocks) bl (chunk-home s c + l)) ≡ true
-      go r l w = r .smaller l (omega (arith, steps-same (s .blocks) (chunk-home s c) (home-inside s some (c .label)) (r .steps) k (r .few) few (r .there)))
+      sym (probe-theory (c .label) (holdable c i z .level) (c .nodes) s (s .blocks) (s .blocks) (chunk-home s c) bl v) ∙ found c i (mod-lt (chunk-home s c + k) some) z in
+      let r = ended (s .blocks) c bl (s .blocks) (chunk-home s c) i e in
+      λ l w. r .smaller l (omega (arith, steps-same (s .blocks) (chunk-home s c) (home-inside s some (c .label)) (r .steps) k (r .few) few (r .there)))
 
 -- a table, from blocks where each search ends at its block
 module _ (s : Sizes) (good : made s ≡ true) (hd : List ℕ) (head : length hd ≡ 53) (sizes : sizes-in hd ≡ s) (bl : List (Block Chunk)) (v : All-good s bl) (long : length bl ≡ s .blocks) where
-  stands-holdable : (c : Chunk) → Stands (s .blocks) bl c → Holdable s c
-  stands-holdable c t = go (getD bl (t .at % s .blocks) empty) (good-at s v (t .at % s .blocks)) (chunk-at s (some-blocks s good) bl v c (t .at) (t .is))
-    where
-      go : (b : Block Chunk) → Good s b → b ≡ holds c → Holdable s c
-      go empty g e = absurd (true≢false cc)
-      go (holds d) (held q) e = let z : d ≡ c = cc in rw (← z) q
-
   -- THE BYTES keep the map that is read off the blocks
   pub searched-keeps : ((c : Chunk) → Stands (s .blocks) bl c → c .nodes ≢ [])
       → ((c : Chunk) (i : ℕ) → i < s .blocks → getD bl i empty ≡ holds c → search-in s (hd ++ all-bytes s bl) (c .label) ≡ At i)
       → Table s (nodes-at bl) (how-many bl) hd (hd ++ all-bytes s bl)
-  unfolding nodes-at map-of
+  unfolding nodes-at map-of around
   searched-keeps full found =
       let some = some-blocks s good in
       let rule = found-rule-3 s some bl v
@@ -120,7 +109,7 @@ module _ (s : Sizes) (good : made s ≡ true) (hd : List ℕ) (head : length hd 
         good = good;
         head = head;
         sizes = sizes;
-        sound = λ l f i n. stands-holdable (chunk (nodes-at bl) l f i) (map .all (label l f i) n);
+        sound = λ l f i n. let t = map .all (label l f i) n in holdable s some bl v (chunk (nodes-at bl) l f i) (t .at % s .blocks) (t .is);
         blocks = bl;
         is = refl;
         keeps = record { long = long; rule-3 = rule; map = map; count = refl };
@@ -144,14 +133,14 @@ module _ (s : Sizes) (good : made s ≡ true) (bs : List ℕ) (long : length bs 
       ap (λ (x : List ℕ). label-in (block-long s) x i) is
       ∙ label-blocks (coding s) (s .blocks) (some-blocks s good) (take 53 bs) head (blocks-in s bs) all (blocks-many s bs long bytes clean) i h ∙ ap label-of e
 
-  level-is : (c : Chunk) (i : ℕ) → getD (blocks-in s bs) i empty ≡ holds c → c .label .level ≢ 0
-  level-is c i e z = omega (arith, level-at s (some-blocks s good) (blocks-in s bs) all c (getD (blocks-in s bs) i empty) (good-at s all i) e)
-
   pub checked-keeps : Table s (nodes-at (blocks-in s bs)) (how-many (blocks-in s bs)) (take 53 bs) bs
+  unfolding around
   checked-keeps =
       subst (λ (x : List ℕ). Table s (nodes-at (blocks-in s bs)) (how-many (blocks-in s bs)) (take 53 bs) x) (sym is)
       (searched-keeps s good (take 53 bs) head sizes (blocks-in s bs) all (blocks-many s bs long bytes clean)
-      (λ c t. blocks-full s bs long bytes clean (t .at % s .blocks) c (chunk-at s (some-blocks s good) (blocks-in s bs) all c (t .at) (t .is)))
+      (λ c t. blocks-full s bs long bytes clean (t .at % s .blocks) c (t .is))
       (λ c i h e.
+      let l = label-is c i h e in
+      let some = holdable s (some-blocks s good) (blocks-in s bs) all c i e .level in
       subst (λ (x : List ℕ). search-in s x (c .label) ≡ At i) is
-      (subst (λ (w : Label). search-in s bs w ≡ At i) (label-is c i h e) (found i h (λ z. level-is c i e (ap (λ (w : Label). w .level) (sym (label-is c i h e)) ∙ z))))))
+      (subst (λ (w : Label). search-in s bs w ≡ At i) l (found i h (λ z. omega (arith, ap (λ (w : Label). w .level) l))))))

@@ -35,14 +35,6 @@ module _ (s : Sizes) (some : 0 < s .blocks) where
   Carried = Carry (ordered (lawful s some))
 
   module _ (e : ℕ) (inside : e < s .blocks) where
-    full-after : (k i : ℕ) (bs : List (Block Chunk)) (b : Block Chunk) → is-free b ≡ false → length bs ≡ s .blocks
-        → ((l : ℕ) → l < suc k → is-free (around (s .blocks) bs (i + l)) ≡ false) → (l : ℕ) → l < k → is-free (around (s .blocks) (stored (s .blocks) bs i b) (suc i + l)) ≡ false
-    full-after k i bs b fb long full l w = go (ℕ-discrete ((suc i + l) % s .blocks) (i % s .blocks))
-      where
-        go : Dec ((suc i + l) % s .blocks ≡ i % s .blocks) → is-free (around (s .blocks) (stored (s .blocks) bs i b) (suc i + l)) ≡ false
-        go (yes u) = rw (stored-there (s .blocks) bs i (suc i + l) b some long u) fb
-        go (no u) = rw (stored-elsewhere (s .blocks) bs i (suc i + l) b u) (ap (λ (n : ℕ). is-free (around (s .blocks) bs n)) (omega arith) ∙ full (suc l) (omega arith))
-
     ahead-on : (k i : ℕ) (bs : List (Block Chunk)) → Ahead (suc k) i e bs → Ahead k (suc i) e bs
     ahead-on k i bs a = record {
       long = a .long;
@@ -51,26 +43,19 @@ module _ (s : Sizes) (some : 0 < s .blocks) where
       full = λ l w. ap (λ (n : ℕ). is-free (around (s .blocks) bs n)) (omega arith) ∙ a .full (suc l) (omega arith);
     }
 
-    ahead-swap : (k i : ℕ) (bs : List (Block Chunk)) (c : Chunk) → i % s .blocks ≢ e → Ahead (suc k) i e bs → Ahead k (suc i) e (stored (s .blocks) bs i (holds c))
+    -- a chunk stored in another block leaves it so
+    ahead-stored : (k j i : ℕ) (bs : List (Block Chunk)) (c : Chunk) → i % s .blocks ≢ e → Ahead k j e bs → Ahead k j e (stored (s .blocks) bs i (holds c))
     unfolding stored
-    ahead-swap k i bs c ne a = record {
+    ahead-stored k j i bs c ne a = record {
       long = length-set bs (i % s .blocks) (holds c) ∙ a .long;
-      there = ap (λ (n : ℕ). n % s .blocks) (omega arith) ∙ a .there;
+      there = a .there;
       free = getD-set-other bs (i % s .blocks) e (holds c) empty (λ u. ne (sym u)) ∙ a .free;
-      full = full-after k i bs (holds c) refl (a .long) (a .full);
+      full = λ l w. full l w (ℕ-discrete ((j + l) % s .blocks) (i % s .blocks));
     }
-
-    -- the block at i is full
-    pub record Full (i : ℕ) (bs : List (Block Chunk)) : Type 0 where
-      pub chunk : Chunk
-      pub is : around (s .blocks) bs i ≡ holds chunk
-
-    is-full : (b : Block Chunk) (i : ℕ) (bs : List (Block Chunk)) → around (s .blocks) bs i ≡ b → is-free b ≡ false → Full i bs
-    is-full empty i bs z h = absurd (true≢false h)
-    is-full (holds d) i bs z h = record { chunk = d; is = z }
-
-    first-full : (k i : ℕ) (bs : List (Block Chunk)) → Ahead (suc k) i e bs → Full i bs
-    first-full k i bs a = is-full (around (s .blocks) bs i) i bs refl (ap (λ (n : ℕ). is-free (around (s .blocks) bs n)) (sym (add-zero i)) ∙ a .full 0 (omega arith))
+      where
+        full : (l : ℕ) → l < k → Dec ((j + l) % s .blocks ≡ i % s .blocks) → is-free (around (s .blocks) (stored (s .blocks) bs i (holds c)) (j + l)) ≡ false
+        full l w (yes u) = rw (stored-there (s .blocks) bs i (j + l) (holds c) some (a .long) u)
+        full l w (no u) = rw (stored-elsewhere (s .blocks) bs i (j + l) (holds c) u) (a .full l w)
 
     not-both : (c d : Chunk) → chunk-before d c ≡ true → chunk-before c d ≡ false
     not-both c d h = go (chunk-before c d) refl
@@ -88,34 +73,35 @@ module _ (s : Sizes) (some : 0 < s .blocks) where
         let at : i % s .blocks ≡ e = rw add-zero at (a .there) in
         rw (at, a .free)
     settle-theory (suc k) (suc f) i c bs y a =
-        go (first-full k i bs a) (λ u. settle-theory k f (suc i) c bs u (ahead-on k i bs a))
-        (λ d u n. settle-theory k f (suc i) d (stored (s .blocks) bs i (holds c)) u (ahead-swap k i bs c n a))
+        go (around (s .blocks) bs i) refl (rw add-zero at (a .full 0 (omega arith))) (λ u. settle-theory k f (suc i) c bs u (ahead-on k i bs a))
+        (λ d u n. settle-theory k f (suc i) d (stored (s .blocks) bs i (holds c)) u (ahead-stored k (suc i) i bs c n (ahead-on k i bs a)))
       where
-        go : Full i bs
+        go : (b : Block Chunk) → around (s .blocks) bs i ≡ b → is-free b ≡ false
             → (Carried f (suc i) c bs → settle places (s .blocks) k e (suc i) (set bs e (holds c)) ≡ insert-from chunk-before f (suc i) (s .blocks) c bs)
             → ((d : Chunk) → Carried f (suc i) d (stored (s .blocks) bs i (holds c)) → i % s .blocks ≢ e
             → settle places (s .blocks) k e (suc i) (set (stored (s .blocks) bs i (holds c)) e (holds d)) ≡ insert-from chunk-before f (suc i) (s .blocks) d (stored (s .blocks) bs i (holds c)))
             → settle places (s .blocks) (suc k) e i (set bs e (holds c)) ≡ insert-from chunk-before (suc f) i (s .blocks) c bs
-        go w on swap = rw (own, other) (by (chunk-before (w .chunk) c) refl)
+        go empty z h on swap = absurd (true≢false h)
+        go (holds d) z h on swap = rw (own, other) (by (chunk-before d c) refl)
           where
             ne : i % s .blocks ≢ e
-            ne q = true≢false (cc (a .free, w .is))
+            ne q = true≢false (cc (a .free, z))
 
             own : getD (set bs e (holds c)) e empty ≡ holds c
             own = getD-set-same bs e (holds c) empty (omega (arith, a .long))
 
-            other : getD (set bs e (holds c)) (i % s .blocks) empty ≡ holds (w .chunk)
-            other = getD-set-other bs e (i % s .blocks) (holds c) empty ne ∙ w .is
+            other : getD (set bs e (holds c)) (i % s .blocks) empty ≡ holds d
+            other = getD-set-other bs e (i % s .blocks) (holds c) empty ne ∙ z
 
-            swapped : set (set (set bs e (holds c)) (i % s .blocks) (holds c)) e (holds (w .chunk)) ≡ set (set bs (i % s .blocks) (holds c)) e (holds (w .chunk))
-            swapped = rw (set-comm bs e (i % s .blocks) (holds c) (holds c) (λ u. ne (sym u)), set-set (set bs (i % s .blocks) (holds c)) e (holds c) (holds (w .chunk)))
+            swapped : set (set (set bs e (holds c)) (i % s .blocks) (holds c)) e (holds d) ≡ set (set bs (i % s .blocks) (holds c)) e (holds d)
+            swapped = rw (set-comm bs e (i % s .blocks) (holds c) (holds c) (λ u. ne (sym u)), set-set (set bs (i % s .blocks) (holds c)) e (holds c) (holds d))
 
-            by : (b : Bool) → chunk-before (w .chunk) c ≡ b
-                → settle places (s .blocks) k e (suc i) (cond (chunk-before c (w .chunk)) (set (set (set bs e (holds c)) (i % s .blocks) (holds c)) e (holds (w .chunk))) (set bs e (holds c)))
+            by : (b : Bool) → chunk-before d c ≡ b
+                → settle places (s .blocks) k e (suc i) (cond (chunk-before c d) (set (set (set bs e (holds c)) (i % s .blocks) (holds c)) e (holds d)) (set bs e (holds c)))
                 ≡ insert-from chunk-before (suc f) i (s .blocks) c bs
-            by true h = rw (not-both c (w .chunk) h, w .is, h) (on (carry-on (ordered (lawful s some)) y (w .chunk) (w .is) h))
+            by true h = rw (not-both c d h, z, h) (on (carry-on (ordered (lawful s some)) y d z h))
             by false h =
-                rw (y .other (w .chunk) (record { at = i; is = w .is }) h, w .is, h, swapped) (swap (w .chunk) (carry-swap (ordered (lawful s some)) y (w .chunk) (w .is) h) ne)
+                rw (y .other d (record { at = i; is = z }) h, z, h, swapped) (swap d (carry-swap (ordered (lawful s some)) y d z h) ne)
 
 -- the code finds the first empty block, k steps on
 pub free-first : (look : ℕ → Label) (m fuel i k : ℕ) → k < fuel → look ((i + k) % m) .level ≡ 0 → ((l : ℕ) → l < k → look ((i + l) % m) .level ≢ 0) → free-in look m fuel i ≡ At ((i + k) % m)
