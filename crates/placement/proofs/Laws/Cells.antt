@@ -50,7 +50,7 @@ cond-out : {S R : Type 0} (f : R → S) (t : Bool) (a b : R) → cond t (f a) (f
 cond-out f true a b = refl
 cond-out f false a b = refl
 
-cond-valid : {R : Type 0} (Valid : R → Type 0) (t : Bool) (a b : R) → Valid a → Valid b → Valid (cond t a b)
+pub cond-valid : {R : Type 0} (Valid : R → Type 0) (t : Bool) (a b : R) → Valid a → Valid b → Valid (cond t a b)
 cond-valid Valid true a b va vb = va
 cond-valid Valid false a b va vb = vb
 

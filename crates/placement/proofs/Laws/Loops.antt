@@ -3,7 +3,7 @@ use mathlib.Core.Path.{_≡_, refl, sym, ap, _∙_}
 use mathlib.Core.List.{List, [], _∷_, _++_}
 use mathlib.Core.Bool.{Bool, true, false, _&&_, _||_, cond, and-false}
 use Prim.Native.Nat.{ℕ, zero, suc, _+_, _*_, _-_, _/_, _%_, _≤_, _<_}
-use native.Mathlib.Nat.{le-refl, add-zero, sub-zero, pos-of-ne-zero, mod-lt, mod-eq-of-lt, mod-eq-sub-mod, mod-self, mod-add-mod, lt-of-lt-of-le}
+use native.Mathlib.Nat.{le-refl, add-zero, sub-zero, pos-of-ne-zero, mod-lt, mod-eq-of-lt, mod-eq-sub-mod, mod-self, lt-of-lt-of-le}
 use native.Mathlib.Omega.{arith}
 use native.Mathlib.Numerals.{towards-suc, add-one}
 use lib.Dec.{ltb, leb, eqb}
@@ -25,14 +25,14 @@ use Rattle.sizes.proofs.Laws.Sizes.{and-parts}
 use Rattle.placement.specs.Labels.{before, same-label, home}
 use Rattle.sizes.specs.Hash.{hash-from, g}
 use Rattle.placement.proofs.Laws.Labels.{labels-strict, home-inside}
+use Rattle.placement.proofs.Laws.Insertion.{suc-mod-same}
+use Rattle.placement.proofs.Laws.Cells.{cond-valid}
 
 -- the search goes by where it stands on the way round
 probe-round : (look : ℕ → Label) (m : ℕ) (w : Label) (k i j : ℕ) → i % m ≡ j % m → probe look m w k i ≡ probe look m w k j
 unfolding probe
 probe-round look m w zero i j e = refl
-probe-round look m w (suc k) i j e =
-    let n : suc i % m ≡ suc j % m = ap (_% m) (sym (add-one i)) ∙ sym (mod-add-mod i m 1) ∙ ap (λ (x : ℕ). (x + 1) % m) e ∙ mod-add-mod j m 1 ∙ ap (_% m) (add-one j) in
-    rw (e, probe-round look m w k (suc i) (suc j) n)
+probe-round look m w (suc k) i j e = rw (e, probe-round look m w k (suc i) (suc j) (suc-mod-same m i j e))
 
 -- what the loop of `find_from` keeps: the search from its start goes on from block i
 pub record Probing (look : ℕ → Label) (m : ℕ) (w : Label) (most start left i : ℕ) : Type 0 where
@@ -49,20 +49,20 @@ module _ (look : ℕ → Label) (m : ℕ) (w : Label) (most start : ℕ) where
     probing-end z = sym (q .rest ∙ rw z)
 
     module _ (s : Bool) (es : s ≡ passes-label (look i) w) (some : left ≡ 0 → ⊥) where
+      step : probe look m w most start ≡ probe look m w (suc (left - 1)) i
+      step = q .rest ∙ ap (λ (k : ℕ). probe look m w k i) (omega arith)
+
       pub probing-more : s ≡ true → (n : ℕ) → n ≡ (i + 1) % m → n < m → Probing look m w most start (left - 1) n
       unfolding probe
       probing-more e n en h =
-          let f : left ≡ suc (left - 1) = let p = pos-of-ne-zero some in omega arith in
           let r : suc i % m ≡ n % m = ap (_% m) (sym (add-one i)) ∙ sym en ∙ sym (mod-eq-of-lt h) in
           let one : probe look m w (suc (left - 1)) i ≡ probe look m w (left - 1) (suc i) = rw (mod-eq-of-lt (q .inside), ← es, e) in
-          record { inside = h; rest = q .rest ∙ ap (λ (k : ℕ). probe look m w k i) f ∙ one ∙ probe-round look m w (left - 1) (suc i) n r }
+          record { inside = h; rest = step ∙ one ∙ probe-round look m w (left - 1) (suc i) n r }
 
       module _ (e : s ≡ false) (l : Label) (t : Bool) (at : l ≡ look i) (et : t ≡ same-label l w) where
         stopped : probe look m w most start ≡ cond t (At i) Nothing
         unfolding probe
-        stopped =
-            let f : left ≡ suc (left - 1) = let p = pos-of-ne-zero some in omega arith in
-            q .rest ∙ ap (λ (k : ℕ). probe look m w k i) f ∙ rw (mod-eq-of-lt (q .inside), ← es, e, et, at)
+        stopped = step ∙ rw (mod-eq-of-lt (q .inside), ← es, e, et, at)
 
         pub probing-same : t ≡ true → At i ≡ probe look m w most start
         probing-same h = sym (stopped ∙ rw h)
@@ -186,20 +186,16 @@ unfolding label-in
 level-there w bs i a v ea ev = ev ∙ ap (λ (x : ℕ). getD bs x 0) ea
 
 -- a block that the search finds is one of the table
-below : Found → (m : ℕ) → Type 0
+abbrev below : Found → (m : ℕ) → Type 0
 below (At i) m = i < m
 below Nothing m = Unit
 
-cond-below : (t : Bool) (a b : Found) (m : ℕ) → below a m → below b m → below (cond t a b) m
-cond-below true a b m p q = p
-cond-below false a b m p q = q
-
 probe-below : (look : ℕ → Label) (m : ℕ) (w : Label) (k i : ℕ) → 0 < m → below (probe look m w k i) m
-unfolding probe below
+unfolding probe
 probe-below look m w zero i pos = tt
 probe-below look m w (suc k) i pos =
-    cond-below (passes-label (look (i % m)) w) _ _ m (probe-below look m w k (suc i) pos)
-    (cond-below (same-label (look (i % m)) w) (At (i % m)) Nothing m (mod-lt i pos) tt)
+    cond-valid (λ r. below r m) (passes-label (look (i % m)) w) _ _ (probe-below look m w k (suc i) pos)
+    (cond-valid (λ r. below r m) (same-label (look (i % m)) w) (At (i % m)) Nothing (mod-lt i pos) tt)
 
 -- as `remove` asks, of what the search gave
 pub out-none : (g : Sizes) (bs : List ℕ) (w : Label) (r : Found) → r ≡ Nothing → r ≡ search-in g bs w → bs ≡ taken-out g (search-in g bs w) bs
@@ -220,7 +216,7 @@ unfolding found-at
 found-some g bs w r i e q = rw (← q, e)
 
 pub search-below : (g : Sizes) (bs : List ℕ) (w : Label) (r : Found) (i : ℕ) → r ≡ At i → r ≡ search-in g bs w → Shaped g bs → i < g .blocks
-unfolding search-in below
+unfolding search-in
 search-below g bs w r i e q s = rw (sym q ∙ e) at (probe-below (label-in (block-long g) bs) (g .blocks) w (g .blocks) (home g w) (s .some))
 
 pub passes-empty : (l w : Label) → l .level ≡ 0 → false ≡ passes-label l w
@@ -249,10 +245,6 @@ passes-there l l′ w t e q = q ∙ ap (λ (z : Label). passes-label z w) e
 pub passes-held : (l w : Label) (t : Bool) → t ≡ before l w → (l .level ≡ 0 → ⊥) → t ≡ passes-label l w
 unfolding passes-label
 passes-held l w t e ne = let h : 0 < l .level = pos-of-ne-zero ne in e ∙ rw (lt-ltb 0 (l .level) h)
-
-cond-less : (t : Bool) (a b m : ℕ) → a < m → b < m → cond t a b < m
-cond-less true a b m p q = p
-cond-less false a b m p q = q
 
 -- what the loop of `pull_back` keeps: the removal goes on from the block that is k further, on the bytes as they are
 pub record Pulling (g : Sizes) (at : ℕ) (bs₀ bs : List ℕ) (hole k : ℕ) : Type 0 where
@@ -302,7 +294,7 @@ module _ (g : Sizes) (at : ℕ) (bs₀ : List ℕ) where
             shaped = shaped-same g bs bs′ (p .shaped) ln;
             first = omega arith;
             within = omega arith;
-            spot = rw (q .hole) (cond-less t e _ (g .blocks) (p .spot) (mod-lt _ (omega arith)));
+            spot = rw (q .hole) (cond-valid (λ i. i < g .blocks) t e _ (p .spot) (mod-lt _ (omega arith)));
             same = ln ∙ p .same;
             rest = p .rest ∙ rw (f, held, test, n, q .hole, q .table);
           }
@@ -480,20 +472,16 @@ distance-made m a b = refl
 
 -- as `insert` asks, of what `free` gave
 free-below : (look : ℕ → Label) (m k i : ℕ) → 0 < m → below (free-in look m k i) m
-unfolding free-in below
+unfolding free-in
 free-below look m zero i pos = tt
-free-below look m (suc k) i pos = cond-below (eqb (look (i % m) .level) 0) (At (i % m)) _ m (mod-lt i pos) (free-below look m k (suc i) pos)
+free-below look m (suc k) i pos = cond-valid (λ r. below r m) (eqb (look (i % m) .level) 0) (At (i % m)) _ (mod-lt i pos) (free-below look m k (suc i) pos)
 
 pub free-at : (look : ℕ → Label) (m k i : ℕ) (r : Found) (e : ℕ) → r ≡ At e → r ≡ free-in look m k i → 0 < m → e < m
-unfolding below
 free-at look m k i r e er q pos = rw (sym q ∙ er) at (free-below look m k i pos)
 
 module _ (g : Sizes) (bs : List ℕ) (l : Label) (start : ℕ) (r : Found) (es : start ≡ home g l) (er : r ≡ free-in (label-in (block-long g) bs) (g .blocks) (g .blocks) start) where
-  pub inserted-none : r ≡ Nothing → Nothing ≡ free-in (label-in (block-long g) bs) (g .blocks) (g .blocks) (home g l)
-  inserted-none q = sym q ∙ er ∙ rw es
-
-  pub inserted-found : (e : ℕ) → r ≡ At e → At e ≡ free-in (label-in (block-long g) bs) (g .blocks) (g .blocks) (home g l)
-  inserted-found e q = sym q ∙ er ∙ rw es
+  pub inserted-found : (x : Found) → r ≡ x → x ≡ free-in (label-in (block-long g) bs) (g .blocks) (g .blocks) (home g l)
+  inserted-found x q = sym q ∙ er ∙ rw es
 
   pub inserted-made : (e k n : ℕ) (xs s₁ s₂ : List ℕ) → s₁ ≡ put-block (block-long g) bs e (block-with (block-long g) l n xs) → k ≡ distance-of (g .blocks) start e
       → s₂ ≡ settle (bytes (block-long g)) (g .blocks) k e start s₁ → s₂ ≡ inserted g (At e) l n xs bs

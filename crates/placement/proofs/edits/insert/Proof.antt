@@ -1,7 +1,7 @@
 -- `placement::insert` meets its contract: each need follows from the laws listed.
 use borrow.Author.Needs.{needs}
 use native.Mathlib.Omega.{arith}
-use Rattle.placement.proofs.Laws.Loops.{free-at, inserted-none, inserted-found, inserted-made, inserted-same}
+use Rattle.placement.proofs.Laws.Loops.{free-at, inserted-found, inserted-made, inserted-same}
 use Rattle.placement.proofs.edits.insert.Statement.{statement}
 use Rattle.placement.proofs.edits.insert.Tie as tie
 
@@ -24,5 +24,5 @@ pub insert-spec : {M : Type 1} → statement M
 insert-spec =
     tie.close
     (tie.spec (λ c κs. search laws) (λ c κs. search laws) (λ c. search laws) (λ c. search laws) (λ c. search laws)
-    (λ c. (search inserted-none, inserted-same _ _ _ _ _)) (λ c κs. search laws) (λ c κs. search laws)
+    (λ c. (search inserted-found, inserted-same _ _ _ _ _)) (λ c κs. search laws) (λ c κs. search laws)
     settle-in-requires (λ c. search laws) returns-2)
