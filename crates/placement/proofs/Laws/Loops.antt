@@ -264,11 +264,11 @@ module _ (g : Sizes) (at : ℕ) (bs₀ : List ℕ) where
   pulling-start s h = record { shaped = s; first = omega arith; within = omega arith; spot = h; same = refl; rest = refl }
 
   module _ (bs : List ℕ) (e k : ℕ) (p : Pulling g at bs₀ bs e k) where
-    pub pulling-end : g .blocks ≤ k → clear-in (block-long g) bs e ≡ pull (bytes (block-long g)) (home g) (g .blocks) (g .blocks - 1) at (at + 1) bs₀
+    pub pulling-end : g .blocks ≤ k → (bs′ : List ℕ) → bs′ ≡ clear-in (block-long g) bs e → bs′ ≡ pull (bytes (block-long g)) (home g) (g .blocks) (g .blocks - 1) at (at + 1) bs₀
     unfolding pull
-    pulling-end h =
+    pulling-end h bs′ q =
         let f : g .blocks - k ≡ 0 = omega arith in
-        rw (p .rest, f)
+        q ∙ rw (p .rest, f)
 
     module _ (lt : k < g .blocks) (l : Label) (el : l ≡ label-in (block-long g) bs ((at + k) % g .blocks)) where
       f : g .blocks - k ≡ suc (g .blocks - (k + 1))
@@ -277,11 +277,11 @@ module _ (g : Sizes) (at : ℕ) (bs₀ : List ℕ) where
       n : at + (k + 1) ≡ suc (at + k)
       n = omega arith
 
-      pub pulling-empty : l .level ≡ 0 → clear-in (block-long g) bs e ≡ pull (bytes (block-long g)) (home g) (g .blocks) (g .blocks - 1) at (at + 1) bs₀
+      pub pulling-empty : l .level ≡ 0 → (bs′ : List ℕ) → bs′ ≡ clear-in (block-long g) bs e → bs′ ≡ pull (bytes (block-long g)) (home g) (g .blocks) (g .blocks - 1) at (at + 1) bs₀
       unfolding pull
-      pulling-empty z =
+      pulling-empty z bs′ q =
           let z′ : eqb (label-in (block-long g) bs ((at + k) % g .blocks) .level) 0 ≡ true = rw (← el) (eq-eqb _ _ z) in
-          rw (p .rest, f, z′)
+          q ∙ rw (p .rest, f, z′)
 
       pub pulling-next : (h : ℕ) (bs′ : List ℕ) (e′ : ℕ) → (l .level ≡ 0 → ⊥) → h ≡ home g l
           → Pulled g e ((at + k) % g .blocks) h bs bs′ e′ → length bs′ ≡ length bs → Pulling g at bs₀ bs′ e′ (k + 1)
@@ -305,9 +305,6 @@ pulled-stay g e j h bs t et s = record { hole = rw (← et, s); table = rw (← 
 
 pub pulled-move : (g : Sizes) (e j h : ℕ) (bs bs′ : List ℕ) (t : Bool) → t ≡ stays-at (g .blocks) e j h → t ≡ false → bs′ ≡ copy-in (block-long g) bs j e → Pulled g e j h bs bs′ j
 pulled-move g e j h bs bs′ t et s eb = record { hole = rw (← et, s); table = rw (← et, s) eb }
-
-pub pulling-clear : (g : Sizes) (bs bs′ bs₀ : List ℕ) (e : ℕ) (y : List ℕ) → bs′ ≡ clear-in (block-long g) bs e → clear-in (block-long g) bs e ≡ y → bs′ ≡ y
-pulling-clear g bs bs′ bs₀ e y p q = p ∙ q
 
 -- as `label_at` and `home` ask
 pub label-made : (w : ℕ) (bs : List ℕ) (i a l n f : ℕ) → a ≡ 53 + i * w → l ≡ getD bs a 0 → n ≡ field (a + 2) 2 bs → f ≡ field (a + 4) 4 bs
