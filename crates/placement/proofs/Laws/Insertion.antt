@@ -12,7 +12,7 @@ use Rattle.placement.specs.Blocks.{Block, empty, holds, around, stored, 
 use Rattle.sizes.proofs.Laws.Round.{steps-to, steps-same, Which, which, less, same, more}
 use Rattle.placement.proofs.Laws.Blocks.{around-mod, stored-there, stored-elsewhere, stored-mod, stored-long, Far, far, Ordered}
 use Rattle.placement.proofs.Laws.Store.{after-store, before-store, stored-stands, store-keeps}
-use Rattle.placement.proofs.Laws.Placed.{First, lands, store-count}
+use Rattle.placement.proofs.Laws.Placed.{First, lands, store-count, Joined, join-empty}
 
 abbrev pub insert-step : {A : Type 0} → (A → A → Bool) → A → Block A → (put-here go-on : List (Block A)) → (swap : A → List (Block A)) → List (Block A)
 insert-step before c empty x y z = x
@@ -23,15 +23,6 @@ insert-from before zero i m c bs = bs
 insert-from before (suc f) i m c bs =
     insert-step before c (around m bs i) (stored m bs i (holds c)) (insert-from before f (suc i) m c bs)
     (λ d. insert-from before f (suc i) m d (stored m bs i (holds c)))
-
--- what the joining of c to bs leaves
-pub record Joined {A : Type 0} (home : A → ℕ) (before : A → A → Bool) (m : ℕ) (c : A) (bs now : List (Block A)) : Type 0 where
-  pub long : length now ≡ m
-  pub rule-3 : Rule-3 home before m now
-  pub stays : (x : A) → Stands m bs x → Stands m now x
-  pub comes : Stands m now c
-  pub only : (x : A) → Stands m now x → (x ≡ c) ⊎ Stands m bs x
-  pub count : how-many now ≡ suc (how-many bs)
 
 -- the label of c is another than those that stand
 abbrev pub Other : {A : Type 0} → (A → A → Bool) → (m : ℕ) → A → List (Block A) → Type 0
@@ -125,26 +116,14 @@ module _ {A : Type 0} {home : A → ℕ} {before : A → A → Bool} {m : ℕ} (
     some : zero < m
     some = omega (arith, ord .homes c)
 
-    store-rule : ((e : A) → holds-smaller before e (around m bs i) ≡ true → before c e ≡ true) → Rule-3 home before m now
-    store-rule over =
-        rw (stored-mod m bs i (home c + y .steps) (holds c) (sym (y .there)))
-        (store-keeps ord bs c (y .steps) (y .long) (room bs c (y .steps) (i + y .near .gap) (y .near .free) (y .smaller)) (y .rule-3) (y .smaller)
-        (λ e h. over e (rw (around-mod m bs (home c + y .steps) i (y .there)) at h)))
+    few : y .steps < m
+    few = room bs c (y .steps) (i + y .near .gap) (y .near .free) (y .smaller)
 
     -- the block is empty
     join-here : around m bs i ≡ empty → Joined home before m c bs now
-    join-here e = record {
-      long = stored-long m bs i (holds c) (y .long);
-      rule-3 = store-rule (λ d h. absurd (false≢true (cc)));
-      stays = λ x t. stay x (before-store m bs i (y .long) some (holds c) x t);
-      comes = stored-stands m bs i (y .long) some c;
-      only = after-store m bs i (y .long) some c;
-      count = omega (arith, store-count m bs i empty (holds c) (y .long) some e);
-    }
-      where
-        stay : (x : A) → (around m bs i ≡ holds x) ⊎ Stands m now x → Stands m now x
-        stay x (inl f) = absurd (true≢false (cc))
-        stay x (inr t) = t
+    join-here e =
+        rw (stored-mod m bs i (home c + y .steps) (holds c) (sym (y .there)))
+        (join-empty ord bs c (y .steps) (y .long) few (y .rule-3) (y .smaller) (around-mod m bs (home c + y .steps) i (y .there) ∙ e))
 
     -- the block holds d
     module _ (d : A) (e : around m bs i ≡ holds d) where
@@ -166,6 +145,12 @@ module _ {A : Type 0} {home : A → ℕ} {before : A → A → Bool} {m : ℕ} (
       module _ (h : before d c ≡ false) where
         goes-first : before c d ≡ true
         goes-first = y .other d (record { at = i; is = e }) h
+
+        swap-rule : Rule-3 home before m now
+        swap-rule =
+            rw (stored-mod m bs i (home c + y .steps) (holds c) (sym (y .there)))
+            (store-keeps ord bs c (y .steps) (y .long) few (y .rule-3) (y .smaller)
+            (λ x w. ord .chain c d x goes-first (let u : holds-smaller before x (holds d) ≡ true = rw (around-mod m bs (home c + y .steps) i (y .there), e) at w in u)))
 
         swap-other : Other before m d now
         swap-other x t n = go (ℕ-discrete (t .at % m) (i % m))
@@ -192,7 +177,7 @@ module _ {A : Type 0} {home : A → ℕ} {before : A → A → Bool} {m : ℕ} (
             let n = next-near in
             record {
               long = stored-long m bs i (holds c) (y .long);
-              rule-3 = store-rule (λ x w. ord .chain c d x goes-first (let u : holds-smaller before x (holds d) ≡ true = rw e at w in u));
+              rule-3 = swap-rule;
               other = swap-other;
               steps = suc (x .steps);
               there = on-mod (home d) (x .steps) i (x .there);

@@ -13,8 +13,8 @@ use Rattle.placement.specs.Kinds.{Kind, Holds, Keeps, with-chunk, withou
 use Rattle.placement.proofs.Laws.Blocks.{Ordered, around-mod, around-inside, stored-there, stored-elsewhere, stored-long}
 use Rattle.placement.proofs.Laws.Store.{Alike, before-store, stored-stands, change-keeps}
 use Rattle.placement.proofs.Laws.Unique.{one-arrangement}
-use Rattle.placement.proofs.Laws.Placed.{Rising, how-many-empty, store-count, placement, nothing}
-use Rattle.placement.proofs.Laws.Insertion.{Joined, Other, one-label, insert-from, inserted}
+use Rattle.placement.proofs.Laws.Placed.{Rising, Joined, how-many-empty, store-count, placement, nothing}
+use Rattle.placement.proofs.Laws.Insertion.{Other, one-label, insert-from, inserted}
 use Rattle.placement.proofs.Laws.Removal.{Removed, removed-at, removed}
 use Rattle.placement.proofs.Laws.Search.{Found, at-place, absent, search-from, Answer, search-right}
 

@@ -7,7 +7,7 @@ use Prim.Native.Nat.{ℕ, zero, suc, _+_, _%_, _≤_, _<_}
 use native.Mathlib.Nat.{add-zero, mod-lt}
 use native.Mathlib.Omega.{arith}
 use lib.ListN.{length, getD, set, replicate, length-replicate, getD-replicate}
-use Rattle.placement.specs.Blocks.{Among, Block, empty, holds, around, stored, holds-smaller, Stands, Rule-3, is-free, place-from, placed, how-many}
+use Rattle.placement.specs.Blocks.{Among, Block, empty, holds, around, stored, holds-smaller, Stands, Smaller-to, Rule-3, is-free, place-from, placed, how-many}
 use Rattle.sizes.proofs.Laws.Round.{steps-to}
 use Rattle.placement.proofs.Laws.Blocks.{stored-long, Ordered}
 use Rattle.placement.proofs.Laws.Unique.{one-arrangement}
@@ -100,6 +100,15 @@ module _ {A : Type 0} (m : ℕ) (c : A) (bs : List (Block A)) where
       let s = steps-to m i h (z .at) (omega (arith, z .inside)) in
       first-free m i (s .steps) (s .few) (rw (s .there) (z .is))
 
+-- what the joining of c to bs leaves
+pub record Joined {A : Type 0} (home : A → ℕ) (before : A → A → Bool) (m : ℕ) (c : A) (bs now : List (Block A)) : Type 0 where
+  pub long : length now ≡ m
+  pub rule-3 : Rule-3 home before m now
+  pub stays : (x : A) → Stands m bs x → Stands m now x
+  pub comes : Stands m now c
+  pub only : (x : A) → Stands m now x → (x ≡ c) ⊎ Stands m bs x
+  pub count : how-many now ≡ suc (how-many bs)
+
 -- what a placement of cs over bs leaves
 pub record Placing {A : Type 0} (home : A → ℕ) (before : A → A → Bool) (m : ℕ) (cs : List A) (bs now : List (Block A)) : Type 0 where
   pub long : length now ≡ m
@@ -115,40 +124,31 @@ module _ {A : Type 0} {home : A → ℕ} {before : A → A → Bool} {m : ℕ} (
   full-smaller c bs i all empty e f = absurd (true≢false f)
   full-smaller c bs i all (holds d) e f = all d (record { at = i; is = e })
 
-  -- one chunk, whose label is larger than all that stand
-  pub place-one : (c : A) (bs : List (Block A)) → length bs ≡ m → how-many bs < m → Rule-3 home before m bs → ((x : A) → Stands m bs x → before x c ≡ true)
-      → Placing home before m (c ∷ []) bs (place-from m (home c) m c bs)
-  place-one c bs p g r all = go (lands m c bs (home c) (ord .homes c) p g)
+  -- c goes to an empty block, and every block from its home on to there holds a smaller label
+  pub join-empty : (bs : List (Block A)) (c : A) (k : ℕ) → length bs ≡ m → k < m → Rule-3 home before m bs → Smaller-to home before m bs c k → around m bs (home c + k) ≡ empty
+      → Joined home before m c bs (stored m bs (home c + k) (holds c))
+  join-empty bs c k p g r s e = record {
+    long = stored-long m bs (home c + k) (holds c) p;
+    rule-3 = store-keeps ord bs c k p g r s (λ d h. absurd (false≢true (cc)));
+    stays = λ x t. stay x (before-store m bs (home c + k) p (omega arith) (holds c) x t);
+    comes = stored-stands m bs (home c + k) p (omega arith) c;
+    only = after-store m bs (home c + k) p (omega arith) c;
+    count = omega (arith, store-count m bs (home c + k) empty (holds c) p (omega arith) e);
+  }
     where
-      go : First m c bs m (home c) → Placing home before m (c ∷ []) bs (place-from m (home c) m c bs)
-      go f = rw (f .is) (record {
-        long = stored-long m bs (home c + f .steps) (holds c) p;
-        rule-3 = store-keeps ord bs c (f .steps) p (f .few) r
-            (λ l h. full-smaller c bs (home c + l) all (around m bs (home c + l)) refl (f .full l h))
-            (λ e h. absurd (false≢true (cc (f .free))));
-        stays = λ x t. stay x (before-store m bs (home c + f .steps) p (omega arith) (holds c) x t);
-        comes = λ x t. come x t;
-        only = λ x t. only x (after-store m bs (home c + f .steps) p (omega arith) c x t);
-        count = omega (arith, store-count m bs (home c + f .steps) empty (holds c) p (omega arith) (f .free));
-      })
-        where
-          now : List (Block A)
-          now = stored m bs (home c + f .steps) (holds c)
+      stay : (x : A) → (around m bs (home c + k) ≡ holds x) ⊎ Stands m (stored m bs (home c + k) (holds c)) x → Stands m (stored m bs (home c + k) (holds c)) x
+      stay x (inl f) = absurd (true≢false (cc))
+      stay x (inr t) = t
 
-          stay : (x : A) → (around m bs (home c + f .steps) ≡ holds x) ⊎ Stands m now x → Stands m now x
-          stay x (inl e) = absurd (true≢false (cc (f .free)))
-          stay x (inr t) = t
-
-          come : (x : A) → Among x (c ∷ []) → Stands m now x
-          come x (inl e) = rw e (stored-stands m bs (home c + f .steps) p (omega arith) c)
-          come x (inr t) = absurd t
-
-          only : (x : A) → (x ≡ c) ⊎ Stands m bs x → Among x (c ∷ []) ⊎ Stands m bs x
-          only x (inl e) = inl (inl e)
-          only x (inr t) = inr t
+  -- one chunk, whose label is larger than all that stand
+  place-one : (c : A) (bs : List (Block A)) → length bs ≡ m → how-many bs < m → Rule-3 home before m bs → ((x : A) → Stands m bs x → before x c ≡ true)
+      → Joined home before m c bs (place-from m (home c) m c bs)
+  place-one c bs p g r all =
+      let f = lands m c bs (home c) (ord .homes c) p g in
+      rw (f .is) (join-empty bs c (f .steps) p (f .few) r (λ l h. full-smaller c bs (home c + l) all (around m bs (home c + l)) refl (f .full l h)) (f .free))
 
   -- all chunks, by rising labels
-  pub placed-all : (cs : List A) (bs : List (Block A)) → length bs ≡ m → how-many bs + length cs ≤ m → Rising before cs → Rule-3 home before m bs
+  placed-all : (cs : List A) (bs : List (Block A)) → length bs ≡ m → how-many bs + length cs ≤ m → Rising before cs → Rule-3 home before m bs
       → ((x c : A) → Stands m bs x → Among c cs → before x c ≡ true) → Placing home before m cs bs (placed home m cs bs)
   unfolding placed
   placed-all [] bs p g u r all = record { long = p; rule-3 = r; stays = λ x t. t; comes = λ x t. absurd t; only = λ x t. inr t; count = omega arith }
@@ -156,12 +156,11 @@ module _ {A : Type 0} {home : A → ℕ} {before : A → A → Bool} {m : ℕ} (
       let one = place-one c bs p (omega arith) r (λ x t. all x c t (inl refl)) in
       go one (placed-all cs (place-from m (home c) m c bs) (one .long) (omega (arith, one .count)) (u .1) (one .rule-3) (λ x d t a. larger x d a (one .only x t)))
     where
-      larger : (x d : A) → Among d cs → Among x (c ∷ []) ⊎ Stands m bs x → before x d ≡ true
-      larger x d a (inl (inl e)) = rw e (u .0 d a)
-      larger x d a (inl (inr e)) = absurd e
+      larger : (x d : A) → Among d cs → (x ≡ c) ⊎ Stands m bs x → before x d ≡ true
+      larger x d a (inl e) = rw e (u .0 d a)
       larger x d a (inr t) = all x d t (inr a)
 
-      go : {mid now : List (Block A)} → Placing home before m (c ∷ []) bs mid → Placing home before m cs mid now → Placing home before m (c ∷ cs) bs now
+      go : {mid now : List (Block A)} → Joined home before m c bs mid → Placing home before m cs mid now → Placing home before m (c ∷ cs) bs now
       go {mid} {now} one rest = record {
         long = rest .long;
         rule-3 = rest .rule-3;
@@ -172,12 +171,11 @@ module _ {A : Type 0} {home : A → ℕ} {before : A → A → Bool} {m : ℕ} (
       }
         where
           comes : (x : A) → Among x (c ∷ cs) → Stands m now x
-          comes x (inl e) = rest .stays x (one .comes x (inl e))
+          comes x (inl e) = rest .stays x (rw e (one .comes))
           comes x (inr a) = rest .comes x a
 
-          then : (x : A) → Among x (c ∷ []) ⊎ Stands m bs x → Among x (c ∷ cs) ⊎ Stands m bs x
-          then x (inl (inl e)) = inl (inl e)
-          then x (inl (inr e)) = absurd e
+          then : (x : A) → (x ≡ c) ⊎ Stands m bs x → Among x (c ∷ cs) ⊎ Stands m bs x
+          then x (inl e) = inl (inl e)
           then x (inr t) = inr t
 
           only : (x : A) → Among x cs ⊎ Stands m mid x → Among x (c ∷ cs) ⊎ Stands m bs x
