@@ -177,6 +177,19 @@ module _ {A : Type 0} {home : A → ℕ} {before : A → A → Bool} {m : ℕ} (
         go (no u) (yes w) = block w
         go (no u) (no w) = other u w
 
+    -- what stands in the new table is d, in the hole, or stood there before
+    data Now (j : ℕ) (a : A) : Type 0 where
+      moved : j % m ≡ h % m → a ≡ d → Now j a
+      stayed : j % m ≢ h % m → j % m ≢ (h + t) % m → around m bs j ≡ holds a → Now j a
+
+    now : (j : ℕ) (a : A) → around m next j ≡ holds a → Now j a
+    now j a z = go (spot j)
+      where
+        go : Spot j → Now j a
+        go (hole u) = moved u (cc (next-hole j u))
+        go (block u) = absurd (true≢false (cc (next-block j u)))
+        go (other u w) = stayed u w (sym (next-else j u w) ∙ z)
+
     -- d crosses the hole t steps before its block
     pull-back : (home d + (x .steps - t)) % m ≡ h % m
     pull-back = steps-back m (home d + (x .steps - t)) h t (omega (arith, x .few)) (ap (λ (a : ℕ). a % m) (omega arith) ∙ x .there)
@@ -206,21 +219,8 @@ module _ {A : Type 0} {home : A → ℕ} {before : A → A → Bool} {m : ℕ} (
 
     -- c stands in the new table
     module _ (c : A) (k : ℕ) (w : k < m) (z : around m next (home c + k) ≡ holds c) where
-      -- .. at the hole: it is d
-      is-d : (home c + k) % m ≡ h % m → c ≡ d
-      is-d u = cc (next-hole (home c + k) u, z)
-
-      -- .. elsewhere: it stood there
-      stood : (home c + k) % m ≢ h % m → around m bs (home c + k) ≡ holds c
-      stood u = go (spot (home c + k))
-        where
-          go : Spot (home c + k) → around m bs (home c + k) ≡ holds c
-          go (hole a) = absurd (u a)
-          go (block a) = absurd (true≢false (cc (next-block (home c + k) a, z)))
-          go (other a b) = sym (next-else (home c + k) a b) ∙ z
-
       next-way : (l : ℕ) → l < k → Way home before m next (h + t) 1 d c k l
-      next-way l g = by (spot (home c + k))
+      next-way l g = by (now (home c + k) c z)
         where
           old : around m bs (home c + k) ≡ holds c → (home c + k) % m ≢ (h + t) % m → Way home before m bs h t e c k l → Spot (home c + l) → Way home before m next (h + t) 1 d c k l
           old o b (clear q) (hole a) = absurd (false≢true (cc (y .hollow, around-mod m bs (home c + l) h a)))
@@ -234,13 +234,12 @@ module _ {A : Type 0} {home : A → ℕ} {before : A → A → Bool} {m : ℕ} (
               ahead-of (same j) = absurd (b (ap (λ (i : ℕ). (home c + i) % m) (sym j) ∙ ahead y c l t q))
               ahead-of (more j) = absurd (omega arith)
 
-          by : Spot (home c + k) → Way home before m next (h + t) 1 d c k l
-          by (hole a) = let s = is-d a in rw s (clear (own-way k w (rw s at a) l g))
-          by (block a) = absurd (true≢false (cc (next-block (home c + k) a, z)))
-          by (other a b) = old (stood a) b (y .ways c k w (stood a) l g) (spot (home c + l))
+          by : Now (home c + k) c → Way home before m next (h + t) 1 d c k l
+          by (moved a s) = rw s (clear (own-way k w (rw s at a) l g))
+          by (stayed a b o) = old o b (y .ways c k w o l g) (spot (home c + l))
 
       next-behind : (a : ℕ) → a < y .past + t → (home c + k) % m ≡ (p + a) % m → a < k → (c ≡ d) ⊎ (before c d ≡ true)
-      next-behind a u q r = by (spot (home c + k))
+      next-behind a u q r = by (now (home c + k) c z)
         where
           before-d : (c ≡ e) ⊎ (before c e ≡ true) → before c d ≡ true
           before-d (inl j) = rw j larger
@@ -259,10 +258,9 @@ module _ {A : Type 0} {home : A → ℕ} {before : A → A → Bool} {m : ℕ} (
               (ap (λ (i : ℕ). i % m) (omega arith) ∙ q ∙ ap (λ (i : ℕ). i % m) (omega (arith, y .at))))
               (y .ways c k w o (k - (a - y .past)) (omega arith)))
 
-          by : Spot (home c + k) → (c ≡ d) ⊎ (before c d ≡ true)
-          by (hole i) = inl (is-d i)
-          by (block i) = absurd (true≢false (cc (next-block (home c + k) i, z)))
-          by (other i j) = old i (stood i) (which a (y .past))
+          by : Now (home c + k) c → (c ≡ d) ⊎ (before c d ≡ true)
+          by (moved i s) = inl s
+          by (stayed i j o) = old i o (which a (y .past))
 
     pull : Hole p f (h + t) 1 d next
     pull = record {
@@ -285,12 +283,11 @@ module _ {A : Type 0} {home : A → ℕ} {before : A → A → Bool} {m : ℕ} (
         go (other u w) = record { at = s .at; is = next-else (s .at) u w ∙ s .is }
 
     pull-only : (a : A) → Stands m next a → Stands m bs a
-    pull-only a s = go (spot (s .at))
+    pull-only a s = go (now (s .at) a (s .is))
       where
-        go : Spot (s .at) → Stands m bs a
-        go (hole u) = record { at = h + t; is = n ∙ sym (next-hole (s .at) u) ∙ s .is }
-        go (block u) = absurd (true≢false (cc (next-block (s .at) u, s .is)))
-        go (other u w) = record { at = s .at; is = sym (next-else (s .at) u w) ∙ s .is }
+        go : Now (s .at) a → Stands m bs a
+        go (moved u z) = record { at = h + t; is = n ∙ ap holds (sym z) }
+        go (stayed u w o) = record { at = s .at; is = o }
 
     pull-count : how-many next ≡ how-many bs
     pull-count =
