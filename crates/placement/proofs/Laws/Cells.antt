@@ -46,7 +46,7 @@ pub record Same {S R : Type 0} (s : Store S) (r : Store R) (m : ℕ) (f : R → 
   pub copy-valid : (x : R) → Valid x → (i j : ℕ) → i < m → j < m → Valid (r .copy x i j)
   pub swap-valid : (x : R) → Valid x → (i j : ℕ) → i < m → j < m → Valid (r .swap x i j)
 
-cond-out : {S R : Type 0} (f : R → S) (t : Bool) (a b : R) → cond t (f a) (f b) ≡ f (cond t a b)
+pub cond-out : {S R : Type 0} (f : R → S) (t : Bool) (a b : R) → cond t (f a) (f b) ≡ f (cond t a b)
 cond-out f true a b = refl
 cond-out f false a b = refl
 

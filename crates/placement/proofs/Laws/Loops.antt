@@ -97,11 +97,7 @@ module _ (look : ℕ → Label) (m : ℕ) (w : Label) where
   past-least : (c i : ℕ) → i ≤ past-lower look (w .level) c i
   unfolding past-lower
   past-least zero i = le-refl i
-  past-least (suc c) i = go (ltb 0 (look i .level) && ltb (look i .level) (w .level)) (past-least c (suc i))
-    where
-      go : (b : Bool) → suc i ≤ past-lower look (w .level) c (suc i) → i ≤ cond b (past-lower look (w .level) c (suc i)) i
-      go true h = omega arith
-      go false h = le-refl i
+  past-least (suc c) i = cond-valid (λ n. i ≤ n) (ltb 0 (look i .level) && ltb (look i .level) (w .level)) _ i (omega (arith, past-least c (suc i))) (le-refl i)
 
   past-probe : (c f i : ℕ) → i + c ≤ m → c ≤ f →
       probe look m w f i ≡ probe look m w (f - (past-lower look (w .level) c i - i)) (past-lower look (w .level) c i)

@@ -11,6 +11,7 @@ use Rattle.sizes.specs.Sizes.{beta}
 use Rattle.sizes.specs.Hash.{level}
 use Rattle.sizes.specs.declared.Sizes.{Sizes}
 use Rattle.placement.specs.declared.Order.{Order}
+use Rattle.placement.proofs.Laws.Cells.{cond-valid}
 use Rattle.skiplist.specs.Lists.{front, at-least, starts-one, run, first-key}
 unfoldable pub use Rattle.skiplist.specs.Parts.{last-from}
 use Rattle.skiplist.proofs.Laws.Runs.{opened}
@@ -25,12 +26,8 @@ last-more k (q ∷ p) x = last-more (q .key) p x
 pub last-opened : (st : Order → Bool) (k : ℕ) (p xs : List Order) → last-from k (opened st p xs) ≡ last-from (last-from k p) xs
 unfolding opened last-from
 last-opened st k p [] = refl
-last-opened st k p (x ∷ xs) = go (last-opened st k (x ∷ []) xs) (rw (last-more k p x) at (last-opened st k (p ++ x ∷ []) xs)) (st x)
-  where
-    go : last-from k (opened st (x ∷ []) xs) ≡ last-from (x .key) xs → last-from k (opened st (p ++ x ∷ []) xs) ≡ last-from (x .key) xs →
-        (t : Bool) → last-from k (cond t (opened st (x ∷ []) xs) (opened st (p ++ x ∷ []) xs)) ≡ last-from (x .key) xs
-    go a b true = a
-    go a b false = b
+last-opened st k p (x ∷ xs) =
+    cond-valid (λ (q : List Order). last-from k q ≡ last-from (x .key) xs) (st x) _ _ (last-opened st k (x ∷ []) xs) (rw (last-more k p x) at (last-opened st k (p ++ x ∷ []) xs))
 
 module _ (s : Sizes) (l : ℕ) where
   pub first-opened : (p xs : List Order) → 0 < length p → Up 1 xs →
@@ -83,34 +80,21 @@ pub below-opened : (st : Order → Bool) (k : ℕ) (p xs : List Order) → below
 unfolding below opened
 below-opened st k p [] e f = e
 below-opened st k p (x ∷ xs) e f =
-    go (below-opened st k (x ∷ []) xs x-low (and-right (ltb (x .key) k) (below k xs) f))
-    (below-opened st k (p ++ x ∷ []) xs (below-both k p (x ∷ []) e x-low) (and-right (ltb (x .key) k) (below k xs) f)) (st x)
-  where
-    x-low : (ltb (x .key) k && true) ≡ true
-    x-low = rw (and-left (ltb (x .key) k) (below k xs) f)
-
-    go : below k (opened st (x ∷ []) xs) ≡ true → below k (opened st (p ++ x ∷ []) xs) ≡ true →
-        (t : Bool) → below k (cond t (opened st (x ∷ []) xs) (opened st (p ++ x ∷ []) xs)) ≡ true
-    go a b true = a
-    go a b false = b
+    let low : (ltb (x .key) k && true) ≡ true = rw (and-left (ltb (x .key) k) (below k xs) f) in
+    let later = and-right (ltb (x .key) k) (below k xs) f in
+    cond-valid (λ (q : List Order). below k q ≡ true) (st x) _ _ (below-opened st k (x ∷ []) xs low later) (below-opened st k (p ++ x ∷ []) xs (below-both k p (x ∷ []) e low) later)
 
 pub below-at-least : (s : Sizes) (l k : ℕ) (xs : List Order) → below k xs ≡ true → below k (at-least s l xs) ≡ true
 unfolding below at-least
 below-at-least s l k [] e = refl
-below-at-least s l k (x ∷ xs) e = go (below-at-least s l k xs (and-right (ltb (x .key) k) (below k xs) e)) (leb l (level s (x .key)))
-  where
-    go : below k (at-least s l xs) ≡ true → (t : Bool) → below k (cond t (x ∷ at-least s l xs) (at-least s l xs)) ≡ true
-    go ih true = rw (and-left (ltb (x .key) k) (below k xs) e) ih
-    go ih false = ih
+below-at-least s l k (x ∷ xs) e =
+    let ih = below-at-least s l k xs (and-right (ltb (x .key) k) (below k xs) e) in
+    cond-valid (λ (q : List Order). below k q ≡ true) (leb l (level s (x .key))) _ _ (rw (and-left (ltb (x .key) k) (below k xs) e) ih) ih
 
 pub run-up : (st : Order → Bool) (a : ℕ) (xs : List Order) → Up a xs → Up a (run st xs)
 unfolding run
 run-up st a [] u = tt
-run-up st a (x ∷ xs) u = go (run-up st (suc (x .key)) xs (u .1)) (st x)
-  where
-    go : Up (suc (x .key)) (run st xs) → (t : Bool) → Up a (cond t [] (x ∷ run st xs))
-    go ih true = tt
-    go ih false = (u .0, ih)
+run-up st a (x ∷ xs) u = cond-valid (Up a) (st x) [] (x ∷ run st xs) tt (u .0, run-up st (suc (x .key)) xs (u .1))
 
 module _ (s : Sizes) (l : ℕ) where
   pub head-below : (k : ℕ) (xs : List Order) → 0 < k → below k xs ≡ true → below k (head-part s l xs) ≡ true

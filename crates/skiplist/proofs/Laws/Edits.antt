@@ -11,6 +11,7 @@ use Rattle.sizes.specs.Sizes.{beta}
 use Rattle.sizes.specs.Hash.{h, divides-from, level}
 use Rattle.sizes.specs.declared.Sizes.{Sizes}
 use Rattle.placement.specs.declared.Order.{Order}
+use Rattle.placement.proofs.Laws.Cells.{cond-valid}
 use Rattle.skiplist.specs.Lists.{front, at-least, list-at, starts-one, run, rest, partitions, first-key}
 unfoldable pub use Rattle.skiplist.specs.Parts.{head-part}
 use Rattle.skiplist.proofs.Laws.Runs.{closed, opened, runs-split, partitions-front}
@@ -19,11 +20,8 @@ use Rattle.skiplist.proofs.Laws.Parts.{Up, Heads, up-past, first-more, 
 pub divides-most : (left j c v : ℕ) → divides-from left j c v ≤ j + left
 unfolding divides-from
 divides-most zero j c v = omega arith
-divides-most (suc k) j c v = go (eqb (v % c ^ suc j) 0) (divides-most k (suc j) c v)
-  where
-    go : (t : Bool) → divides-from k (suc j) c v ≤ suc j + k → cond t (divides-from k (suc j) c v) j ≤ j + suc k
-    go true e = omega arith
-    go false e = omega arith
+divides-most (suc k) j c v =
+    cond-valid (λ n. n ≤ j + suc k) (eqb (v % c ^ suc j) 0) _ j (omega (arith, divides-most k (suc j) c v)) (omega arith)
 
 pub beta-least : (s : Sizes) → 2 ≤ beta s
 unfolding beta
@@ -31,28 +29,18 @@ beta-least s = omega arith
 
 pub level-most : (s : Sizes) (x : ℕ) → level s x ≤ beta s
 unfolding level
-level-most s x = go (eqb x 0)
-  where
-    go : (t : Bool) → cond t (beta s) (suc (divides-from (beta s - 1) 0 (s .gamma) (h s x))) ≤ beta s
-    go true = omega arith
-    go false = omega (arith, beta-least s, divides-most (beta s - 1) 0 (s .gamma) (h s x))
+level-most s x =
+    cond-valid (λ n. n ≤ beta s) (eqb x 0) _ _ (omega arith) (omega (arith, beta-least s, divides-most (beta s - 1) 0 (s .gamma) (h s x)))
 
 pub level-least : (s : Sizes) (x : ℕ) → 1 ≤ level s x
 unfolding level
-level-least s x = go (eqb x 0)
-  where
-    go : (t : Bool) → 1 ≤ cond t (beta s) (suc (divides-from (beta s - 1) 0 (s .gamma) (h s x)))
-    go true = omega (arith, beta-least s)
-    go false = omega arith
+level-least s x = cond-valid (λ n. 1 ≤ n) (eqb x 0) _ _ (omega (arith, beta-least s)) (omega arith)
 
 pub opened-long : (st : Order → Bool) (p xs : List Order) → 0 < length p → 0 < length (opened st p xs)
 unfolding opened
 opened-long st p [] h = h
-opened-long st p (x ∷ xs) h = go (st x) (opened-long st (x ∷ []) xs (omega arith)) (opened-long st (p ++ x ∷ []) xs (simp length-append (omega arith)))
-  where
-    go : (t : Bool) → 0 < length (opened st (x ∷ []) xs) → 0 < length (opened st (p ++ x ∷ []) xs) → 0 < length (cond t (opened st (x ∷ []) xs) (opened st (p ++ x ∷ []) xs))
-    go true a b = a
-    go false a b = b
+opened-long st p (x ∷ xs) h =
+    cond-valid (λ (q : List Order). 0 < length q) (st x) _ _ (opened-long st (x ∷ []) xs (omega arith)) (opened-long st (p ++ x ∷ []) xs (simp length-append (omega arith)))
 
 module _ (s : Sizes) (l : ℕ) where
   -- an order of a higher level starts a partition, and one of this level none
@@ -101,11 +89,7 @@ module _ (s : Sizes) (l : ℕ) where
 
   pub after-not : (y : Order) (zs : List Order) → 0 < y .key → level s (y .key) ≤ l → parts-after (y ∷ zs) ≡ parts-after zs
   unfolding parts-after at-least rest
-  after-not y zs p h = go (leb l (level s (y .key)))
-    where
-      go : (t : Bool) → rest (starts-one s l) (cond t (y ∷ at-least s l zs) (at-least s l zs)) ≡ rest (starts-one s l) (at-least s l zs)
-      go true = rw (stays y p h)
-      go false = refl
+  after-not y zs p h = cond-valid (λ (r : List Order). rest (starts-one s l) r ≡ parts-after zs) (leb l (level s (y .key))) _ _ (rw (stays y p h)) refl
 
   pub tail-high : (y : Order) (zs : List Order) → l < level s (y .key) → tail-part (y ∷ zs) ≡ []
   unfolding tail-part at-least run

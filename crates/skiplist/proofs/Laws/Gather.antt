@@ -1,6 +1,6 @@
 -- The orders gathered from the blocks, in whatever order their chunks stand, are those placed.
 use mathlib.Core.Path.{_≡_, refl, sym, ap, _∙_}
-use mathlib.Core.Bool.{Bool, true, false, cond, true≢false}
+use mathlib.Core.Bool.{true, cond, true≢false}
 use mathlib.Core.List.{List, [], _∷_, _++_}
 use mathlib.Core.Logic.{_⊎_, inl, inr}
 use Prim.Native.Nat.{ℕ, zero, suc, _+_, _%_, _≤_, _<_}
@@ -19,6 +19,7 @@ use Rattle.placement.proofs.Laws.Placed.{how-many-empty, store-count, lands, no
 use Rattle.placement.proofs.Laws.Labels.{home-inside}
 use Rattle.placement.proofs.Laws.Maps.{lawful}
 use Rattle.placement.proofs.Laws.Kinds.{ordered}
+use Rattle.placement.proofs.Laws.Cells.{cond-out}
 use Rattle.skiplist.specs.Lists.{front, chunks, blocks}
 use Rattle.skiplist.specs.Image.{all-into, gathered}
 use Rattle.skiplist.proofs.Laws.Parts.{Up, up-front, below}
@@ -32,11 +33,7 @@ ones c = cond (eqb (c .label .level) 1) (c .nodes) []
 
 gathered-more : (c : Chunk) (bs : List (Block Chunk)) (acc : List Order) → gathered (holds c ∷ bs) acc ≡ gathered bs (all-into (ones c) acc)
 unfolding gathered ones all-into
-gathered-more c bs acc = go (eqb (c .label .level) 1)
-  where
-    go : (t : Bool) → gathered bs (cond t (all-into (c .nodes) acc) acc) ≡ gathered bs (all-into (cond t (c .nodes) []) acc)
-    go true = refl
-    go false = refl
+gathered-more c bs acc = ap (gathered bs) (cond-out (λ (ns : List Order). all-into ns acc) (eqb (c .label .level) 1) (c .nodes) [])
 
 -- their keys are all below a
 abbrev Under : (a : ℕ) → List (Block Chunk) → Type 0

@@ -7,6 +7,7 @@ use native.Mathlib.Omega.{arith}
 use borrow.Author.Tests.{le-leb, lt-leb, lt-ltb, le-ltb}
 use lib.Dec.{ltb, leb}
 use Rattle.placement.specs.declared.Order.{Order}
+use Rattle.placement.proofs.Laws.Cells.{cond-out}
 use Rattle.skiplist.specs.Lists.{front, at-least, list-at, starts-one, run, rest}
 use Rattle.skiplist.specs.Rules.{from-to, from-on, paper-sets, Paper-partitions, Paper-top}
 use Rattle.skiplist.proofs.Laws.Runs.{partitions-front}
@@ -29,12 +30,8 @@ within-append lo mid hi (x ∷ xs) ys g h w v = (w .0, omega (arith, w .1), with
 from-to-append : (lo hi : ℕ) (xs ys : List Order) → from-to lo hi (xs ++ ys) ≡ from-to lo hi xs ++ from-to lo hi ys
 unfolding from-to
 from-to-append lo hi [] ys = refl
-from-to-append lo hi (x ∷ xs) ys = go (leb lo (x .key) && ltb (x .key) hi) (from-to-append lo hi xs ys)
-  where
-    go : (t : Bool) → from-to lo hi (xs ++ ys) ≡ from-to lo hi xs ++ from-to lo hi ys →
-        cond t (x ∷ from-to lo hi (xs ++ ys)) (from-to lo hi (xs ++ ys)) ≡ cond t (x ∷ from-to lo hi xs) (from-to lo hi xs) ++ from-to lo hi ys
-    go true e = ap (λ (z : List Order). x ∷ z) e
-    go false e = e
+from-to-append lo hi (x ∷ xs) ys =
+    rw (from-to-append lo hi xs ys) (cond-out (λ (r : List Order). r ++ from-to lo hi ys) (leb lo (x .key) && ltb (x .key) hi) (x ∷ from-to lo hi xs) (from-to lo hi xs))
 
 from-to-in : (lo hi : ℕ) (xs : List Order) → Within lo hi xs → from-to lo hi xs ≡ xs
 unfolding from-to

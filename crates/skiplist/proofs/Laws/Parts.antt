@@ -1,6 +1,6 @@
 -- Rising orders, good orders taken apart, and the partition that a key heads.
 use mathlib.Core.Path.{_≡_, refl}
-use mathlib.Core.Bool.{Bool, true, false, _&&_, _||_, cond, false≢true}
+use mathlib.Core.Bool.{Bool, true, false, _&&_, _||_, false≢true}
 use mathlib.Core.List.{List, [], _∷_, _++_, append-nil}
 use Prim.Native.Nat.{ℕ, suc, _≤_, _<_}
 use native.Mathlib.Omega.{arith}
@@ -11,7 +11,8 @@ use Rattle.sizes.specs.Sizes.{prime}
 use Rattle.sizes.specs.Hash.{level}
 use Rattle.sizes.specs.declared.Sizes.{Sizes}
 use Rattle.placement.specs.declared.Order.{Order}
-use Rattle.skiplist.specs.Lists.{at-least, run, rest, first-key}
+use Rattle.placement.proofs.Laws.Cells.{cond-out, cond-valid}
+use Rattle.skiplist.specs.Lists.{at-least, rest, first-key}
 use Rattle.skiplist.specs.Image.{quantities-good, orders-good}
 use Rattle.skiplist.specs.Questions.{without}
 unfoldable pub use Rattle.skiplist.specs.Parts.{Up, below, pick, part}
@@ -81,30 +82,22 @@ module _ (s : Sizes) (l : ℕ) where
   pub at-least-append : (xs zs : List Order) → at-least s l (xs ++ zs) ≡ at-least s l xs ++ at-least s l zs
   unfolding at-least
   at-least-append [] zs = refl
-  at-least-append (x ∷ xs) zs = rw (at-least-append xs zs) (go (leb l (level s (x .key))))
-    where
-      go : (t : Bool) → cond t (x ∷ (at-least s l xs ++ at-least s l zs)) (at-least s l xs ++ at-least s l zs) ≡ cond t (x ∷ at-least s l xs) (at-least s l xs) ++ at-least s l zs
-      go true = refl
-      go false = refl
+  at-least-append (x ∷ xs) zs = rw (at-least-append xs zs) (cond-out (λ (r : List Order). r ++ at-least s l zs) (leb l (level s (x .key))) (x ∷ at-least s l xs) (at-least s l xs))
 
   pub at-least-up : (a : ℕ) (xs : List Order) → Up a xs → Up a (at-least s l xs)
   unfolding at-least
   at-least-up a [] u = tt
-  at-least-up a (x ∷ xs) u = go (leb l (level s (x .key))) (at-least-up _ xs (u .1))
-    where
-      go : (t : Bool) → Up (suc (x .key)) (at-least s l xs) → Up a (cond t (x ∷ at-least s l xs) (at-least s l xs))
-      go true v = (u .0, v)
-      go false v = up-from (at-least s l xs) (omega (arith, u .0)) v
+  at-least-up a (x ∷ xs) u =
+      let v = at-least-up _ xs (u .1) in
+      cond-valid (Up a) (leb l (level s (x .key))) _ _ (u .0, v) (up-from (at-least s l xs) (omega (arith, u .0)) v)
 
 module _ (st : Order → Bool) where
   pub rest-heads : (a : ℕ) (xs : List Order) → Up a xs → Heads a (rest st xs)
   unfolding rest first-key
   rest-heads a [] u = tt
-  rest-heads a (x ∷ xs) u = go (st x) (rest-heads _ xs (u .1))
-    where
-      go : (t : Bool) → Heads (suc (x .key)) (rest st xs) → Heads a (cond t ((x ∷ run st xs) ∷ rest st xs) (rest st xs))
-      go true v = (u .0, v)
-      go false v = heads-from (rest st xs) (omega (arith, u .0)) v
+  rest-heads a (x ∷ xs) u =
+      let v = rest-heads _ xs (u .1) in
+      cond-valid (Heads a) (st x) _ _ (u .0, v) (heads-from (rest st xs) (omega (arith, u .0)) v)
 
 pub pick-past : (f : ℕ) (ps : List (List Order)) (a : ℕ) → f < a → Heads a ps → pick f ps ≡ []
 unfolding pick

@@ -9,6 +9,7 @@ use lib.Dec.{ltb, leb, eqb}
 use Rattle.sizes.specs.Hash.{level}
 use Rattle.sizes.specs.declared.Sizes.{Sizes}
 use Rattle.placement.specs.declared.Order.{Order}
+use Rattle.placement.proofs.Laws.Cells.{cond-valid}
 use Rattle.skiplist.specs.Lists.{front, at-least, list-at, starts-one, run, rest, first-key}
 use Rattle.skiplist.specs.Image.{into}
 use Rattle.skiplist.specs.Questions.{held, without, with-order}
@@ -119,11 +120,9 @@ from-none st f (x ∷ xs) e = rw (or-left (eqb (x .key) f) (held f xs) e) (from-
 held-least : (s : Sizes) (l f : ℕ) (xs : List Order) → held f xs ≡ false → held f (at-least s l xs) ≡ false
 unfolding held at-least
 held-least s l f [] e = e
-held-least s l f (x ∷ xs) e = go (leb l (level s (x .key))) (held-least s l f xs (or-right (eqb (x .key) f) (held f xs) e))
-  where
-    go : (t : Bool) → held f (at-least s l xs) ≡ false → held f (cond t (x ∷ at-least s l xs) (at-least s l xs)) ≡ false
-    go true h = rw (or-left (eqb (x .key) f) (held f xs) e) h
-    go false h = h
+held-least s l f (x ∷ xs) e =
+    let ih = held-least s l f xs (or-right (eqb (x .key) f) (held f xs) e) in
+    cond-valid (λ (q : List Order). held f q ≡ false) (leb l (level s (x .key))) _ _ (rw (or-left (eqb (x .key) f) (held f xs) e) ih) ih
 
 pub part-none : (s : Sizes) (os : List Order) (l f : ℕ) → Up 1 os → 0 < f → held f os ≡ false → part s os l f ≡ []
 unfolding list-at held front

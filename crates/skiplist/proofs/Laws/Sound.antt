@@ -19,6 +19,7 @@ use Rattle.placement.specs.declared.Order.{Order}
 use Rattle.sizes.proofs.Laws.Sizes.{some-blocks}
 use Rattle.placement.proofs.Laws.Kinds.{map-only}
 use Rattle.placement.proofs.Laws.Maps.{lawful}
+use Rattle.placement.proofs.Laws.Cells.{cond-valid}
 use Rattle.skiplist.specs.Lists.{front, at-least, list-at, partitions, first-key, masked, chunks}
 use Rattle.skiplist.specs.Image.{quantities-good, orders-good, fits}
 use Rattle.skiplist.specs.Rules.{Piece}
@@ -57,11 +58,9 @@ record Some (os xs : List Order) : Type 0 where
 least-some : (s : Sizes) (k : ℕ) (os : List Order) → Some os (at-least s k os)
 unfolding at-least
 least-some s k [] = record { few = omega arith; fine = λ f. f }
-least-some s k (o ∷ os) = go (leb k (level s (o .key))) (least-some s k os)
-  where
-    go : (t : Bool) → Some os (at-least s k os) → Some (o ∷ os) (cond t (o ∷ at-least s k os) (at-least s k os))
-    go true w = record { few = omega (arith, w .few); fine = λ f. (f .0, w .fine (f .1)) }
-    go false w = record { few = omega (arith, w .few); fine = λ f. w .fine (f .1) }
+least-some s k (o ∷ os) =
+    let w = least-some s k os in
+    cond-valid (Some (o ∷ os)) (leb k (level s (o .key))) _ _ (record { few = omega (arith, w .few); fine = λ f. (f .0, w .fine (f .1)) }) (record { few = omega (arith, w .few); fine = λ f. w .fine (f .1) })
 
 list-some : (s : Sizes) (k : ℕ) (os : List Order) → Some (front ∷ os) (list-at s k os)
 unfolding list-at

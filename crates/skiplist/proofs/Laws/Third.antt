@@ -12,6 +12,7 @@ use Rattle.sizes.specs.Sizes.{sizes-good, seed-good, made}
 use Rattle.sizes.specs.Header.{table-long, sizes-in, held-in, rule-1}
 use Rattle.sizes.specs.declared.Sizes.{Sizes}
 use Rattle.placement.specs.declared.Order.{Order}
+use Rattle.placement.proofs.Laws.Cells.{cond-out}
 use Rattle.skiplist.specs.Image.{image, orders-in, orders-good, fits, same, is-image}
 use Rattle.skiplist.specs.Questions.{first-no, is-key, held, asks-image, asks-put}
 use Rattle.skiplist.specs.Book.{Call, put, asks, changed, book-refusal, booked, book, refusal, done, after}
@@ -108,11 +109,7 @@ module _ (reads : Image-reads-back) where
   unfolding Image-reads-back done refusal booked book-refusal first-no asks-image
   done-image s c os m w =
       let r = reads s os m (w .good) (w .fit) in
-      rw (r .0, r .1, r .2) (go (eqb (first-no (asks s c os)) 0))
-    where
-      go : (t : Bool) → cond t (image s (changed c os)) (image s os) ≡ image s (cond t (changed c os) os)
-      go true = refl
-      go false = refl
+      rw (r .0, r .1, r .2) (cond-out (image s) (eqb (first-no (asks s c os)) 0) (changed c os) os)
 
   pub after-image : (s : Sizes) (cs : List Call) (os : List Order) → made s ≡ true → Kept s os → after cs (image s os) ≡ image s (book s cs os)
   unfolding after book
