@@ -5,13 +5,14 @@ use mathlib.Core.List.{List, [], _∷_, _++_, map}
 use Prim.Native.Nat.{ℕ, zero, suc, _+_, _-_, _/_, _≤_, _<_}
 use native.Mathlib.Nat.{add-suc, suc-add, add-zero, div-eq-of-lt, zero-div, div-eq-sub-div, lt-div-mul-add, div-lt-iff-lt-mul, div-mul-le-self, le-div-iff-mul-le}
 use native.Mathlib.Omega.{arith}
-use borrow.Author.Tests.{ltb-true, ltb-false, eqb-true, eqb-false}
-use lib.Dec.{ltb, eqb}
+use borrow.Author.Tests.{ltb-true, ltb-false}
+use lib.Dec.{ltb}
 use lib.ListN.{length, drop, length-append, length-drop, length-map}
 use Rattle.sizes.specs.Sizes.{beta}
 use Rattle.sizes.specs.Hash.{level}
 use Rattle.sizes.specs.declared.Sizes.{Sizes}
 use Rattle.placement.specs.declared.Order.{Order}
+use Rattle.sizes.proofs.Laws.Round.{Which, which, less, same, more}
 use Rattle.skiplist.specs.Lists.{front, at-least, list-at, starts-one, run, rest, partitions, first-key, masked, chunks-of, all-chunks, chunks-from, chunks}
 unfoldable pub use Rattle.skiplist.specs.Parts.{pieces, pieces-all, count, counts}
 use Rattle.skiplist.proofs.Laws.Edits.{head-part, tail-part, parts-before, parts-after, parts-split, head-part-long, tail-low, tail-same, after-not, tail-high, after-high}
@@ -91,23 +92,12 @@ module _ (s : Sizes) (l : ℕ) (xs : List Order) (y : Order) (zs : List Order) (
 
   -- one more order never makes chunks fewer
   pub count-more : 0 < s .nodes → count s l (xs ++ zs) ≤ count s l (xs ++ y ∷ zs)
-  count-more h = go (ltb l (level s (y .key))) refl (eqb l (level s (y .key))) refl
+  count-more h = go (which l (level s (y .key)))
     where
-      go : (t : Bool) → ltb l (level s (y .key)) ≡ t → (r : Bool) → eqb l (level s (y .key)) ≡ r → count s l (xs ++ zs) ≤ count s l (xs ++ y ∷ zs)
-      go true e r q =
-          omega (
-            arith,
-            count-high (ltb-true l (level s (y .key)) e),
-            pieces-cut (s .nodes) (length (head-part s l xs)) (length (tail-part s l zs)) h (head-part-long s l xs),
-          )
-      go false e true q =
-          omega (
-            arith,
-            count-same (sym (eqb-true l (level s (y .key)) q)),
-            pieces-up (s .nodes) (length (head-part s l xs) + length (tail-part s l zs)) h,
-          )
-      go false e false q =
-          omega (arith, count-low (omega (arith, ltb-false l (level s (y .key)) e, eqb-false l (level s (y .key)) q)))
+      go : Which l (level s (y .key)) → count s l (xs ++ zs) ≤ count s l (xs ++ y ∷ zs)
+      go (less e) = omega (arith, count-high e, pieces-cut (s .nodes) (length (head-part s l xs)) (length (tail-part s l zs)) h (head-part-long s l xs))
+      go (same e) = omega (arith, count-same (sym e), pieces-up (s .nodes) (length (head-part s l xs) + length (tail-part s l zs)) h)
+      go (more e) = omega (arith, count-low e)
 
 pub counts-more : (k l : ℕ) (s : Sizes) (xs : List Order) (y : Order) (zs : List Order) → 0 < y .key → 0 < s .nodes → counts k l s (xs ++ zs) ≤ counts k l s (xs ++ y ∷ zs)
 unfolding counts

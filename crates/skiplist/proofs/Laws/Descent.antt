@@ -1,17 +1,18 @@
 -- The way down: the partition that is open at a level after some orders is headed by the last node of the one open a level up.
 use mathlib.Core.Path.{_≡_, refl, sym, _∙_}
-use mathlib.Core.Bool.{Bool, true, false, _&&_, cond}
+use mathlib.Core.Bool.{Bool, true, _&&_, cond}
 use mathlib.Core.List.{List, [], _∷_, _++_}
 use Prim.Native.Nat.{ℕ, suc, _<_}
 use native.Mathlib.Omega.{arith}
-use borrow.Author.Tests.{ltb-true, ltb-false, eqb-true, eqb-false, le-leb, lt-leb, lt-ltb}
-use lib.Dec.{ltb, leb, eqb}
+use borrow.Author.Tests.{le-ltb, le-leb, lt-leb, lt-ltb}
+use lib.Dec.{ltb, leb}
 use lib.ListN.{length, length-append}
 use Rattle.sizes.specs.Sizes.{beta}
 use Rattle.sizes.specs.Hash.{level}
 use Rattle.sizes.specs.declared.Sizes.{Sizes}
 use Rattle.placement.specs.declared.Order.{Order}
 use Rattle.placement.proofs.Laws.Cells.{cond-valid}
+use Rattle.sizes.proofs.Laws.Round.{Which, which, less, same, more}
 use Rattle.skiplist.specs.Lists.{front, at-least, starts-one, run, first-key}
 unfoldable pub use Rattle.skiplist.specs.Parts.{last-from}
 use Rattle.skiplist.proofs.Laws.Runs.{opened}
@@ -35,19 +36,16 @@ module _ (s : Sizes) (l : ℕ) where
   unfolding opened last-from at-least first-key
   first-opened p [] h u = refl
   first-opened p (x ∷ xs) h u =
-      go (λ q g. first-opened q xs g (up-from xs (omega arith) (u .1))) (ltb l (level s (x .key))) refl (eqb l (level s (x .key))) refl
+      go (λ q g. first-opened q xs g (up-from xs (omega arith) (u .1))) (which l (level s (x .key)))
     where
-      go : ((q : List Order) → 0 < length q → first-key (opened (starts-one s l) q (at-least s l xs)) ≡ last-from (first-key q) (at-least s (suc l) xs)) →
-          (t : Bool) → ltb l (level s (x .key)) ≡ t → (r : Bool) → eqb l (level s (x .key)) ≡ r →
+      go : ((q : List Order) → 0 < length q → first-key (opened (starts-one s l) q (at-least s l xs)) ≡ last-from (first-key q) (at-least s (suc l) xs)) → Which l (level s (x .key)) →
           first-key (opened (starts-one s l) p (cond (leb l (level s (x .key))) (x ∷ at-least s l xs) (at-least s l xs)))
           ≡ last-from (first-key p) (cond (leb (suc l) (level s (x .key))) (x ∷ at-least s (suc l) xs) (at-least s (suc l) xs))
-      go ih true e r f =
-          rw (le-leb l (level s (x .key)) (omega (arith, ltb-true l (level s (x .key)) e)), e, starts s l x (ltb-true l (level s (x .key)) e)) (ih (x ∷ []) (omega arith))
-      go ih false e true f =
-          rw (le-leb l (level s (x .key)) (omega (arith, eqb-true l (level s (x .key)) f)), e, stays s l x (u .0) (ltb-false l (level s (x .key)) e), ← first-more p (x ∷ []) h)
+      go ih (less e) = rw (le-leb l (level s (x .key)) (omega arith), lt-ltb l (level s (x .key)) e, starts s l x e) (ih (x ∷ []) (omega arith))
+      go ih (same e) =
+          rw (le-leb l (level s (x .key)) (omega arith), le-ltb l (level s (x .key)) (omega arith), stays s l x (u .0) (omega arith), ← first-more p (x ∷ []) h)
           (ih (p ++ x ∷ []) (simp length-append (omega arith)))
-      go ih false e false f =
-          rw (lt-leb l (level s (x .key)) (omega (arith, ltb-false l (level s (x .key)) e, eqb-false l (level s (x .key)) f)), e) (ih p h)
+      go ih (more e) = rw (lt-leb l (level s (x .key)) e, le-ltb l (level s (x .key)) (omega arith)) (ih p h)
 
   -- ONE LEVEL DOWN
   pub step-down : (xs : List Order) → Up 1 xs → first-key (head-part s l xs) ≡ last-from 0 (head-part s (suc l) xs)

@@ -10,6 +10,7 @@ use lib.ListN.{length, length-append}
 use Rattle.sizes.specs.Sizes.{prime, beta}
 use Rattle.sizes.specs.declared.Sizes.{Sizes}
 use Rattle.placement.specs.declared.Order.{Order}
+use Rattle.placement.proofs.Laws.Cells.{cond-valid}
 use Rattle.skiplist.specs.Lists.{chunks}
 use Rattle.skiplist.specs.Image.{into, quantities-good, orders-good, fits}
 use Rattle.skiplist.specs.Questions.{first-no, is-key, held, without, with-order, order, asks-put, asks-key}
@@ -32,11 +33,10 @@ good-from a b (o ∷ os) h e = let w = good-parts a o os e in good-make b o os (
 pub good-without : (a k : ℕ) (os : List Order) → orders-good a os ≡ true → orders-good a (without k os) ≡ true
 unfolding without
 good-without a k [] e = e
-good-without a k (o ∷ os) e = go (good-parts a o os e) (λ e′. good-without (suc (o .key)) k os e′) (eqb (o .key) k)
-  where
-    go : Good a o os → (orders-good (suc (o .key)) os ≡ true → orders-good (suc (o .key)) (without k os) ≡ true) → (t : Bool) → orders-good a (cond t os (o ∷ without k os)) ≡ true
-    go w ih true = good-from (suc (o .key)) a os (omega arith) (w .others)
-    go w ih false = good-make a o (without k os) (w .from) (w .key) (w .quantity) (ih (w .others))
+good-without a k (o ∷ os) e =
+    let w = good-parts a o os e in
+    cond-valid (λ (q : List Order). orders-good a q ≡ true) (eqb (o .key) k) _ _ (good-from (suc (o .key)) a os (omega arith) (w .others))
+    (good-make a o (without k os) (w .from) (w .key) (w .quantity) (good-without (suc (o .key)) k os (w .others)))
 
 pub good-into : (a : ℕ) (y : Order) (os : List Order) → a ≤ y .key → ltb (y .key) prime ≡ true → quantities-good (y .total) (y .displayed) ≡ true → held (y .key) os ≡ false →
     orders-good a os ≡ true → orders-good a (into y os) ≡ true

@@ -11,6 +11,7 @@ use Rattle.sizes.specs.Sizes.{beta}
 use Rattle.placement.specs.Chunks.{Chunk}
 use Rattle.sizes.specs.declared.Sizes.{Sizes}
 use Rattle.placement.specs.declared.Order.{Order}
+use Rattle.placement.proofs.Laws.Cells.{cond-out}
 use Rattle.skiplist.specs.Lists.{front, at-least, list-at, starts-one, partitions, first-key, masked, chunks-of, all-chunks, chunks}
 use Rattle.skiplist.specs.Image.{into, all-into}
 use Rattle.skiplist.proofs.Laws.Runs.{partitions-front}
@@ -74,11 +75,10 @@ into-comm a b (q ∷ os) h = go (into-comm a b os h) (ltb (a .key) (q .key)) ref
 pub into-past : (n : Order) (vs acc : List Order) → below (n .key) vs ≡ true → into n (all-into vs acc) ≡ all-into vs (into n acc)
 unfolding all-into below
 into-past n [] acc e = refl
-into-past n (v ∷ vs) acc e = into-past n vs (cond (eqb (v .key) 0) acc (into v acc)) (and-right (ltb (v .key) (n .key)) (below (n .key) vs) e) ∙ ap (all-into vs) (go (eqb (v .key) 0))
-  where
-    go : (t : Bool) → into n (cond t acc (into v acc)) ≡ cond t (into n acc) (into v (into n acc))
-    go true = refl
-    go false = sym (into-comm v n acc (ltb-true (v .key) (n .key) (and-left (ltb (v .key) (n .key)) (below (n .key) vs) e)))
+into-past n (v ∷ vs) acc e =
+    let later = into-comm v n acc (ltb-true (v .key) (n .key) (and-left (ltb (v .key) (n .key)) (below (n .key) vs) e)) in
+    into-past n vs (cond (eqb (v .key) 0) acc (into v acc)) (and-right (ltb (v .key) (n .key)) (below (n .key) vs) e)
+    ∙ ap (all-into vs) (rw later (sym (cond-out (into n) (eqb (v .key) 0) acc (into v acc))))
 
 pub below-more : (a b : ℕ) (xs : List Order) → a ≤ b → below a xs ≡ true → below b xs ≡ true
 unfolding below
@@ -91,11 +91,8 @@ pub all-comm : (a : ℕ) (ns vs acc : List Order) → Up a ns → below a vs ≡
 unfolding all-into
 all-comm a [] vs acc u e = refl
 all-comm a (n ∷ ns) vs acc u e =
-    ap (all-into ns) (go (eqb (n .key) 0)) ∙ all-comm (suc (n .key)) ns vs (cond (eqb (n .key) 0) acc (into n acc)) (u .1) (below-more a (suc (n .key)) vs (omega (arith, u .0)) e)
-  where
-    go : (t : Bool) → cond t (all-into vs acc) (into n (all-into vs acc)) ≡ all-into vs (cond t acc (into n acc))
-    go true = refl
-    go false = into-past n vs acc (below-more a (n .key) vs (u .0) e)
+    ap (all-into ns) (rw (into-past n vs acc (below-more a (n .key) vs (u .0) e)) (cond-out (all-into vs) (eqb (n .key) 0) acc (into n acc)))
+    ∙ all-comm (suc (n .key)) ns vs (cond (eqb (n .key) 0) acc (into n acc)) (u .1) (below-more a (suc (n .key)) vs (omega (arith, u .0)) e)
 
 -- rising ones come out as they are
 pub all-rising : (xs zs : List Order) → Up 1 (xs ++ zs) → all-into zs xs ≡ xs ++ zs

@@ -1,7 +1,7 @@
 -- Every chunk of good orders that fit is one that a block can hold, and has nodes.
 use mathlib.Core.Path.{_≡_, ap}
 use mathlib.Core.Logic.{inl, inr, _≢_}
-use mathlib.Core.Bool.{Bool, true, false, _&&_, cond}
+use mathlib.Core.Bool.{true, _&&_, cond}
 use mathlib.Core.List.{List, [], _∷_, _++_, map}
 use Prim.Native.Nat.{ℕ, suc, _*_, _≤_, _<_}
 use native.Mathlib.Nat.{le-mul-of-pos-right}
@@ -84,11 +84,9 @@ fines-piece n k xs f =
 fines-masked : (l : ℕ) (xs : List Order) → Fines xs → Fines (map (masked l) xs)
 unfolding masked
 fines-masked l [] f = tt
-fines-masked l (x ∷ xs) f = (go (eqb l 1), fines-masked l xs (f .1))
-  where
-    go : (t : Bool) → Fine (record { key = x .key; total = cond t (x .total) 0; displayed = cond t (x .displayed) 0 })
-    go true = f .0
-    go false = record { key = f .0 .key; total = omega arith; displayed = omega arith }
+fines-masked l (x ∷ xs) f =
+    let small : (n : ℕ) → n < 4294967296 → cond (eqb l 1) n 0 < 4294967296 = λ n h. cond-valid (λ i. i < 4294967296) (eqb l 1) n 0 h (omega arith) in
+    (record { key = f .0 .key; total = small (x .total) (f .0 .total); displayed = small (x .displayed) (f .0 .displayed) }, fines-masked l xs (f .1))
 
 first-fine : (p : List Order) → Fines p → first-key p < 4294967296
 unfolding first-key

@@ -4,12 +4,13 @@ use mathlib.Core.Bool.{Bool, true, false, cond}
 use mathlib.Core.List.{List, [], _∷_, _++_, append-assoc, append-nil}
 use Prim.Native.Nat.{ℕ, zero, suc}
 use native.Mathlib.Omega.{arith}
-use borrow.Author.Tests.{ltb-true, ltb-false, eqb-true, eqb-false, le-leb, lt-leb}
-use lib.Dec.{ltb, leb, eqb}
+use borrow.Author.Tests.{lt-ltb, le-ltb, le-leb, lt-leb}
+use lib.Dec.{leb}
 use Rattle.sizes.specs.Sizes.{beta}
 use Rattle.sizes.specs.Hash.{level}
 use Rattle.sizes.specs.declared.Sizes.{Sizes}
 use Rattle.placement.specs.declared.Order.{Order}
+use Rattle.sizes.proofs.Laws.Round.{Which, which, less, same, more}
 use Rattle.skiplist.specs.Lists.{front, at-least, list-at, starts-one, run, rest, partitions, first-key}
 unfoldable pub use Rattle.skiplist.specs.Parts.{each, spread}
 use Rattle.skiplist.proofs.Laws.Runs.{partitions-front}
@@ -71,16 +72,14 @@ module _ (s : Sizes) (l : ℕ) where
   unfolding starting at-least
   starting-above [] u = refl
   starting-above (x ∷ xs) u =
-      go (starting-above xs (up-from xs (omega arith) (u .1))) (ltb l (level s (x .key))) refl (eqb l (level s (x .key))) refl
+      go (starting-above xs (up-from xs (omega arith) (u .1))) (which l (level s (x .key)))
     where
-      go : starting (starts-one s l) (at-least s l xs) ≡ at-least s (suc l) xs →
-          (t : Bool) → ltb l (level s (x .key)) ≡ t → (r : Bool) → eqb l (level s (x .key)) ≡ r →
+      go : starting (starts-one s l) (at-least s l xs) ≡ at-least s (suc l) xs → Which l (level s (x .key)) →
           starting (starts-one s l) (cond (leb l (level s (x .key))) (x ∷ at-least s l xs) (at-least s l xs))
           ≡ cond (leb (suc l) (level s (x .key))) (x ∷ at-least s (suc l) xs) (at-least s (suc l) xs)
-      go ih true e r f = rw (le-leb l (level s (x .key)) (omega (arith, ltb-true l (level s (x .key)) e)), e, starts s l x (ltb-true l (level s (x .key)) e), ih)
-      go ih false e true f =
-          rw (le-leb l (level s (x .key)) (omega (arith, eqb-true l (level s (x .key)) f)), e, stays s l x (u .0) (ltb-false l (level s (x .key)) e), ih)
-      go ih false e false f = rw (lt-leb l (level s (x .key)) (omega (arith, ltb-false l (level s (x .key)) e, eqb-false l (level s (x .key)) f)), e, ih)
+      go ih (less h) = rw (le-leb l (level s (x .key)) (omega arith), lt-ltb l (level s (x .key)) h, starts s l x h, ih)
+      go ih (same h) = rw (le-leb l (level s (x .key)) (omega arith), le-ltb l (level s (x .key)) (omega arith), stays s l x (u .0) (omega arith), ih)
+      go ih (more h) = rw (lt-leb l (level s (x .key)) h, le-ltb l (level s (x .key)) (omega arith), ih)
 
   -- the elements of a list open, together, the list below
   pub each-part : (os : List Order) → Up 1 os → each (λ x. part s os l (x .key)) (list-at s (suc l) os) ≡ list-at s l os
