@@ -1,10 +1,9 @@
 -- What stands in the bytes of a block that a search found: the number of nodes, and each node.
 use mathlib.Core.Path.{_≡_, sym, ap, _∙_}
-use mathlib.Core.List.{List, [], _∷_, _++_, append-assoc, append-nil}
+use mathlib.Core.List.{List, [], _∷_, _++_, append-assoc}
 use Prim.Native.Nat.{ℕ, zero, suc, _+_, _*_, _-_, _≤_, _<_}
-use native.Mathlib.Nat.{add-zero}
 use native.Mathlib.Omega.{arith}
-use lib.ListN.{length, getD, drop, replicate, length-append}
+use lib.ListN.{length, getD, drop, replicate}
 use lib.Seq.{getD-take, getD-drop}
 use Rattle.placement.specs.Blocks.{holds}
 use Rattle.sizes.specs.declared.Sizes.{Sizes}
@@ -18,7 +17,7 @@ use Rattle.placement.specs.Maps.{labelled, Fine, Fines}
 use Rattle.placement.specs.declared.Label.{Label}
 use Rattle.placement.proofs.Laws.Rows.{row-field}
 use Rattle.placement.proofs.Laws.Bridge.{node-long}
-use Rattle.sizes.proofs.Laws.Numbers.{length-big, field-big, field-past, field-part}
+use Rattle.sizes.proofs.Laws.Numbers.{field-big, field-past, field-part}
 
 abbrev pub node-at : List Order → ℕ → Order
 node-at ns j = getD ns j (record { key = 0; total = 0; displayed = 0 })
@@ -26,10 +25,6 @@ node-at ns j = getD ns j (record { key = 0; total = 0; displayed = 0 })
 -- a field of node j
 pub node-field : (ns : List Order) (r : List ℕ) (j a n : ℕ) → j < length ns → a + n ≤ 12 → field (12 * j + a) n (nodes-bytes ns ++ r) ≡ field a n (node-bytes (node-at ns j))
 node-field ns = row-field 12 node-bytes node-long ns (record { key = 0; total = 0; displayed = 0 })
-
--- a number behind some bytes
-number-past : (x : List ℕ) (v : ℕ) (y : List ℕ) (a : ℕ) → length x ≡ a → v < 4294967296 → field a 4 (x ++ big 4 v ++ y) ≡ v
-number-past x v y a e h = rw append-assoc (ap (λ (k : ℕ). field k 4 (x ++ (big 4 v ++ y))) (sym e ∙ sym (add-zero (length x))) ∙ field-past x (big 4 v ++ y) 0 4 ∙ field-big 4 v y (omega arith))
 
 fine-at : (ns : List Order) (j : ℕ) → Fines ns → Fine (node-at ns j)
 fine-at [] j f = record { key = omega arith; total = omega arith; displayed = omega arith }
@@ -42,14 +37,12 @@ module _ (o : Order) (f : Fine o) where
   key-field = rw append-assoc (field-big 4 (o .key) _ (f .key))
 
   total-field : field 4 4 (node-bytes o) ≡ o .total
-  unfolding node-bytes
-  total-field = number-past (big 4 (o .key)) (o .total) (big 4 (o .displayed)) 4 (length-big 4 (o .key)) (f .total)
+  unfolding node-bytes field big
+  total-field = field-big 4 (o .total) [] (f .total)
 
   displayed-field : field 8 4 (node-bytes o) ≡ o .displayed
-  unfolding node-bytes
-  displayed-field =
-      ap (field 8 4) (sym (append-nil (big 4 (o .key) ++ big 4 (o .total) ++ big 4 (o .displayed))))
-      ∙ number-past (big 4 (o .key) ++ big 4 (o .total)) (o .displayed) [] 8 (length-append (big 4 (o .key)) (big 4 (o .total)) ∙ rw (length-big 4 (o .key), length-big 4 (o .total))) (f .displayed)
+  unfolding node-bytes field big
+  displayed-field = field-big 4 (o .displayed) [] (f .displayed)
 
 -- the block i has the nodes ns under the label w
 module _ (s : Sizes) (bs : List ℕ) (i : ℕ) (w : Label) (ns : List Order) (is : block-in (block-long s) bs i ≡ block-bytes s (holds (labelled w ns))) (few : length ns ≤ s .nodes) (fine : Fines ns) where

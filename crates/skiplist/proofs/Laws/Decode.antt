@@ -1,10 +1,10 @@
 -- Blocks that bytes can hold are read back from their bytes.
-use mathlib.Core.Path.{_≡_, refl, sym, ap, _∙_}
+use mathlib.Core.Path.{_≡_, sym, ap, _∙_}
 use mathlib.Core.List.{List, [], _++_, map}
 use Prim.Native.Nat.{ℕ, suc, _+_, _*_, _-_}
 use native.Mathlib.Omega.{arith}
 use borrow.Author.Tests.{ne-eqb}
-use lib.ListN.{length, drop, replicate}
+use lib.ListN.{length, replicate}
 use lib.Seq.{drop-at}
 use Rattle.sizes.specs.Numbers.{big, field}
 use Rattle.sizes.specs.Header.{block-long}
@@ -31,15 +31,11 @@ node-back o r f =
 pub nodes-back : (ns : List Order) (r : List ℕ) → Fines ns → nodes-from (length ns) (nodes-bytes ns ++ r) ≡ ns
 nodes-back = rows-back 12 node-bytes node-long node-in Fine node-back
 
-nodes-past : (s : Sizes) (c : Chunk) → nodes-from (length (c .nodes)) (drop 8 (block-bytes s (holds c))) ≡ nodes-from (length (c .nodes)) (nodes-bytes (c .nodes) ++ replicate (12 * (s .nodes - length (c .nodes))) 0)
-unfolding block-bytes big
-nodes-past s c = refl
-
 chunk-back : (s : Sizes) (c : Chunk) → Holdable s c → chunk-of (block-bytes s (holds c)) ≡ c
-unfolding chunk-of block-bytes
+unfolding chunk-of block-bytes big
 chunk-back s c k =
     let e = head-of s (held k) in
-    let n = nodes-past s c ∙ nodes-back (c .nodes) (replicate (12 * (s .nodes - length (c .nodes))) 0) (k .fine) in
+    let n = nodes-back (c .nodes) (replicate (12 * (s .nodes - length (c .nodes))) 0) (k .fine) in
     λ i. record { label = e i; nodes = n i }
 
 block-back : (s : Sizes) {b : Block Chunk} → Good s b → block-of (block-bytes s b) ≡ b
