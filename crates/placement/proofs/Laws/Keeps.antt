@@ -1,4 +1,4 @@
--- THE PROMISES FOR THIS VERSION: those of chunks of any kind, for its chunks and for maps by the parts of a label.
+-- The placement of this version's chunks, by the law for chunks of any kind.
 use mathlib.Core.Logic.{_≢_}
 use mathlib.Core.List.{List, []}
 use Prim.Native.Nat.{zero, _≤_, _<_}

@@ -13,7 +13,7 @@ use Rattle.placement.specs.Kinds.{Kind, Holds, Keeps, with-chunk, withou
 use Rattle.placement.proofs.Laws.Blocks.{Ordered, around-mod, around-inside, stored-there, stored-elsewhere, stored-long}
 use Rattle.placement.proofs.Laws.Store.{Alike, before-store, stored-stands, change-keeps}
 use Rattle.placement.proofs.Laws.Unique.{one-arrangement}
-use Rattle.placement.proofs.Laws.Placed.{Rising, Joined, how-many-empty, store-count, placement, nothing}
+use Rattle.placement.proofs.Laws.Placed.{Place, Rising, Joined, how-many-empty, store-count, placement, nothing}
 use Rattle.placement.proofs.Laws.Insertion.{Other, one-label, insert-from, inserted}
 use Rattle.placement.proofs.Laws.Removal.{Removed, removed-at, removed}
 use Rattle.placement.proofs.Laws.Search.{Found, at-place, absent, search-from, Answer, search-right}
@@ -44,11 +44,6 @@ held [] = []
 held (empty ∷ bs) = held bs
 held (holds c ∷ bs) = c ∷ held bs
 
-record Standing {A : Type 0} (bs : List (Block A)) (c : A) : Type 0 where
-  at : ℕ
-  inside : at < length bs
-  is : getD bs at empty ≡ holds c
-
 module _ {A : Type 0} where
   among-held : (bs : List (Block A)) (j : ℕ) (c : A) → getD bs j empty ≡ holds c → Among c (held bs)
   unfolding held
@@ -58,7 +53,7 @@ module _ {A : Type 0} where
   among-held (holds d ∷ bs) zero c e = inl cc
   among-held (holds d ∷ bs) (suc j) c e = inr (among-held bs j c e)
 
-  held-stands : (bs : List (Block A)) (c : A) → Among c (held bs) → Standing bs c
+  held-stands : (bs : List (Block A)) (c : A) → Among c (held bs) → Place bs (holds c)
   unfolding held
   held-stands [] c a = absurd a
   held-stands (empty ∷ bs) c a = let r = held-stands bs c a in record { at = suc (r .at); inside = omega (arith, r .inside); is = r .is }

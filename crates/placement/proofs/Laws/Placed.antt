@@ -28,12 +28,13 @@ how-many-empty A zero = refl
 how-many-empty A (suc m) = how-many-empty A m
 
 module _ {A : Type 0} where
-  record Gap (bs : List (Block A)) : Type 0 where
+  -- a block of the table is b
+  pub record Place (bs : List (Block A)) (b : Block A) : Type 0 where
     pub at : ℕ
     pub inside : at < length bs
-    pub is : getD bs at empty ≡ empty
+    pub is : getD bs at empty ≡ b
 
-  gap : (bs : List (Block A)) → how-many bs < length bs → Gap bs
+  gap : (bs : List (Block A)) → how-many bs < length bs → Place bs empty
   unfolding how-many
   gap [] h = absurd (omega arith)
   gap (empty ∷ bs) h = record { at = 0; inside = omega arith; is = refl }
