@@ -56,7 +56,8 @@ pub record Far {A : Type 0} (home : A → ℕ) (m : ℕ) (bs : List (Block A)) (
   pub there : (home c + steps) % m ≡ i % m
   pub is : around m bs (home c + steps) ≡ holds c
 
-pub far : {A : Type 0} {home : A → ℕ} {before : A → A → Bool} {m : ℕ} → Ordered home before m → (bs : List (Block A)) (c : A) (i : ℕ) → around m bs i ≡ holds c → Far home m bs c i
+pub far : {A : Type 0} {home : A → ℕ} {before : A → A → Bool} {m : ℕ} → Ordered home before m
+    → (bs : List (Block A)) (c : A) (i : ℕ) → around m bs i ≡ holds c → Far home m bs c i
 far {home = home} {m = m} ord bs c i e =
     let s = steps-to m (home c) (ord .homes c) (i % m) (mod-lt i (omega (arith, ord .homes c))) in
     record { steps = s .steps; few = s .few; there = s .there; is = around-mod m bs (home c + s .steps) i (s .there) ∙ e }

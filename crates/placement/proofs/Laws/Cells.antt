@@ -50,9 +50,9 @@ pub cond-out : {S R : Type 0} (f : R → S) (t : Bool) (a b : R) → cond t (f a
 cond-out f true a b = refl
 cond-out f false a b = refl
 
-pub cond-valid : {R : Type 0} (Valid : R → Type 0) (t : Bool) (a b : R) → Valid a → Valid b → Valid (cond t a b)
-cond-valid Valid true a b va vb = va
-cond-valid Valid false a b va vb = vb
+pub cond-valid : {R : Type 0} {a b : R} (Valid : R → Type 0) (t : Bool) → Valid a → Valid b → Valid (cond t a b)
+cond-valid Valid true va vb = va
+cond-valid Valid false va vb = vb
 
 module _ {S R : Type 0} (s : Store S) (r : Store R) (m : ℕ) (f : R → S) (Valid : R → Type 0) (q : Same s r m f Valid) (pos : 0 < m) where
   pub pull-same : (home : Label → ℕ) (k e i : ℕ) (x : R) → Valid x → e < m → pull s home m k e i (f x) ≡ f (pull r home m k e i x)
@@ -67,8 +67,8 @@ module _ {S R : Type 0} (s : Store S) (r : Store R) (m : ℕ) (f : R → S) (Val
         q .copy x v (i % m) e j h,
         cond-out f t,
         pull-same home k (cond t e (i % m)) (suc i) (cond t x (r .copy x (i % m) e))
-            (cond-valid Valid t _ _ v (q .copy-valid x v (i % m) e j h))
-            (cond-valid (λ n. n < m) t e (i % m) h j),
+            (cond-valid Valid t v (q .copy-valid x v (i % m) e j h))
+            (cond-valid (λ n. n < m) t h j),
         cond-out f (eqb (r .look x (i % m) .level) 0),
       )
 
@@ -79,7 +79,7 @@ module _ {S R : Type 0} (s : Store S) (r : Store R) (m : ℕ) (f : R → S) (Val
       let j : i % m < m = mod-lt i pos in
       let t : Bool = before (r .look x e) (r .look x (i % m)) in
       rw (q .look x v (i % m) j, q .look x v e h, q .swap x v (i % m) e j h, cond-out f t)
-      (settle-same k e (suc i) (cond t (r .swap x (i % m) e) x) (cond-valid Valid t _ _ (q .swap-valid x v (i % m) e j h) v) h)
+      (settle-same k e (suc i) (cond t (r .swap x (i % m) e) x) (cond-valid Valid t (q .swap-valid x v (i % m) e j h) v) h)
 
 pub length-zero : {A : Type 0} (l : List A) → length l ≡ 0 → l ≡ []
 length-zero [] e = refl

@@ -99,11 +99,13 @@ module _ (s : Sizes) (some : 0 < s .blocks) (hd : List ℕ) (eh : length hd ≡ 
     steps-is : distance-of (s .blocks) start e ≡ first .steps
     steps-is = distance-steps (s .blocks) start e (first .steps) (home-inside s some w) inside (first .few) refl
 
-    insert-here : settle (bytes (block-long s)) (s .blocks) (first .steps) e start (put-block (block-long s) (hd ++ all-bytes s bl) e (block-bytes s (holds (labelled w ns))))
+    insert-here : settle (bytes (block-long s)) (s .blocks) (first .steps) e start
+        (put-block (block-long s) (hd ++ all-bytes s bl) e (block-bytes s (holds (labelled w ns))))
         ≡ hd ++ all-bytes s (insert-from chunk-before (s .blocks) start (s .blocks) (labelled w ns) bl)
     insert-here =
         rw (block-put e (holds (labelled w ns)) inside (held q))
-        (settle-blocks (coding s) (s .blocks) some hd eh (first .steps) e start (set bl e (holds (labelled w ns))) (good-set s v e (held q), length-set bl e _ ∙ long) inside
+        (settle-blocks (coding s) (s .blocks) some hd eh (first .steps) e start (set bl e (holds (labelled w ns)))
+        (good-set s v e (held q), length-set bl e _ ∙ long) inside
         ∙ ap (λ (x : List (Block Chunk)). hd ++ all-bytes s x) (settle-theory s some e inside (first .steps) (s .blocks) start (labelled w ns) bl carry ahead))
 
     pub insert-at : (r : Found) → r ≡ free-in (label-in (block-long s) (hd ++ all-bytes s bl)) (s .blocks) (s .blocks) start

@@ -57,7 +57,8 @@ module _ (w : Label) (pos : 0 < w .level) (ns : List Order) where
       theory = search-from chunk-before f (suc i) m (labelled w ns) bl
 
       go : (b : Block Chunk) → Good s b → code ≡ place-of m theory
-          → cond (passes-label (label-of b) w) code (cond (same-label (label-of b) w) (At (i % m)) Nothing) ≡ place-of m (search-step chunk-before (labelled w ns) i b theory)
+          → cond (passes-label (label-of b) w) code (cond (same-label (label-of b) w) (At (i % m)) Nothing)
+          ≡ place-of m (search-step chunk-before (labelled w ns) i b theory)
       go empty q on = rw (pass-empty, same-empty)
       go (holds d) (held q) on = rw (pass-held (d .label) (q .level)) (by (before (d .label) w) (before w (d .label)) refl refl)
         where

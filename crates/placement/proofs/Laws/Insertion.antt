@@ -33,8 +33,8 @@ suc-mod-same m i j e = suc-mod i m ∙ ap (λ (x : ℕ). suc x % m) e ∙ sym (s
 
 module _ {A : Type 0} {home : A → ℕ} {before : A → A → Bool} {m : ℕ} (ord : Ordered home before m) where
   -- of alike labels none stands nearer its home
-  none-nearer : (bs : List (Block A)) → Rule-3 home before m bs → (c d : A) {i j : ℕ} (x : Far home m bs c i) (y : Far home m bs d j) → home c ≡ home d → before c d ≡ false
-      → x .steps < y .steps → ⊥
+  none-nearer : (bs : List (Block A)) → Rule-3 home before m bs → (c d : A) {i j : ℕ} (x : Far home m bs c i) (y : Far home m bs d j)
+      → home c ≡ home d → before c d ≡ false → x .steps < y .steps → ⊥
   none-nearer bs r c d x y t p h =
       let z = r d (y .steps) (y .few) (y .is) (x .steps) h in
       let w : around m bs (home d + x .steps) ≡ holds c = rw (← t) (x .is) in
@@ -65,7 +65,8 @@ module _ {A : Type 0} {home : A → ℕ} {before : A → A → Bool} {m : ℕ} (
           let w = around-mod m bs (home c + t .steps) g (t .there) in
           absurd (false≢true (cc (z, w)))
 
-  pub smaller-on : (bs : List (Block A)) (c : A) (k : ℕ) → Smaller-to home before m bs c k → holds-smaller before c (around m bs (home c + k)) ≡ true → Smaller-to home before m bs c (suc k)
+  pub smaller-on : (bs : List (Block A)) (c : A) (k : ℕ) → Smaller-to home before m bs c k → holds-smaller before c (around m bs (home c + k)) ≡ true
+      → Smaller-to home before m bs c (suc k)
   smaller-on bs c k s h l w = go (which l k)
     where
       go : Which l k → holds-smaller before c (around m bs (home c + l)) ≡ true

@@ -247,8 +247,8 @@ module _ {A L R : Type 0} {k : Kind A L R} {home : A → ℕ} {before : A → A 
       record { long = j .long; rule-3 = j .rule-3; map = holds-removed bs _ F c (q .map) j; count = omega (arith, j .count, q .count) }
 
   -- CHANGE of the rows under a label
-  pub change : {bs : List (Block A)} {F : L → List R} {n : ℕ} (c d : A) (i : ℕ) → Keeps k home before m bs F n → around m bs i ≡ holds c → k .label d ≡ k .label c → k .rows d ≢ []
-      → Keeps k home before m (stored m bs i (holds d)) (with-chunk k d F) n
+  pub change : {bs : List (Block A)} {F : L → List R} {n : ℕ} (c d : A) (i : ℕ) → Keeps k home before m bs F n → around m bs i ≡ holds c → k .label d ≡ k .label c
+      → k .rows d ≢ [] → Keeps k home before m (stored m bs i (holds d)) (with-chunk k d F) n
   change {bs} {F} c d i q e l full = record {
     long = stored-long m bs i (holds d) (q .long);
     rule-3 = change-keeps ordered bs c d i (q .long) (q .rule-3) e (law .alike d c l);
@@ -260,7 +260,8 @@ module _ {A L R : Type 0} {k : Kind A L R} {home : A → ℕ} {before : A → A 
   search-answer {bs} c q = rw add-zero at (search-right ordered c bs (q .rule-3) m 0 (λ l w. absurd (omega arith)) (add-zero m))
 
   -- SEARCH from the home of a label: its rows, or [] where it is absent
-  pub search-kept : {bs : List (Block A)} {F : L → List R} {n : ℕ} (c : A) → Keeps k home before m bs F n → rows-found k (search-from before m (home c) m c bs) ≡ F (k .label c)
+  pub search-kept : {bs : List (Block A)} {F : L → List R} {n : ℕ} (c : A) → Keeps k home before m bs F n
+      → rows-found k (search-from before m (home c) m c bs) ≡ F (k .label c)
   search-kept {bs} {F} c q = go (search-from before m (home c) m c bs) (search-answer c q)
     where
       none : Answer before m c bs absent → (ns : List R) → F (k .label c) ≡ ns → [] ≡ ns

@@ -97,7 +97,7 @@ module _ (look : ℕ → Label) (m : ℕ) (w : Label) where
   past-least : (c i : ℕ) → i ≤ past-lower look (w .level) c i
   unfolding past-lower
   past-least zero i = le-refl i
-  past-least (suc c) i = cond-valid (λ n. i ≤ n) (ltb 0 (look i .level) && ltb (look i .level) (w .level)) _ i (omega (arith, past-least c (suc i))) (le-refl i)
+  past-least (suc c) i = cond-valid (λ n. i ≤ n) (ltb 0 (look i .level) && ltb (look i .level) (w .level)) (omega (arith, past-least c (suc i))) (le-refl i)
 
   past-probe : (c f i : ℕ) → i + c ≤ m → c ≤ f →
       probe look m w f i ≡ probe look m w (f - (past-lower look (w .level) c i - i)) (past-lower look (w .level) c i)
@@ -190,8 +190,8 @@ probe-below : (look : ℕ → Label) (m : ℕ) (w : Label) (k i : ℕ) → 0 < m
 unfolding probe
 probe-below look m w zero i pos = tt
 probe-below look m w (suc k) i pos =
-    cond-valid (λ r. below r m) (passes-label (look (i % m)) w) _ _ (probe-below look m w k (suc i) pos)
-    (cond-valid (λ r. below r m) (same-label (look (i % m)) w) (At (i % m)) Nothing (mod-lt i pos) tt)
+    cond-valid (λ r. below r m) (passes-label (look (i % m)) w) (probe-below look m w k (suc i) pos)
+    (cond-valid (λ r. below r m) (same-label (look (i % m)) w) (mod-lt i pos) tt)
 
 -- as `remove` asks, of what the search gave
 pub out-none : (g : Sizes) (bs : List ℕ) (w : Label) (r : Found) → r ≡ Nothing → r ≡ search-in g bs w → bs ≡ taken-out g (search-in g bs w) bs
@@ -260,7 +260,8 @@ module _ (g : Sizes) (at : ℕ) (bs₀ : List ℕ) where
   pulling-start s h = record { shaped = s; first = omega arith; within = omega arith; spot = h; same = refl; rest = refl }
 
   module _ (bs : List ℕ) (e k : ℕ) (p : Pulling g at bs₀ bs e k) where
-    pub pulling-end : g .blocks ≤ k → (bs′ : List ℕ) → bs′ ≡ clear-in (block-long g) bs e → bs′ ≡ pull (bytes (block-long g)) (home g) (g .blocks) (g .blocks - 1) at (at + 1) bs₀
+    pub pulling-end : g .blocks ≤ k → (bs′ : List ℕ) → bs′ ≡ clear-in (block-long g) bs e
+        → bs′ ≡ pull (bytes (block-long g)) (home g) (g .blocks) (g .blocks - 1) at (at + 1) bs₀
     unfolding pull
     pulling-end h bs′ q =
         let f : g .blocks - k ≡ 0 = omega arith in
@@ -273,7 +274,8 @@ module _ (g : Sizes) (at : ℕ) (bs₀ : List ℕ) where
       n : at + (k + 1) ≡ suc (at + k)
       n = omega arith
 
-      pub pulling-empty : l .level ≡ 0 → (bs′ : List ℕ) → bs′ ≡ clear-in (block-long g) bs e → bs′ ≡ pull (bytes (block-long g)) (home g) (g .blocks) (g .blocks - 1) at (at + 1) bs₀
+      pub pulling-empty : l .level ≡ 0 → (bs′ : List ℕ) → bs′ ≡ clear-in (block-long g) bs e
+          → bs′ ≡ pull (bytes (block-long g)) (home g) (g .blocks) (g .blocks - 1) at (at + 1) bs₀
       unfolding pull
       pulling-empty z bs′ q =
           let z′ : eqb (label-in (block-long g) bs ((at + k) % g .blocks) .level) 0 ≡ true = rw (← el) (eq-eqb _ _ z) in
@@ -290,7 +292,7 @@ module _ (g : Sizes) (at : ℕ) (bs₀ : List ℕ) where
             shaped = shaped-same g bs bs′ (p .shaped) ln;
             first = omega arith;
             within = omega arith;
-            spot = rw (q .hole) (cond-valid (λ i. i < g .blocks) t e _ (p .spot) (mod-lt _ (omega arith)));
+            spot = rw (q .hole) (cond-valid (λ i. i < g .blocks) t (p .spot) (mod-lt _ (omega arith)));
             same = ln ∙ p .same;
             rest = p .rest ∙ rw (f, held, test, n, q .hole, q .table);
           }
@@ -467,7 +469,7 @@ distance-made m a b = refl
 free-below : (look : ℕ → Label) (m k i : ℕ) → 0 < m → below (free-in look m k i) m
 unfolding free-in
 free-below look m zero i pos = tt
-free-below look m (suc k) i pos = cond-valid (λ r. below r m) (eqb (look (i % m) .level) 0) (At (i % m)) _ (mod-lt i pos) (free-below look m k (suc i) pos)
+free-below look m (suc k) i pos = cond-valid (λ r. below r m) (eqb (look (i % m) .level) 0) (mod-lt i pos) (free-below look m k (suc i) pos)
 
 pub free-at : (look : ℕ → Label) (m k i : ℕ) (r : Found) (e : ℕ) → r ≡ At e → r ≡ free-in look m k i → 0 < m → e < m
 free-at look m k i r e er q pos = rw (sym q ∙ er) at (free-below look m k i pos)

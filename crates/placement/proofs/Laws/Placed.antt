@@ -126,8 +126,8 @@ module _ {A : Type 0} {home : A → ℕ} {before : A → A → Bool} {m : ℕ} (
   full-smaller c bs i all (holds d) e f = all d (record { at = i; is = e })
 
   -- c goes to an empty block, and every block from its home on to there holds a smaller label
-  pub join-empty : (bs : List (Block A)) (c : A) (k : ℕ) → length bs ≡ m → k < m → Rule-3 home before m bs → Smaller-to home before m bs c k → around m bs (home c + k) ≡ empty
-      → Joined home before m c bs (stored m bs (home c + k) (holds c))
+  pub join-empty : (bs : List (Block A)) (c : A) (k : ℕ) → length bs ≡ m → k < m → Rule-3 home before m bs → Smaller-to home before m bs c k
+      → around m bs (home c + k) ≡ empty → Joined home before m c bs (stored m bs (home c + k) (holds c))
   join-empty bs c k p g r s e = record {
     long = stored-long m bs (home c + k) (holds c) p;
     rule-3 = store-keeps ord bs c k p g r s (λ d h. absurd (false≢true (cc)));

@@ -81,7 +81,8 @@ module _ (s : Sizes) (some : 0 < s .blocks) where
   unfolding pull pull-from
   pull-theory zero h t e i x v ee ei pos few = cleared h e x ee
   pull-theory (suc k) h t e i x v ee ei pos few =
-      go (getD x (i % s .blocks) empty) refl (good-at s v (i % s .blocks)) (pull-theory k h (suc t) e (suc i) x v ee (next (h + suc t) (omega arith)) (omega arith) (omega arith))
+      go (getD x (i % s .blocks) empty) refl (good-at s v (i % s .blocks))
+      (pull-theory k h (suc t) e (suc i) x v ee (next (h + suc t) (omega arith)) (omega arith) (omega arith))
       (λ b g. pull-theory k (h + t) 1 (i % s .blocks) (suc i) (set x e b) (good-set s v e g) ei (next (h + t + 1) (omega arith)) (omega arith) (omega arith))
     where
       next : (j : ℕ) → suc (h + t) ≡ j → suc i % s .blocks ≡ j % s .blocks
@@ -97,7 +98,8 @@ module _ (s : Sizes) (some : 0 < s .blocks) where
           (by (leb t (distance-of (s .blocks) (chunk-home s d) ((h + t) % s .blocks))))
         where
           by : (b : Bool) → pull places (home s) (s .blocks) k (cond (not b) e (i % s .blocks)) (suc i) (cond (not b) x (set x e (holds d)))
-              ≡ cond b (pull-from (chunk-home s) k (h + t) 1 (s .blocks) (stored (s .blocks) (stored (s .blocks) (stored (s .blocks) x h empty) h (holds d)) (h + t) empty))
+              ≡ cond b
+              (pull-from (chunk-home s) k (h + t) 1 (s .blocks) (stored (s .blocks) (stored (s .blocks) (stored (s .blocks) x h empty) h (holds d)) (h + t) empty))
               (pull-from (chunk-home s) k h (suc t) (s .blocks) (stored (s .blocks) x h empty))
           by true = move (holds d) (held q) ∙ ap (λ (y : List (Block Chunk)). pull-from (chunk-home s) k (h + t) 1 (s .blocks) y) (moved h t e x (holds d) ee)
           by false = stay

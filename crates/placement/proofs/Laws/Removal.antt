@@ -118,7 +118,8 @@ module _ {A : Type 0} {home : A → ℕ} {before : A → A → Bool} {m : ℕ} (
         go c k l w z u q b (more x) = omega arith
 
   -- the next block holds d, whose way does not cross the hole
-  pass : {p f h t : ℕ} {e d : A} {bs : List (Block A)} (y : Hole p (suc f) h t e bs) (x : Far home m bs d (h + t)) → around m bs (h + t) ≡ holds d → x .steps < t → Hole p f h (suc t) e bs
+  pass : {p f h t : ℕ} {e d : A} {bs : List (Block A)} (y : Hole p (suc f) h t e bs) (x : Far home m bs d (h + t))
+      → around m bs (h + t) ≡ holds d → x .steps < t → Hole p f h (suc t) e bs
   pass {h = h} {t} {e} {d} {bs} y x n v = record {
     long = y .long;
     hollow = y .hollow;
@@ -144,7 +145,8 @@ module _ {A : Type 0} {home : A → ℕ} {before : A → A → Bool} {m : ℕ} (
           by (more r) = absurd (omega arith)
 
   -- the next block holds d, whose way crosses the hole: d goes there
-  module _ {p f h t : ℕ} {e d : A} {bs : List (Block A)} (y : Hole p (suc f) h t e bs) (x : Far home m bs d (h + t)) (n : around m bs (h + t) ≡ holds d) (v : t ≤ x .steps) where
+  module _ {p f h t : ℕ} {e d : A} {bs : List (Block A)} (y : Hole p (suc f) h t e bs) (x : Far home m bs d (h + t))
+      (n : around m bs (h + t) ≡ holds d) (v : t ≤ x .steps) where
     abbrev filled : List (Block A)
     filled = stored m bs h (holds d)
 
@@ -334,7 +336,8 @@ module _ {A : Type 0} {home : A → ℕ} {before : A → A → Bool} {m : ℕ} (
       go empty n skip move = record { long = y .long; rule-3 = stopped y fewer n; stays = λ x s. s; only = λ x s. s; count = refl }
       go (holds d) n skip move =
           let x = far ord bs d (h + t) n in
-          let q : distance-of m (home d) ((h + t) % m) ≡ x .steps = distance-steps m (home d) ((h + t) % m) (x .steps) (ord .homes d) (mod-lt (h + t) (omega arith)) (x .few) (x .there) in
+          let q : distance-of m (home d) ((h + t) % m) ≡ x .steps =
+          distance-steps m (home d) ((h + t) % m) (x .steps) (ord .homes d) (mod-lt (h + t) (omega arith)) (x .few) (x .there) in
           rw q (test d (leb t (x .steps)) n x refl skip move)
 
 -- what the removal of c leaves

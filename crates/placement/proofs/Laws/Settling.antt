@@ -97,14 +97,16 @@ module _ (s : Sizes) (some : 0 < s .blocks) where
             swapped = rw (set-comm bs e (i % s .blocks) (holds c) (holds c) (λ u. ne (sym u)), set-set (set bs (i % s .blocks) (holds c)) e (holds c) (holds d))
 
             by : (b : Bool) → chunk-before d c ≡ b
-                → settle places (s .blocks) k e (suc i) (cond (chunk-before c d) (set (set (set bs e (holds c)) (i % s .blocks) (holds c)) e (holds d)) (set bs e (holds c)))
+                → settle places (s .blocks) k e (suc i)
+                (cond (chunk-before c d) (set (set (set bs e (holds c)) (i % s .blocks) (holds c)) e (holds d)) (set bs e (holds c)))
                 ≡ insert-from chunk-before (suc f) i (s .blocks) c bs
             by true h = rw (not-both c d h, z, h) (on (carry-on (ordered (lawful s some)) y d z h))
             by false h =
                 rw (y .other d (record { at = i; is = z }) h, z, h, swapped) (swap d (carry-swap (ordered (lawful s some)) y d z h) ne)
 
 -- the code finds the first empty block, k steps on
-pub free-first : (look : ℕ → Label) (m fuel i k : ℕ) → k < fuel → look ((i + k) % m) .level ≡ 0 → ((l : ℕ) → l < k → look ((i + l) % m) .level ≢ 0) → free-in look m fuel i ≡ At ((i + k) % m)
+pub free-first : (look : ℕ → Label) (m fuel i k : ℕ) → k < fuel → look ((i + k) % m) .level ≡ 0
+    → ((l : ℕ) → l < k → look ((i + l) % m) .level ≢ 0) → free-in look m fuel i ≡ At ((i + k) % m)
 unfolding free-in
 free-first look m zero i k w z full = absurd (omega arith)
 free-first look m (suc f) i zero w z full = rw (add-zero, eq-eqb _ _ (rw add-zero at z))

@@ -223,4 +223,5 @@ module _ (s : Sizes) (F : Map) (n : ℕ) (hd bs : List ℕ) (t : Table s F n hd 
 -- ONE TABLE keeps a map under a header
 pub same-bytes : (s : Sizes) (F G : Map) (n k : ℕ) (hd bs cs : List ℕ) → ((l f i : ℕ) → F l f i ≡ G l f i) → Table s F n hd bs → Table s G k hd cs → bs ≡ cs
 same-bytes s F G n k hd bs cs e x y =
-    x .is ∙ ap (λ (z : List (Block Chunk)). hd ++ all-bytes s z) (kept-once (lawful s (some-blocks s (x .good))) (λ w. e (w .level) (w .first) (w .number)) (x .keeps) (y .keeps)) ∙ sym (y .is)
+    x .is
+    ∙ ap (λ (z : List (Block Chunk)). hd ++ all-bytes s z) (kept-once (lawful s (some-blocks s (x .good))) (λ w. e (w .level) (w .first) (w .number)) (x .keeps) (y .keeps)) ∙ sym (y .is)

@@ -60,7 +60,8 @@ module _ (t : Label → Bool) where
     picked-from (suc k) l m os a b h = rw picked-append (go (λ e. picked-from k (suc l) m os e (omega arith) h) (which l m))
       where
         go : (suc l ≤ m → picked t (chunks-from k (suc l) s os) ≡ picked t (all-chunks s m (partitions s m (list-at s m os)))) → Which l m
-            → picked t (all-chunks s l (partitions s l (list-at s l os))) ++ picked t (chunks-from k (suc l) s os) ≡ picked t (all-chunks s m (partitions s m (list-at s m os)))
+            → picked t (all-chunks s l (partitions s l (list-at s l os))) ++ picked t (chunks-from k (suc l) s os)
+            ≡ picked t (all-chunks s m (partitions s m (list-at s m os)))
         go ih (less q) = rw (none-all l (partitions s l (list-at s l os)) (λ f n. h l f n (λ e. omega arith))) (ih q)
         go ih (same q) = rw (q, none-from k (suc m) os (λ l′ f n c d. h l′ f n (λ e. omega arith)), append-nil)
         go ih (more q) = absurd (omega arith)
@@ -118,7 +119,9 @@ module _ (s : Sizes) (l f i : ℕ) where
   -- WHAT STANDS UNDER A LABEL
   pub content-is : (os : List Order) → 0 < s .nodes → Up 1 os → 1 ≤ l → l ≤ beta s → content l f i (chunks s os) ≡ map (masked l) (take (s .nodes) (drop (i * s .nodes) (part s os l f)))
   unfolding chunks part same-label
-  content-is os b u h g = picked-from (is-label l f i) s (beta s) 1 l os h (omega arith) (λ l′ f′ n e. rw (ne-eqb l′ l e)) ∙ content-all (partitions s l (list-at s l os)) 0 b (parts-heads s l os u)
+  content-is os b u h g =
+      picked-from (is-label l f i) s (beta s) 1 l os h (omega arith) (λ l′ f′ n e. rw (ne-eqb l′ l e))
+      ∙ content-all (partitions s l (list-at s l os)) 0 b (parts-heads s l os u)
 
   -- levels past the last, and before the first
   pub content-outside : (os : List Order) → beta s < l → content l f i (chunks s os) ≡ []

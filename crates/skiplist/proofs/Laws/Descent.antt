@@ -28,7 +28,8 @@ pub last-opened : (st : Order → Bool) (k : ℕ) (p xs : List Order) → last-f
 unfolding opened last-from
 last-opened st k p [] = refl
 last-opened st k p (x ∷ xs) =
-    cond-valid (λ (q : List Order). last-from k q ≡ last-from (x .key) xs) (st x) _ _ (last-opened st k (x ∷ []) xs) (rw (last-more k p x) at (last-opened st k (p ++ x ∷ []) xs))
+    cond-valid (λ (q : List Order). last-from k q ≡ last-from (x .key) xs) (st x) (last-opened st k (x ∷ []) xs)
+    (rw (last-more k p x) at (last-opened st k (p ++ x ∷ []) xs))
 
 module _ (s : Sizes) (l : ℕ) where
   pub first-opened : (p xs : List Order) → 0 < length p → Up 1 xs →
@@ -38,7 +39,8 @@ module _ (s : Sizes) (l : ℕ) where
   first-opened p (x ∷ xs) h u =
       go (λ q g. first-opened q xs g (up-from xs (omega arith) (u .1))) (which l (level s (x .key)))
     where
-      go : ((q : List Order) → 0 < length q → first-key (opened (starts-one s l) q (at-least s l xs)) ≡ last-from (first-key q) (at-least s (suc l) xs)) → Which l (level s (x .key)) →
+      go : ((q : List Order) → 0 < length q → first-key (opened (starts-one s l) q (at-least s l xs)) ≡ last-from (first-key q) (at-least s (suc l) xs)) →
+          Which l (level s (x .key)) →
           first-key (opened (starts-one s l) p (cond (leb l (level s (x .key))) (x ∷ at-least s l xs) (at-least s l xs)))
           ≡ last-from (first-key p) (cond (leb (suc l) (level s (x .key))) (x ∷ at-least s (suc l) xs) (at-least s (suc l) xs))
       go ih (less e) = rw (le-leb l (level s (x .key)) (omega arith), lt-ltb l (level s (x .key)) e, starts s l x e) (ih (x ∷ []) (omega arith))
@@ -80,19 +82,20 @@ below-opened st k p [] e f = e
 below-opened st k p (x ∷ xs) e f =
     let low : (ltb (x .key) k && true) ≡ true = rw (and-left (ltb (x .key) k) (below k xs) f) in
     let later = and-right (ltb (x .key) k) (below k xs) f in
-    cond-valid (λ (q : List Order). below k q ≡ true) (st x) _ _ (below-opened st k (x ∷ []) xs low later) (below-opened st k (p ++ x ∷ []) xs (below-both k p (x ∷ []) e low) later)
+    cond-valid (λ (q : List Order). below k q ≡ true) (st x) (below-opened st k (x ∷ []) xs low later)
+    (below-opened st k (p ++ x ∷ []) xs (below-both k p (x ∷ []) e low) later)
 
 pub below-at-least : (s : Sizes) (l k : ℕ) (xs : List Order) → below k xs ≡ true → below k (at-least s l xs) ≡ true
 unfolding below at-least
 below-at-least s l k [] e = refl
 below-at-least s l k (x ∷ xs) e =
     let ih = below-at-least s l k xs (and-right (ltb (x .key) k) (below k xs) e) in
-    cond-valid (λ (q : List Order). below k q ≡ true) (leb l (level s (x .key))) _ _ (rw (and-left (ltb (x .key) k) (below k xs) e) ih) ih
+    cond-valid (λ (q : List Order). below k q ≡ true) (leb l (level s (x .key))) (rw (and-left (ltb (x .key) k) (below k xs) e) ih) ih
 
 pub run-up : (st : Order → Bool) (a : ℕ) (xs : List Order) → Up a xs → Up a (run st xs)
 unfolding run
 run-up st a [] u = tt
-run-up st a (x ∷ xs) u = cond-valid (Up a) (st x) [] (x ∷ run st xs) tt (u .0, run-up st (suc (x .key)) xs (u .1))
+run-up st a (x ∷ xs) u = cond-valid (Up a) (st x) tt (u .0, run-up st (suc (x .key)) xs (u .1))
 
 module _ (s : Sizes) (l : ℕ) where
   pub head-below : (k : ℕ) (xs : List Order) → 0 < k → below k xs ≡ true → below k (head-part s l xs) ≡ true

@@ -21,7 +21,7 @@ pub divides-most : (left j c v : ℕ) → divides-from left j c v ≤ j + left
 unfolding divides-from
 divides-most zero j c v = omega arith
 divides-most (suc k) j c v =
-    cond-valid (λ n. n ≤ j + suc k) (eqb (v % c ^ suc j) 0) _ j (omega (arith, divides-most k (suc j) c v)) (omega arith)
+    cond-valid (λ n. n ≤ j + suc k) (eqb (v % c ^ suc j) 0) (omega (arith, divides-most k (suc j) c v)) (omega arith)
 
 pub beta-least : (s : Sizes) → 2 ≤ beta s
 unfolding beta
@@ -30,17 +30,17 @@ beta-least s = omega arith
 pub level-most : (s : Sizes) (x : ℕ) → level s x ≤ beta s
 unfolding level
 level-most s x =
-    cond-valid (λ n. n ≤ beta s) (eqb x 0) _ _ (omega arith) (omega (arith, beta-least s, divides-most (beta s - 1) 0 (s .gamma) (h s x)))
+    cond-valid (λ n. n ≤ beta s) (eqb x 0) (omega arith) (omega (arith, beta-least s, divides-most (beta s - 1) 0 (s .gamma) (h s x)))
 
 pub level-least : (s : Sizes) (x : ℕ) → 1 ≤ level s x
 unfolding level
-level-least s x = cond-valid (λ n. 1 ≤ n) (eqb x 0) _ _ (omega (arith, beta-least s)) (omega arith)
+level-least s x = cond-valid (λ n. 1 ≤ n) (eqb x 0) (omega (arith, beta-least s)) (omega arith)
 
 pub opened-long : (st : Order → Bool) (p xs : List Order) → 0 < length p → 0 < length (opened st p xs)
 unfolding opened
 opened-long st p [] h = h
 opened-long st p (x ∷ xs) h =
-    cond-valid (λ (q : List Order). 0 < length q) (st x) _ _ (opened-long st (x ∷ []) xs (omega arith)) (opened-long st (p ++ x ∷ []) xs (simp length-append (omega arith)))
+    cond-valid (λ (q : List Order). 0 < length q) (st x) (opened-long st (x ∷ []) xs (omega arith)) (opened-long st (p ++ x ∷ []) xs (simp length-append (omega arith)))
 
 module _ (s : Sizes) (l : ℕ) where
   -- an order of a higher level starts a partition, and one of this level none
@@ -89,7 +89,7 @@ module _ (s : Sizes) (l : ℕ) where
 
   pub after-not : (y : Order) (zs : List Order) → 0 < y .key → level s (y .key) ≤ l → parts-after (y ∷ zs) ≡ parts-after zs
   unfolding parts-after at-least rest
-  after-not y zs p h = cond-valid (λ (r : List Order). rest (starts-one s l) r ≡ parts-after zs) (leb l (level s (y .key))) _ _ (rw (stays y p h)) refl
+  after-not y zs p h = cond-valid (λ (r : List Order). rest (starts-one s l) r ≡ parts-after zs) (leb l (level s (y .key))) (rw (stays y p h)) refl
 
   pub tail-high : (y : Order) (zs : List Order) → l < level s (y .key) → tail-part (y ∷ zs) ≡ []
   unfolding tail-part at-least run

@@ -35,7 +35,7 @@ unfolding without
 good-without a k [] e = e
 good-without a k (o ∷ os) e =
     let w = good-parts a o os e in
-    cond-valid (λ (q : List Order). orders-good a q ≡ true) (eqb (o .key) k) _ _ (good-from (suc (o .key)) a os (omega arith) (w .others))
+    cond-valid (λ (q : List Order). orders-good a q ≡ true) (eqb (o .key) k) (good-from (suc (o .key)) a os (omega arith) (w .others))
     (good-make a o (without k os) (w .from) (w .key) (w .quantity) (good-without (suc (o .key)) k os (w .others)))
 
 pub good-into : (a : ℕ) (y : Order) (os : List Order) → a ≤ y .key → ltb (y .key) prime ≡ true → quantities-good (y .total) (y .displayed) ≡ true → held (y .key) os ≡ false →

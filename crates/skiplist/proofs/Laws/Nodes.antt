@@ -38,7 +38,8 @@ module _ (l : ℕ) where
     pub nodes-all : (ps : List (List Order)) → 0 < s .nodes → all-nodes l (all-chunks s l ps) ≡ map (masked l) (flat ps)
     unfolding picked all-chunks flat
     nodes-all [] h = refl
-    nodes-all (p ∷ ps) h = rw (picked-append, nodes-of (length p) (s .nodes) (first-key p) 0 (map (masked l) p) h (simp length-map (omega arith)), nodes-all ps h, map-append)
+    nodes-all (p ∷ ps) h =
+        rw (picked-append, nodes-of (length p) (s .nodes) (first-key p) 0 (map (masked l) p) h (simp length-map (omega arith)), nodes-all ps h, map-append)
 
     pub nodes-list : (os : List Order) → flat (partitions s l (list-at s l os)) ≡ list-at s l os
     unfolding flat list-at
@@ -48,7 +49,8 @@ module _ (l : ℕ) where
 pub nodes-level : (s : Sizes) (l : ℕ) (os : List Order) → 0 < s .nodes → 1 ≤ l → l ≤ beta s → all-nodes l (chunks s os) ≡ map (masked l) (list-at s l os)
 unfolding chunks
 nodes-level s l os b h g =
-    picked-from _ s (beta s) 1 l os h (omega arith) (λ l′ f n e. ne-eqb l′ l e) ∙ nodes-all l s (partitions s l (list-at s l os)) b ∙ ap (map (masked l)) (nodes-list l s os)
+    picked-from _ s (beta s) 1 l os h (omega arith) (λ l′ f n e. ne-eqb l′ l e)
+    ∙ nodes-all l s (partitions s l (list-at s l os)) b ∙ ap (map (masked l)) (nodes-list l s os)
 
 pub nodes-one : (s : Sizes) (os : List Order) → 0 < s .nodes → 1 ≤ beta s → all-nodes 1 (chunks s os) ≡ front ∷ os
 unfolding list-at

@@ -186,7 +186,8 @@ module _ (s : Sizes) (T : (l f : ℕ) → List Order) where
           }
       go (right r m o) = q r y v o (λ k. g (omega (arith, k, simp length-append at (ap length m))))
 
-  nodes-dive : (l j : ℕ) → ((x : Order) (seg : List Order) → Walks s T l x seg → Dives j seg) → j ≤ l → (ns seg : List Order) → Exact s (suc l) ns → Nodes s T (Walks s T l) ns seg → Dives j seg
+  nodes-dive : (l j : ℕ) → ((x : Order) (seg : List Order) → Walks s T l x seg → Dives j seg) → j ≤ l
+      → (ns seg : List Order) → Exact s (suc l) ns → Nodes s T (Walks s T l) ns seg → Dives j seg
   nodes-dive l j f h [] seg ex w u y v e g = absurd (nothing u y v (sym w ∙ e))
   nodes-dive l j f h (n ∷ ns) seg ex w u y v e g =
       both-dive j (w .0) (w .1) (f n (w .0) (w .3)) (nodes-high s T l j ns (w .1) h (ex .1) (w .4)) (nodes-dive l j f h ns (w .1) (ex .1) (w .4)) u y v (sym (w .2) ∙ e) g

@@ -82,14 +82,15 @@ module _ (s : Sizes) (l : ℕ) where
   pub at-least-append : (xs zs : List Order) → at-least s l (xs ++ zs) ≡ at-least s l xs ++ at-least s l zs
   unfolding at-least
   at-least-append [] zs = refl
-  at-least-append (x ∷ xs) zs = rw (at-least-append xs zs) (cond-out (λ (r : List Order). r ++ at-least s l zs) (leb l (level s (x .key))) (x ∷ at-least s l xs) (at-least s l xs))
+  at-least-append (x ∷ xs) zs =
+      rw (at-least-append xs zs) (cond-out (λ (r : List Order). r ++ at-least s l zs) (leb l (level s (x .key))) (x ∷ at-least s l xs) (at-least s l xs))
 
   pub at-least-up : (a : ℕ) (xs : List Order) → Up a xs → Up a (at-least s l xs)
   unfolding at-least
   at-least-up a [] u = tt
   at-least-up a (x ∷ xs) u =
       let v = at-least-up _ xs (u .1) in
-      cond-valid (Up a) (leb l (level s (x .key))) _ _ (u .0, v) (up-from (at-least s l xs) (omega (arith, u .0)) v)
+      cond-valid (Up a) (leb l (level s (x .key))) (u .0, v) (up-from (at-least s l xs) (omega (arith, u .0)) v)
 
 module _ (st : Order → Bool) where
   pub rest-heads : (a : ℕ) (xs : List Order) → Up a xs → Heads a (rest st xs)
@@ -97,7 +98,7 @@ module _ (st : Order → Bool) where
   rest-heads a [] u = tt
   rest-heads a (x ∷ xs) u =
       let v = rest-heads _ xs (u .1) in
-      cond-valid (Heads a) (st x) _ _ (u .0, v) (heads-from (rest st xs) (omega (arith, u .0)) v)
+      cond-valid (Heads a) (st x) (u .0, v) (heads-from (rest st xs) (omega (arith, u .0)) v)
 
 pub pick-past : (f : ℕ) (ps : List (List Order)) (a : ℕ) → f < a → Heads a ps → pick f ps ≡ []
 unfolding pick

@@ -122,7 +122,7 @@ unfolding held at-least
 held-least s l f [] e = e
 held-least s l f (x ∷ xs) e =
     let ih = held-least s l f xs (or-right (eqb (x .key) f) (held f xs) e) in
-    cond-valid (λ (q : List Order). held f q ≡ false) (leb l (level s (x .key))) _ _ (rw (or-left (eqb (x .key) f) (held f xs) e) ih) ih
+    cond-valid (λ (q : List Order). held f q ≡ false) (leb l (level s (x .key))) (rw (or-left (eqb (x .key) f) (held f xs) e) ih) ih
 
 pub part-none : (s : Sizes) (os : List Order) (l f : ℕ) → Up 1 os → 0 < f → held f os ≡ false → part s os l f ≡ []
 unfolding list-at held front

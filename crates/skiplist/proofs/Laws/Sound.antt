@@ -60,7 +60,8 @@ unfolding at-least
 least-some s k [] = record { few = omega arith; fine = λ f. f }
 least-some s k (o ∷ os) =
     let w = least-some s k os in
-    cond-valid (Some (o ∷ os)) (leb k (level s (o .key))) _ _ (record { few = omega (arith, w .few); fine = λ f. (f .0, w .fine (f .1)) }) (record { few = omega (arith, w .few); fine = λ f. w .fine (f .1) })
+    cond-valid (Some (o ∷ os)) (leb k (level s (o .key)))
+    (record { few = omega (arith, w .few); fine = λ f. (f .0, w .fine (f .1)) }) (record { few = omega (arith, w .few); fine = λ f. w .fine (f .1) })
 
 list-some : (s : Sizes) (k : ℕ) (os : List Order) → Some (front ∷ os) (list-at s k os)
 unfolding list-at
@@ -85,7 +86,7 @@ fines-masked : (l : ℕ) (xs : List Order) → Fines xs → Fines (map (masked l
 unfolding masked
 fines-masked l [] f = tt
 fines-masked l (x ∷ xs) f =
-    let small : (n : ℕ) → n < 4294967296 → cond (eqb l 1) n 0 < 4294967296 = λ n h. cond-valid (λ i. i < 4294967296) (eqb l 1) n 0 h (omega arith) in
+    let small : (n : ℕ) → n < 4294967296 → cond (eqb l 1) n 0 < 4294967296 = λ n h. cond-valid (λ i. i < 4294967296) (eqb l 1) h (omega arith) in
     (record { key = f .0 .key; total = small (x .total) (f .0 .total); displayed = small (x .displayed) (f .0 .displayed) }, fines-masked l xs (f .1))
 
 first-fine : (p : List Order) → Fines p → first-key p < 4294967296
