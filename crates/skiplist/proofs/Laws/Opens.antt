@@ -223,23 +223,16 @@ module _ (s : Sizes) (T : (l f : ℕ) → List Order) where
             (subst (λ (r : List Order). keys (T (suc j) (x .key)) ≡ x .key ∷ keys (at-least s (suc j) r)) q (p .reads));
       }
 
-  pub piece-part : (j : ℕ) (xs : List Order) (y : Order) (mine others : List Order) → Piece j y mine → High s (suc j) others → Up 1 (xs ++ y ∷ (mine ++ others)) → suc j < level s (y .key) →
-      keys (T (suc j) (y .key)) ≡ keys (part s (xs ++ y ∷ (mine ++ others)) (suc j) (y .key))
-  unfolding keys
-  piece-part j xs y mine others p g v h =
-      let m : Up 1 mine = up-front mine others 1 (up-from (mine ++ others) (omega arith) (up-behind xs y (mine ++ others) 1 v)) in
-      p .reads ∙ sym (ap keys (part-segment s (suc j) xs y mine others v m h (p .low) g))
-
   pub read-part : (o : Order) (os : List Order) → Walks s T (beta s) front (o ∷ os) → Up 1 os →
       (j : ℕ) (xs : List Order) (y : Order) (zs : List Order) → os ≡ xs ++ y ∷ zs → suc j < level s (y .key) → keys (T (suc j) (y .key)) ≡ keys (part s os (suc j) (y .key))
+  unfolding keys
   read-part o os w u j xs y zs e h =
-      go (dive (beta s) front (o ∷ os) w (suc j) (omega (arith, level-most s (y .key))) (o ∷ xs) y zs (ap (λ (r : List Order). o ∷ r) e) (λ k. h))
-    where
-      go : Found s T (suc j) y zs → keys (T (suc j) (y .key)) ≡ keys (part s os (suc j) (y .key))
-      go f =
-          let g : os ≡ xs ++ y ∷ (f .mine ++ f .others) = e ∙ ap (λ (r : List Order). xs ++ y ∷ r) (f .whole) in
-          subst (λ (z : List Order). keys (T (suc j) (y .key)) ≡ keys (part s z (suc j) (y .key))) (sym g)
-          (piece-part j xs y (f .mine) (f .others) (found-piece j y (f .mine) (f .node) (f .same) (f .walk)) (f .high) (subst (Up 1) g u) h)
+      let f = dive (beta s) front (o ∷ os) w (suc j) (omega (arith, level-most s (y .key))) (o ∷ xs) y zs (ap (λ (r : List Order). o ∷ r) e) (λ k. h) in
+      let p = found-piece j y (f .mine) (f .node) (f .same) (f .walk) in
+      let g : os ≡ xs ++ y ∷ (f .mine ++ f .others) = e ∙ ap (λ (r : List Order). xs ++ y ∷ r) (f .whole) in
+      let v = subst (Up 1) g u in
+      let m : Up 1 (f .mine) = up-front (f .mine) (f .others) 1 (up-from (f .mine ++ f .others) (omega arith) (up-behind xs y (f .mine ++ f .others) 1 v)) in
+      p .reads ∙ sym (ap (λ (z : List Order). keys (part s z (suc j) (y .key))) g ∙ ap keys (part-segment s (suc j) xs y (f .mine) (f .others) v m h (p .low) (f .high)))
 
   pub part-front : (l : ℕ) (os : List Order) → Up 1 os → part s os l 0 ≡ front ∷ tail-part s l os
   unfolding head-part at-least opened first-key front
@@ -247,20 +240,15 @@ module _ (s : Sizes) (T : (l f : ℕ) → List Order) where
 
   pub read-front : (o : Order) (os : List Order) → Walks s T (beta s) front (o ∷ os) → Up 1 os → (j : ℕ) → suc j ≤ beta s → keys (T (suc j) 0) ≡ keys (part s os (suc j) 0)
   unfolding keys front
-  read-front o os w u j h = go (dive (beta s) front (o ∷ os) w (suc j) h [] o os refl (λ k. absurd (omega arith)))
-    where
-      zero-key : o .key ≡ 0
-      zero-key =
-          let p = shape s T (beta s) front (o ∷ os) w in
-          ap (λ (z : Order). z .key) (head-same o (p .head) os (p .rest) (p .whole) .0) ∙ p .same
-
-      go : Found s T (suc j) o os → keys (T (suc j) 0) ≡ keys (part s os (suc j) 0)
-      go f =
-          let q = found-piece j o (f .mine) (f .node) (f .same) (f .walk) in
-          let m : Up 1 (f .mine) = up-front (f .mine) (f .others) 1 (subst (Up 1) (f .whole) u) in
-          let a : keys (T (suc j) 0) ≡ 0 ∷ keys (at-least s (suc j) (f .mine)) = subst (λ (k : ℕ). keys (T (suc j) k) ≡ k ∷ keys (at-least s (suc j) (f .mine))) zero-key (q .reads) in
-          let b : tail-part s (suc j) os ≡ at-least s (suc j) (f .mine) = ap (tail-part s (suc j)) (f .whole) ∙ tail-segment s (suc j) (f .mine) (f .others) m (q .low) (f .high) in
-          a ∙ sym (ap keys (part-front (suc j) os u ∙ ap (λ (r : List Order). front ∷ r) b))
+  read-front o os w u j h =
+      let f = dive (beta s) front (o ∷ os) w (suc j) h [] o os refl (λ k. absurd (omega arith)) in
+      let q = found-piece j o (f .mine) (f .node) (f .same) (f .walk) in
+      let m : Up 1 (f .mine) = up-front (f .mine) (f .others) 1 (subst (Up 1) (f .whole) u) in
+      let s₀ = shape s T (beta s) front (o ∷ os) w in
+      let z : o .key ≡ 0 = ap (λ (z : Order). z .key) (head-same o (s₀ .head) os (s₀ .rest) (s₀ .whole) .0) ∙ s₀ .same in
+      let a : keys (T (suc j) 0) ≡ 0 ∷ keys (at-least s (suc j) (f .mine)) = subst (λ (k : ℕ). keys (T (suc j) k) ≡ k ∷ keys (at-least s (suc j) (f .mine))) z (q .reads) in
+      let b : tail-part s (suc j) os ≡ at-least s (suc j) (f .mine) = ap (tail-part s (suc j)) (f .whole) ∙ tail-segment s (suc j) (f .mine) (f .others) m (q .low) (f .high) in
+      a ∙ sym (ap keys (part-front (suc j) os u ∙ ap (λ (r : List Order). front ∷ r) b))
 
   -- at level 1 with quantities
   pub one-nodes : (ns seg : List Order) → Nodes s T (Walks s T zero) ns seg → seg ≡ ns
