@@ -43,15 +43,12 @@ module _ {A : Type 0} {home : A → ℕ} {before : A → A → Bool} {m : ℕ} (
   -- one label stands in one block
   pub one-label : (bs : List (Block A)) → Rule-3 home before m bs → (c d : A) (i j : ℕ) → around m bs i ≡ holds c → around m bs j ≡ holds d
       → before c d ≡ false → before d c ≡ false → i % m ≡ j % m
-  one-label bs r c d i j e f p q = go (far ord bs c i e) (far ord bs d j f) (ord .tied c d p q)
+  one-label bs r c d i j e f p q = by (far ord bs c i e) (far ord bs d j f) (ord .tied c d p q) (which _ _)
     where
-      go : (x : Far home m bs c i) (y : Far home m bs d j) → home c ≡ home d → i % m ≡ j % m
-      go x y t = by (which (x .steps) (y .steps))
-        where
-          by : Which (x .steps) (y .steps) → i % m ≡ j % m
-          by (less h) = absurd (none-nearer bs r c d x y t p h)
-          by (same h) = sym (x .there) ∙ ap (λ (n : ℕ). (home c + n) % m) h ∙ ap (λ (n : ℕ). (n + y .steps) % m) t ∙ y .there
-          by (more h) = absurd (none-nearer bs r d c y x (sym t) q h)
+      by : (x : Far home m bs c i) (y : Far home m bs d j) → home c ≡ home d → Which (x .steps) (y .steps) → i % m ≡ j % m
+      by x y t (less h) = absurd (none-nearer bs r c d x y t p h)
+      by x y t (same h) = sym (x .there) ∙ ap (λ (n : ℕ). (home c + n) % m) h ∙ ap (λ (n : ℕ). (n + y .steps) % m) t ∙ y .there
+      by x y t (more h) = absurd (none-nearer bs r d c y x (sym t) q h)
 
   -- a walk over smaller labels does not come round to an empty block
   pub room : (bs : List (Block A)) (c : A) (k g : ℕ) → around m bs g ≡ empty → Smaller-to home before m bs c k → k < m

@@ -35,22 +35,22 @@ module _ (m e t j q : ℕ) (he : e < m) (hq : q < m) (pos : 0 < t) (few : t < m)
 
   pub stays-crosses : stays-at m e j q ≡ not (leb t (distance-of m q j))
   unfolding stays-at
-  stays-crosses = go (steps-to m e he q hq .steps) (steps-to m e he q hq .few) (steps-to m e he q hq .there)
+  stays-crosses =
+      let a = steps-to m e he q hq in
+      rw (distance-steps m e q (a .steps) he hq (a .few) (a .there), distance-steps m e j t he inside few there) (by (a .steps) (a .few) (a .there) (which (a .steps) t))
     where
-      go : (a : ℕ) → a < m → (e + a) % m ≡ q → (not (eqb (distance-of m e q) 0) && leb (distance-of m e q) (distance-of m e j)) ≡ not (leb t (distance-of m q j))
-      go a w u = rw (distance-steps m e q a he hq w u, distance-steps m e j t he inside few there) (by a w u (which a t))
-        where
-          some : (a : ℕ) → a < m → (e + a) % m ≡ q → a ≤ t → (not (eqb a 0) && leb a t) ≡ not (leb t (distance-of m q j))
-          some zero w u h =
-              rw (distance-steps m q j t hq inside few (from-home 0 t u (omega arith)), le-leb t t (omega arith))
-          some (suc a) w u h =
-              rw (distance-steps m q j (t - suc a) hq inside (omega arith) (from-home (suc a) (t - suc a) u (omega arith)), ne-eqb (suc a) 0 (omega arith), le-leb (suc a) t h, lt-leb t (t - suc a) (omega arith))
+      some : (a : ℕ) → a < m → (e + a) % m ≡ q → a ≤ t → (not (eqb a 0) && leb a t) ≡ not (leb t (distance-of m q j))
+      some zero w u h = rw (distance-steps m q j t hq inside few (from-home 0 t u (omega arith)), le-leb t t (omega arith))
+      some (suc a) w u h =
+          rw (distance-steps m q j (t - suc a) hq inside (omega arith) (from-home (suc a) (t - suc a) u (omega arith)), ne-eqb (suc a) 0 (omega arith), le-leb (suc a) t h)
+          (rw (lt-leb t (t - suc a) (omega arith)))
 
-          by : (a : ℕ) → a < m → (e + a) % m ≡ q → Which a t → (not (eqb a 0) && leb a t) ≡ not (leb t (distance-of m q j))
-          by a w u (less h) = some a w u (omega arith)
-          by a w u (same h) = some a w u (omega arith)
-          by a w u (more h) =
-              rw (distance-steps m q j (t + m - a) hq inside (omega arith) (round-home a (t + m - a) u (omega arith)), ne-eqb a 0 (omega arith), lt-leb a t h, le-leb t (t + m - a) (omega arith))
+      by : (a : ℕ) → a < m → (e + a) % m ≡ q → Which a t → (not (eqb a 0) && leb a t) ≡ not (leb t (distance-of m q j))
+      by a w u (less h) = some a w u (omega arith)
+      by a w u (same h) = some a w u (omega arith)
+      by a w u (more h) =
+          rw (distance-steps m q j (t + m - a) hq inside (omega arith) (round-home a (t + m - a) u (omega arith)), ne-eqb a 0 (omega arith), lt-leb a t h)
+          (rw (le-leb t (t + m - a) (omega arith)))
 
 module _ (s : Sizes) (some : 0 < s .blocks) where
   past-hole : (h t i : ℕ) (x : List (Block Chunk)) → 0 < t → t < s .blocks → i % s .blocks ≡ (h + t) % s .blocks → around (s .blocks) (stored (s .blocks) x h empty) (h + t) ≡ getD x (i % s .blocks) empty

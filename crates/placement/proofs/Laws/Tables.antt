@@ -9,7 +9,7 @@ use native.Mathlib.Decide.{decLt}
 use native.Mathlib.Omega.{arith}
 use lib.ListN.{length, getD, set, length-append, List·getD-eq-default}
 use lib.Seq.{sets, length-sets}
-use Rattle.placement.specs.Blocks.{Block, empty, holds, stored, Stands, how-many}
+use Rattle.placement.specs.Blocks.{Block, empty, holds, around, stored, Stands, how-many}
 use Rattle.sizes.specs.declared.Sizes.{Sizes}
 use Rattle.placement.specs.declared.Order.{Order}
 use Rattle.placement.specs.Labels.{label, home}
@@ -120,11 +120,15 @@ module _ (s : Sizes) (F : Map) (n : ℕ) (hd bs : List ℕ) (t : Table s F n hd 
       omega (arith, store-count (s .blocks) (t .blocks) (z .at) (holds (labelled w (nodes-of F w))) empty (t .keeps .long) some (z .is), t .keeps .count)
 
   -- a block that is found has the label's chunk
-  found-there : (w : Label) (i : ℕ) → 0 < w .level → search-in s bs w ≡ At i → Told s F w (t .blocks) (At i)
+  found-there : (w : Label) (i : ℕ) → 0 < w .level → search-in s bs w ≡ At i
+      → (i < s .blocks) × (around (s .blocks) (t .blocks) i ≡ holds (labelled w (nodes-of F w))) × (nodes-of F w ≢ [])
   found-there w i pos e =
-      subst (Told s F w (t .blocks))
+      go (subst (Told s F w (t .blocks))
       (sym (search-blocks s some hd (t .head) (t .blocks) all (t .keeps .long) w) ∙ ap (λ (x : List ℕ). search-in s x w) (sym (t .is)) ∙ e)
-      (search-told s some F n (t .blocks) all (t .keeps) w pos)
+      (search-told s some F n (t .blocks) all (t .keeps) w pos))
+    where
+      go : Told s F w (t .blocks) (At i) → (i < s .blocks) × (around (s .blocks) (t .blocks) i ≡ holds (labelled w (nodes-of F w))) × (nodes-of F w ≢ [])
+      go (Finding.is-at h z q) = (h, z, q)
 
   -- a table of the same header, by its blocks
   now-keeps : (G : Map) (k : ℕ) (bl : List (Block Chunk)) (bs′ : List ℕ) → bs′ ≡ hd ++ all-bytes s bl → Sound s G → Keeps s bl G k → Table s G k hd bs′
@@ -134,15 +138,13 @@ module _ (s : Sizes) (F : Map) (n : ℕ) (hd bs : List ℕ) (t : Table s F n hd 
   pub pull-keeps : (w : Label) (i : ℕ) → 0 < w .level → search-in s bs w ≡ At i
       → Table s (cleared w F) (n - 1) hd (pull (bytes (block-long s)) (home s) (s .blocks) (s .blocks - 1) i (i + 1) bs)
   unfolding without-label
-  pull-keeps w i pos e = go (found-there w i pos e)
-    where
-      go : Told s F w (t .blocks) (At i) → Table s (cleared w F) (n - 1) hd (pull (bytes (block-long s)) (home s) (s .blocks) (s .blocks - 1) i (i + 1) bs)
-      go (Finding.is-at h z q) =
-          let c : n ≡ suc (n - 1) = omega (arith, count-some w q) in
-          now-keeps (cleared w F) (n - 1) (removed-at (chunk-home s) (s .blocks) i (t .blocks)) _
-          (ap (λ (x : List ℕ). pull (bytes (block-long s)) (home s) (s .blocks) (s .blocks - 1) i (i + 1) x) (t .is) ∙ pull-at s some hd (t .head) (t .blocks) all (t .keeps .long) i h)
-          (sound-without s F (labelled w []) (t .sound))
-          (take-out (lawful s some) (labelled w (nodes-of F w)) i (subst (λ (x : ℕ). Keeps s (t .blocks) F x) c (t .keeps)) z)
+  pull-keeps w i pos e =
+      let f = found-there w i pos e in
+      let c : n ≡ suc (n - 1) = omega (arith, count-some w (f .2)) in
+      now-keeps (cleared w F) (n - 1) (removed-at (chunk-home s) (s .blocks) i (t .blocks)) _
+      (ap (λ (x : List ℕ). pull (bytes (block-long s)) (home s) (s .blocks) (s .blocks - 1) i (i + 1) x) (t .is) ∙ pull-at s some hd (t .head) (t .blocks) all (t .keeps .long) i (f .0))
+      (sound-without s F (labelled w []) (t .sound))
+      (take-out (lawful s some) (labelled w (nodes-of F w)) i (subst (λ (x : ℕ). Keeps s (t .blocks) F x) c (t .keeps)) (f .1))
 
   -- as `remove` has it: the label is cleared where it is there, and nothing changes where it is not
   pub remove-keeps : (w : Label) → 0 < w .level → nodes-of F w ≢ []
@@ -179,17 +181,15 @@ module _ (s : Sizes) (F : Map) (n : ℕ) (hd bs : List ℕ) (t : Table s F n hd 
   pub write-keeps : (w : Label) (i : ℕ) (ns : List Order) → 0 < w .level → search-in s bs w ≡ At i → Holdable s (labelled w ns) → ns ≢ []
       → Table s (with-nodes w ns F) n hd (put-block (block-long s) bs i (block-with (block-long s) w (length ns) (nodes-bytes ns)))
   unfolding with-chunk
-  write-keeps w i ns pos e q full = go (found-there w i pos e)
-    where
-      go : Told s F w (t .blocks) (At i) → Table s (with-nodes w ns F) n hd (put-block (block-long s) bs i (block-with (block-long s) w (length ns) (nodes-bytes ns)))
-      go (Finding.is-at h z u) =
-          now-keeps (with-nodes w ns F) n (stored (s .blocks) (t .blocks) i (holds (labelled w ns))) _
-          (ap (λ (x : List ℕ). put-block (block-long s) bs i x) (block-written s w ns (q .nodes))
-          ∙ ap (λ (x : List ℕ). put-block (block-long s) x i (block-bytes s (holds (labelled w ns)))) (t .is)
-          ∙ block-put s some hd (t .head) (t .blocks) all (t .keeps .long) i (holds (labelled w ns)) h (held q)
-          ∙ ap (λ (x : List (Block Chunk)). hd ++ all-bytes s x) (stored-inside (s .blocks) (t .blocks) i (holds (labelled w ns)) h))
-          (sound-with s F (labelled w ns) (t .sound) q)
-          (change (lawful s some) (labelled w (nodes-of F w)) (labelled w ns) i (t .keeps) z refl full)
+  write-keeps w i ns pos e q full =
+      let f = found-there w i pos e in
+      now-keeps (with-nodes w ns F) n (stored (s .blocks) (t .blocks) i (holds (labelled w ns))) _
+      (ap (λ (x : List ℕ). put-block (block-long s) bs i x) (block-written s w ns (q .nodes))
+      ∙ ap (λ (x : List ℕ). put-block (block-long s) x i (block-bytes s (holds (labelled w ns)))) (t .is)
+      ∙ block-put s some hd (t .head) (t .blocks) all (t .keeps .long) i (holds (labelled w ns)) (f .0) (held q)
+      ∙ ap (λ (x : List (Block Chunk)). hd ++ all-bytes s x) (stored-inside (s .blocks) (t .blocks) i (holds (labelled w ns)) (f .0)))
+      (sound-with s F (labelled w ns) (t .sound) q)
+      (change (lawful s some) (labelled w (nodes-of F w)) (labelled w ns) i (t .keeps) (f .1) refl full)
 
   -- the form of the bytes that the functions ask
   pub shaped : Shaped s bs

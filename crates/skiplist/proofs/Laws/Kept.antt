@@ -11,6 +11,7 @@ use Rattle.sizes.specs.Sizes.{prime, beta}
 use Rattle.sizes.specs.declared.Sizes.{Sizes}
 use Rattle.placement.specs.declared.Order.{Order}
 use Rattle.placement.proofs.Laws.Cells.{cond-valid}
+use Rattle.sizes.proofs.Laws.Sizes.{and-parts}
 use Rattle.skiplist.specs.Lists.{chunks}
 use Rattle.skiplist.specs.Image.{into, quantities-good, orders-good, fits}
 use Rattle.skiplist.specs.Questions.{first-no, is-key, held, without, with-order, order, asks-put, asks-key}
@@ -75,11 +76,7 @@ pub record Fit (s : Sizes) (os : List Order) : Type 0 where
 
 pub fits-parts : (s : Sizes) (os : List Order) → fits s os ≡ true → Fit s os
 unfolding fits
-fits-parts s os e =
-    record {
-      few = leb-true (length os) (s .orders) (and-left (leb (length os) (s .orders)) (leb (length (chunks s os)) (s .blocks)) e);
-      room = leb-true (length (chunks s os)) (s .blocks) (and-right (leb (length os) (s .orders)) (leb (length (chunks s os)) (s .blocks)) e);
-    }
+fits-parts s os e = let w = and-parts _ _ e in record { few = leb-true _ _ (w .0); room = leb-true _ _ (w .1) }
 
 pub fits-make : (s : Sizes) (os : List Order) → length os ≤ s .orders → length (chunks s os) ≤ s .blocks → fits s os ≡ true
 unfolding fits

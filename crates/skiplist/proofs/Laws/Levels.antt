@@ -60,10 +60,9 @@ pow-dvd c i zero = subst (λ (z : ℕ). c ^ i ∣ c ^ z) (sym (add-zero i)) (dvd
 pow-dvd c i (suc d) = subst (λ (z : ℕ). c ^ i ∣ z) (sym (ap (λ (y : ℕ). c ^ y) (add-suc i d) ∙ pow-suc c (i + d))) (dvd-mul-right-of-dvd (c ^ i) (pow-dvd c i d) c)
 
 pow-down : (c i j v : ℕ) → i ≤ j → v % c ^ j ≡ 0 → v % c ^ i ≡ 0
-pow-down c i j v l e = mod-eq-zero-of-dvd (c ^ i) (dvd-trans (c ^ i) (subst (λ (z : ℕ). c ^ i ∣ c ^ z) q (pow-dvd c i (j - i))) (dvd-of-mod-eq-zero (c ^ j) e))
-  where
-    q : i + (j - i) ≡ j
-    q = omega arith
+pow-down c i j v l e =
+    let q : i + (j - i) ≡ j = omega arith in
+    mod-eq-zero-of-dvd (c ^ i) (dvd-trans (c ^ i) (subst (λ (z : ℕ). c ^ i ∣ c ^ z) q (pow-dvd c i (j - i))) (dvd-of-mod-eq-zero (c ^ j) e))
 
 record Largest (k j c v r : ℕ) : Type 0 where
   pub from : j ≤ r

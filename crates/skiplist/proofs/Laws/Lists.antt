@@ -33,10 +33,7 @@ among-least s k (q ∷ os) o h l = go (leb k (level s (q .key))) refl h (λ w. a
     go : (t : Bool) → leb k (level s (q .key)) ≡ t → Among o (q ∷ os) → (Among o os → Among o (at-least s k os)) → Among o (cond t (q ∷ at-least s k os) (at-least s k os))
     go true e (inl f) ih = inl f
     go true e (inr w) ih = inr (ih w)
-    go false e (inl f) ih = absurd (leb-false-not (subst (λ (z : Order). k ≤ level s (z .key)) f l))
-      where
-        leb-false-not : k ≤ level s (q .key) → ⊥
-        leb-false-not w = omega (arith, leb-false k (level s (q .key)) e)
+    go false e (inl f) ih = absurd (omega (arith, leb-false k (level s (q .key)) e, subst (λ (z : Order). k ≤ level s (z .key)) f l))
     go false e (inr w) ih = ih w
 
 pub lists-are : Lists-are

@@ -1,6 +1,6 @@
 -- Rising orders, good orders taken apart, and the partition that a key heads.
 use mathlib.Core.Path.{_≡_, refl}
-use mathlib.Core.Bool.{Bool, true, false, _&&_, _||_, false≢true}
+use mathlib.Core.Bool.{Bool, true, false, _&&_, _||_}
 use mathlib.Core.List.{List, [], _∷_, _++_, append-nil}
 use Prim.Native.Nat.{ℕ, suc, _≤_, _<_}
 use native.Mathlib.Omega.{arith}
@@ -12,6 +12,7 @@ use Rattle.sizes.specs.Hash.{level}
 use Rattle.sizes.specs.declared.Sizes.{Sizes}
 use Rattle.placement.specs.declared.Order.{Order}
 use Rattle.placement.proofs.Laws.Cells.{cond-out, cond-valid}
+use Rattle.sizes.proofs.Laws.Sizes.{and-parts}
 use Rattle.skiplist.specs.Lists.{at-least, rest, first-key}
 use Rattle.skiplist.specs.Image.{quantities-good, orders-good}
 use Rattle.skiplist.specs.Questions.{without}
@@ -50,12 +51,6 @@ pub up-past : (xs : List Order) (y : Order) (zs : List Order) (a : ℕ) → Up a
 up-past [] y zs a u = u .0
 up-past (x ∷ xs) y zs a u = omega (arith, u .0, up-past xs y zs _ (u .1))
 
-pub and-four : (p q r t : Bool) → (p && q && r && t) ≡ true → (p ≡ true) × (q ≡ true) × (r ≡ true) × (t ≡ true)
-and-four true true true t e = (refl, refl, refl, e)
-and-four false q r t e = absurd (false≢true e)
-and-four true false r t e = absurd (false≢true e)
-and-four true true false t e = absurd (false≢true e)
-
 -- orders-good, taken apart
 pub record Good (a : ℕ) (o : Order) (os : List Order) : Type 0 where
   pub from : a ≤ o .key
@@ -66,8 +61,10 @@ pub record Good (a : ℕ) (o : Order) (os : List Order) : Type 0 where
 pub good-parts : (a : ℕ) (o : Order) (os : List Order) → orders-good a (o ∷ os) ≡ true → Good a o os
 unfolding orders-good
 good-parts a o os e =
-    let w = and-four (leb a (o .key)) (ltb (o .key) prime) (quantities-good (o .total) (o .displayed)) (orders-good (suc (o .key)) os) e in
-    record { from = leb-true a (o .key) (w .0); key = w .1; quantity = w .2; others = w .3 }
+    let p = and-parts _ _ e in
+    let q = and-parts _ _ (p .0) in
+    let k = and-parts _ _ (q .0) in
+    record { from = leb-true a (o .key) (k .0); key = k .1; quantity = q .1; others = p .1 }
 
 pub good-up : (a : ℕ) (os : List Order) → orders-good a os ≡ true → Up a os
 good-up a [] e = tt

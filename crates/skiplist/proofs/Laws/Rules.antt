@@ -5,6 +5,7 @@ use mathlib.Core.List.{List, [], _∷_, _++_}
 use mathlib.Core.Logic.{_⊎_, inl, inr}
 use Prim.Native.Nat.{ℕ, zero, suc, _+_, _%_, _≤_, _<_}
 use native.Mathlib.Nat.{mod-lt, mod-eq-of-lt}
+use native.Mathlib.Decide.{decLt}
 use native.Mathlib.Omega.{arith}
 use lib.ListN.{length, getD, replicate}
 use Rattle.sizes.specs.Sizes.{made}
@@ -13,7 +14,7 @@ use Rattle.placement.specs.Blocks.{Among, Block, empty, holds, around, stored, 
 use Rattle.placement.specs.Chunks.{Chunk, chunk-before, chunk-home, all-bytes}
 use Rattle.sizes.specs.declared.Sizes.{Sizes}
 use Rattle.placement.specs.declared.Order.{Order}
-use Rattle.sizes.proofs.Laws.Round.{Which, less, same, more, which, steps-apart}
+use Rattle.sizes.proofs.Laws.Round.{steps-apart}
 use Rattle.placement.proofs.Laws.Blocks.{around-inside, stored-long, Far, far}
 use Rattle.placement.proofs.Laws.Store.{before-store}
 use Rattle.placement.proofs.Laws.Placed.{Rising, store-count, nothing, one-placement}
@@ -101,15 +102,13 @@ module _ (s : Sizes) (os : List Order) (m : made s ≡ true) (g : orders-good 1 
   passed : (j : ℕ) (c : Chunk) → getD (blocks s os) j empty ≡ holds c → (t : ℕ) → ((u : ℕ) → u ≤ t → (chunk-home s c + u) % s .blocks ≡ j → ⊥) →
       holds-smaller chunk-before c (getD (blocks s os) ((chunk-home s c + t) % s .blocks) empty) ≡ true
   unfolding around
-  passed j c e t never = go (far (ordered (lawful s some-block)) (blocks s os) c j (here j c e))
+  passed j c e t never =
+      let y = far (ordered (lawful s some-block)) (blocks s os) c j (here j c e) in
+      ruled-blocks c (y .steps) (y .few) (y .is) t (before y (decLt t (y .steps)))
     where
-      before : (y : Far (chunk-home s) (s .blocks) (blocks s os) c j) → Which t (y .steps) → t < y .steps
-      before y (less h) = h
-      before y (same h) = absurd (never (y .steps) (omega arith) (y .there ∙ mod-eq-of-lt (below j c e)))
-      before y (more h) = absurd (never (y .steps) (omega arith) (y .there ∙ mod-eq-of-lt (below j c e)))
-
-      go : Far (chunk-home s) (s .blocks) (blocks s os) c j → holds-smaller chunk-before c (getD (blocks s os) ((chunk-home s c + t) % s .blocks) empty) ≡ true
-      go y = ruled-blocks c (y .steps) (y .few) (y .is) t (before y (which t (y .steps)))
+      before : (y : Far (chunk-home s) (s .blocks) (blocks s os) c j) → Dec (t < y .steps) → t < y .steps
+      before y (yes h) = h
+      before y (no h) = absurd (never (y .steps) (omega arith) (y .there ∙ mod-eq-of-lt (below j c e)))
 
   pub image-rules : Rules s os (image s os)
   unfolding image around

@@ -9,21 +9,22 @@ use native.Mathlib.Omega.{arith}
 use borrow.Author.Tests.{ltb-true, leb-true}
 use lib.Dec.{leb, eqb}
 use lib.ListN.{length, take, drop, length-append, take-append-drop}
-use Rattle.sizes.specs.Sizes.{prime, made}
+use Rattle.sizes.specs.Sizes.{made}
 use Rattle.sizes.specs.Hash.{level}
 use Rattle.placement.specs.Chunks.{Chunk}
 use Rattle.placement.specs.Labels.{label}
-use Rattle.placement.specs.Maps.{map-of, Fine, Fines, Holdable, Sound}
+use Rattle.placement.specs.Maps.{map-of, Fines, Holdable, Sound}
 use Rattle.sizes.specs.declared.Sizes.{Sizes}
 use Rattle.placement.specs.declared.Order.{Order}
 use Rattle.sizes.proofs.Laws.Sizes.{some-blocks}
 use Rattle.placement.proofs.Laws.Kinds.{map-only}
 use Rattle.placement.proofs.Laws.Maps.{lawful}
 use Rattle.placement.proofs.Laws.Cells.{cond-valid}
+use Rattle.sizes.proofs.Laws.Sizes.{and-parts}
 use Rattle.skiplist.specs.Lists.{front, at-least, list-at, partitions, first-key, masked, chunks}
 use Rattle.skiplist.specs.Image.{quantities-good, orders-good, fits}
 use Rattle.skiplist.specs.Rules.{Piece}
-use Rattle.skiplist.proofs.Laws.Parts.{and-left, and-right, Good, good-parts}
+use Rattle.skiplist.proofs.Laws.Parts.{good-parts}
 use Rattle.skiplist.proofs.Laws.Walk.{flat}
 use Rattle.skiplist.proofs.Laws.Nodes.{nodes-list}
 use Rattle.skiplist.proofs.Laws.Kept.{fits-parts}
@@ -36,19 +37,13 @@ use Rattle.sizes.proofs.Laws.Sizes.{limits}
 good-fines : (a : ℕ) (os : List Order) → orders-good a os ≡ true → Fines os
 unfolding quantities-good
 good-fines a [] e = tt
-good-fines a (o ∷ os) e = (one, good-fines (suc (o .key)) os (w .others))
-  where
-    w : Good a o os
-    w = good-parts a o os e
-
-    most : o .total ≤ 4294967295
-    most = leb-true (o .total) 4294967295 (and-right (leb 1 (o .total)) (leb (o .total) 4294967295) (and-left (leb 1 (o .total) && leb (o .total) 4294967295) (leb (o .displayed) (o .total)) (w .quantity)))
-
-    part : o .displayed ≤ o .total
-    part = leb-true (o .displayed) (o .total) (and-right (leb 1 (o .total) && leb (o .total) 4294967295) (leb (o .displayed) (o .total)) (w .quantity))
-
-    one : Fine o
-    one = record { key = omega (arith, ltb-true (o .key) prime (w .key)); total = omega (arith, most); displayed = omega (arith, part, most) }
+good-fines a (o ∷ os) e =
+    let w = good-parts a o os e in
+    let q = and-parts (leb 1 (o .total) && leb (o .total) 4294967295) (leb (o .displayed) (o .total)) (w .quantity) in
+    let t = and-parts (leb 1 (o .total)) (leb (o .total) 4294967295) (q .0) in
+    let most = leb-true (o .total) 4294967295 (t .1) in
+    let part = leb-true (o .displayed) (o .total) (q .1) in
+    (record { key = omega (arith, ltb-true); total = omega arith; displayed = omega arith }, good-fines (suc (o .key)) os (w .others))
 
 -- the elements of a level are of the orders
 record Some (os xs : List Order) : Type 0 where
