@@ -311,9 +311,6 @@ module _ {A : Type 0} {home : A → ℕ} {before : A → A → Bool} {m : ℕ} (
       to : A → List (Block A)
       to d = stored m (stored m bs h (holds d)) (h + t) empty
 
-      fewer : t < m
-      fewer = omega (arith, y .left)
-
       test : (d : A) (b : Bool) → around m bs (h + t) ≡ holds d → (x : Far home m bs d (h + t)) → leb t (x .steps) ≡ b
           → ((e : A) (t : ℕ) → Hole p f h t e bs → Pulled home before m bs (pull-from home f h t m bs))
           → ((d : A) → Hole p f (h + t) 1 d (to d) → Pulled home before m (to d) (pull-from home f (h + t) 1 m (to d)))
@@ -333,7 +330,7 @@ module _ {A : Type 0} {home : A → ℕ} {before : A → A → Bool} {m : ℕ} (
           → ((e : A) (t : ℕ) → Hole p f h t e bs → Pulled home before m bs (pull-from home f h t m bs))
           → ((d : A) → Hole p f (h + t) 1 d (to d) → Pulled home before m (to d) (pull-from home f (h + t) 1 m (to d)))
           → Pulled home before m bs (pull-step b bs (λ d. cond (leb t (distance-of m (home d) ((h + t) % m))) (pull-from home f (h + t) 1 m (to d)) (pull-from home f h (suc t) m bs)))
-      go empty n skip move = record { long = y .long; rule-3 = stopped y fewer n; stays = λ x s. s; only = λ x s. s; count = refl }
+      go empty n skip move = record { long = y .long; rule-3 = stopped y (omega (arith, y .left)) n; stays = λ x s. s; only = λ x s. s; count = refl }
       go (holds d) n skip move =
           let x = far ord bs d (h + t) n in
           let q : distance-of m (home d) ((h + t) % m) ≡ x .steps =
@@ -390,20 +387,13 @@ module _ {A : Type 0} {home : A → ℕ} {before : A → A → Bool} {m : ℕ} (
           long = r .long;
           rule-3 = r .rule-3;
           stays = λ x s. stay x s r (ℕ-discrete (s .at % m) (i % m));
-          only = λ x s. old x (r .only x s);
+          only = λ x s. let u = r .only x s in record { at = u .at; is = emptied-is x (u .at) (u .is) };
           count = omega (arith, r .count, store-count m bs i (holds c) empty long (omega (arith, ord .homes c)) is);
-          gone = λ x a b s. new x a b (r .only x s);
+          gone = λ x a b s. let u = r .only x s in emptied-apart x (u .at) (u .is) (one-label ord bs rule x c (u .at) i (emptied-is x (u .at) (u .is)) is a b);
         }
       where
         end : List (Block A)
         end = pull-from home (m - 1) i 1 m emptied
-
-        old : (x : A) → Stands m emptied x → Stands m bs x
-        old x s = record { at = s .at; is = emptied-is x (s .at) (s .is) }
-
-        new : (x : A) → before x c ≡ false → before c x ≡ false → Stands m emptied x → ⊥
-        new x a b s =
-            emptied-apart x (s .at) (s .is) (one-label ord bs rule x c (s .at) i (emptied-is x (s .at) (s .is)) is a b)
 
         stay : (x : A) (s : Stands m bs x) → Pulled home before m emptied end → Dec (s .at % m ≡ i % m) → (x ≡ c) ⊎ Stands m end x
         stay x s r (yes u) = let o = around-mod m bs (s .at) i u in inl (cc (s .is, o))

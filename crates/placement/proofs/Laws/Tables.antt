@@ -3,7 +3,7 @@ use mathlib.Core.Path.{_≡_, refl, sym, ap, _∙_, subst}
 use mathlib.Core.Logic.{_≢_}
 use mathlib.Core.Bool.{true, false, true≢false}
 use mathlib.Core.List.{List, [], _∷_, _++_}
-use Prim.Native.Nat.{ℕ, suc, _+_, _*_, _-_, _≤_, _<_}
+use Prim.Native.Nat.{ℕ, suc, _+_, _-_, _≤_, _<_}
 use native.Mathlib.Nat.{mod-eq-of-lt}
 use native.Mathlib.Decide.{decLt}
 use native.Mathlib.Omega.{arith}
@@ -197,16 +197,13 @@ module _ (s : Sizes) (F : Map) (n : ℕ) (hd bs : List ℕ) (t : Table s F n hd 
   shaped =
       let l = limits s (t .good) in
       record {
-        long = ap length (t .is) ∙ length-append hd (all-bytes s (t .blocks)) ∙ rw (t .head, blocks-bytes) refl;
+        long = ap length (t .is) ∙ length-append hd (all-bytes s (t .blocks)) ∙ rw (t .head, blocks-long s all, t .keeps .long);
         width = refl;
         few = l .nodes-most;
         some = some;
         most = l .blocks-most;
         seeds = l .seeds;
       }
-    where
-      blocks-bytes : length (all-bytes s (t .blocks)) ≡ s .blocks * (8 + 12 * s .nodes)
-      blocks-bytes = blocks-long s all ∙ rw (t .keeps .long)
 
   -- THE NUMBER OF ORDERS in the header
   pub count-keeps : (k : ℕ) → Table s F n (sets hd 11 (big 2 k)) (sets bs 11 (big 2 k))

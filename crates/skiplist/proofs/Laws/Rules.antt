@@ -17,7 +17,7 @@ use Rattle.placement.specs.declared.Order.{Order}
 use Rattle.sizes.proofs.Laws.Round.{steps-apart}
 use Rattle.placement.proofs.Laws.Blocks.{around-inside, stored-long, Far, far}
 use Rattle.placement.proofs.Laws.Store.{before-store}
-use Rattle.placement.proofs.Laws.Placed.{Rising, store-count, nothing, one-placement}
+use Rattle.placement.proofs.Laws.Placed.{Rising, Placing, store-count, nothing, one-placement}
 use Rattle.placement.proofs.Laws.Labels.{labels-strict}
 use Rattle.placement.proofs.Laws.Maps.{lawful}
 use Rattle.placement.proofs.Laws.Kinds.{ordered, one-place}
@@ -83,14 +83,11 @@ module _ (s : Sizes) (os : List Order) (m : made s ≡ true) (g : orders-good 1 
   some-block : zero < s .blocks
   some-block = some-blocks s m
 
-  long : length (blocks s os) ≡ s .blocks
-  long = blocks-placing s os m g f .long
-
-  ruled-blocks : Rule-3 (chunk-home s) chunk-before (s .blocks) (blocks s os)
-  ruled-blocks = blocks-placing s os m g f .rule-3
+  placing : Placing (chunk-home s) chunk-before (s .blocks) (chunks s os) (replicate (s .blocks) empty) (blocks s os)
+  placing = blocks-placing s os m g f
 
   below : (j : ℕ) (c : Chunk) → getD (blocks s os) j empty ≡ holds c → j < s .blocks
-  below j c e = omega (arith, inside (blocks s os) j c e, long)
+  below j c e = omega (arith, inside (blocks s os) j c e, placing .long)
 
   here : (j : ℕ) (c : Chunk) → getD (blocks s os) j empty ≡ holds c → around (s .blocks) (blocks s os) j ≡ holds c
   here j c e = around-inside (s .blocks) (blocks s os) j (below j c e) ∙ e
@@ -104,7 +101,7 @@ module _ (s : Sizes) (os : List Order) (m : made s ≡ true) (g : orders-good 1 
   unfolding around
   passed j c e t never =
       let y = far (ordered (lawful s some-block)) (blocks s os) c j (here j c e) in
-      ruled-blocks c (y .steps) (y .few) (y .is) t (before y (decLt t (y .steps)))
+      placing .rule-3 c (y .steps) (y .few) (y .is) t (before y (decLt t (y .steps)))
     where
       before : (y : Far (chunk-home s) (s .blocks) (blocks s os) c j) → Dec (t < y .steps) → t < y .steps
       before y (yes h) = h
@@ -118,11 +115,11 @@ module _ (s : Sizes) (os : List Order) (m : made s ≡ true) (g : orders-good 1 
     few = fits-parts s os f .few;
     table = blocks s os;
     bytes = refl;
-    number = long;
-    there = λ c a. let t = blocks-placing s os m g f .comes c a in (t .at % s .blocks, omega (arith, mod-lt (t .at) some-block, long), t .is);
-    only = λ j c e. placed-only c (blocks-placing s os m g f .only c (record { at = j; is = here j c e }));
+    number = placing .long;
+    there = λ c a. let t = placing .comes c a in (t .at % s .blocks, omega (arith, mod-lt (t .at) some-block, placing .long), t .is);
+    only = λ j c e. placed-only c (placing .only c (record { at = j; is = here j c e }));
     once = λ i j c e h.
-        sym (mod-eq-of-lt (below i c e)) ∙ sym (one-place (lawful s some-block) (blocks s os) ruled-blocks c c i j (here i c e) (here j c h) refl) ∙ mod-eq-of-lt (below j c h);
+        sym (mod-eq-of-lt (below i c e)) ∙ sym (one-place (lawful s some-block) (blocks s os) (placing .rule-3) c c i j (here i c e) (here j c h) refl) ∙ mod-eq-of-lt (below j c h);
     smaller = passed;
   }
 
