@@ -215,22 +215,16 @@ module _ {A : Type 0} {home : A → ℕ} {before : A → A → Bool} {m : ℕ} (
       next : List (Block A)
       next = stored m bs i (holds c)
 
-      end : Block A → List (Block A)
-      end b = insert-step before c b next (insert-from before f (suc i) m c bs) (λ d. insert-from before f (suc i) m d next)
-
-      test : (d : A) (t : Bool) → around m bs i ≡ holds d → before d c ≡ t
-          → (Carry f (suc i) c bs → Joined home before m c bs (insert-from before f (suc i) m c bs))
-          → ((d : A) → Carry f (suc i) d next → Joined home before m d next (insert-from before f (suc i) m d next))
-          → Joined home before m c bs (cond t (insert-from before f (suc i) m c bs) (insert-from before f (suc i) m d next))
-      test d true e h on swap = on (carry-on y d e h)
-      test d false e h on swap = swap-joined y d e h (insert-from before f (suc i) m d next) (swap d (carry-swap y d e h))
-
       go : (b : Block A) → around m bs i ≡ b
           → (Carry f (suc i) c bs → Joined home before m c bs (insert-from before f (suc i) m c bs))
           → ((d : A) → Carry f (suc i) d next → Joined home before m d next (insert-from before f (suc i) m d next))
-          → Joined home before m c bs (end b)
+          → Joined home before m c bs (insert-step before c b next (insert-from before f (suc i) m c bs) (λ d. insert-from before f (suc i) m d next))
       go empty e on swap = join-here y e
-      go (holds d) e on swap = test d (before d c) e refl on swap
+      go (holds d) e on swap = test (before d c) refl
+        where
+          test : (t : Bool) → before d c ≡ t → Joined home before m c bs (cond t (insert-from before f (suc i) m c bs) (insert-from before f (suc i) m d next))
+          test true h = on (carry-on y d e h)
+          test false h = swap-joined y d e h (insert-from before f (suc i) m d next) (swap d (carry-swap y d e h))
 
   -- THE INSERTION of a chunk whose label is absent, where some block is empty
   pub inserted : (c : A) (bs : List (Block A)) → length bs ≡ m → Rule-3 home before m bs → Other before m c bs → how-many bs < m

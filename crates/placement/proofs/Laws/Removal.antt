@@ -305,37 +305,32 @@ module _ {A : Type 0} {home : A → ℕ} {before : A → A → Bool} {m : ℕ} (
   unfolding pull-from
   pull-keeps zero h t e bs y = record { long = y .long; rule-3 = finished y refl; stays = λ x s. s; only = λ x s. s; count = refl }
   pull-keeps {p} (suc f) h t e bs y =
-      go (around m bs (h + t)) refl (λ e′ t′ u. pull-keeps f h t′ e′ bs u)
+      go (around m bs (h + t)) refl (λ u. pull-keeps f h (suc t) e bs u)
       (λ d u. pull-keeps f (h + t) 1 d (stored m (stored m bs h (holds d)) (h + t) empty) u)
     where
       to : A → List (Block A)
       to d = stored m (stored m bs h (holds d)) (h + t) empty
 
-      test : (d : A) (b : Bool) → around m bs (h + t) ≡ holds d → (x : Far home m bs d (h + t)) → leb t (x .steps) ≡ b
-          → ((e : A) (t : ℕ) → Hole p f h t e bs → Pulled home before m bs (pull-from home f h t m bs))
-          → ((d : A) → Hole p f (h + t) 1 d (to d) → Pulled home before m (to d) (pull-from home f (h + t) 1 m (to d)))
-          → Pulled home before m bs (cond b (pull-from home f (h + t) 1 m (to d)) (pull-from home f h (suc t) m bs))
-      test d true n x q skip move =
-          let v : t ≤ x .steps = leb-true t (x .steps) q in
-          let r = move d (pull y x n v) in record {
-            long = r .long;
-            rule-3 = r .rule-3;
-            stays = λ a s. r .stays a (pull-stays y x n v a s);
-            only = λ a s. pull-only y x n v a (r .only a s);
-            count = r .count ∙ pull-count y x n v;
-          }
-      test d false n x q skip move = skip e (suc t) (pass y x n (leb-false t (x .steps) q))
-
       go : (b : Block A) → around m bs (h + t) ≡ b
-          → ((e : A) (t : ℕ) → Hole p f h t e bs → Pulled home before m bs (pull-from home f h t m bs))
+          → (Hole p f h (suc t) e bs → Pulled home before m bs (pull-from home f h (suc t) m bs))
           → ((d : A) → Hole p f (h + t) 1 d (to d) → Pulled home before m (to d) (pull-from home f (h + t) 1 m (to d)))
           → Pulled home before m bs (pull-step b bs (λ d. cond (leb t (distance-of m (home d) ((h + t) % m))) (pull-from home f (h + t) 1 m (to d)) (pull-from home f h (suc t) m bs)))
       go empty n skip move = record { long = y .long; rule-3 = stopped y (omega (arith, y .left)) n; stays = λ x s. s; only = λ x s. s; count = refl }
       go (holds d) n skip move =
           let x = far ord bs d (h + t) n in
-          let q : distance-of m (home d) ((h + t) % m) ≡ x .steps =
-          distance-steps m (home d) ((h + t) % m) (x .steps) (ord .homes d) (mod-lt (h + t) (omega arith)) (x .few) (x .there) in
-          rw q (test d (leb t (x .steps)) n x refl skip move)
+          rw (distance-steps m (home d) ((h + t) % m) (x .steps) (ord .homes d) (mod-lt (h + t) (omega arith)) (x .few) (x .there)) (test x (leb t (x .steps)) refl)
+        where
+          test : (x : Far home m bs d (h + t)) (b : Bool) → leb t (x .steps) ≡ b → Pulled home before m bs (cond b (pull-from home f (h + t) 1 m (to d)) (pull-from home f h (suc t) m bs))
+          test x true q =
+              let v : t ≤ x .steps = leb-true t (x .steps) q in
+              let r = move d (pull y x n v) in record {
+                long = r .long;
+                rule-3 = r .rule-3;
+                stays = λ a s. r .stays a (pull-stays y x n v a s);
+                only = λ a s. pull-only y x n v a (r .only a s);
+                count = r .count ∙ pull-count y x n v;
+              }
+          test x false q = skip (pass y x n (leb-false t (x .steps) q))
 
 -- what the removal of c leaves
 pub record Removed {A : Type 0} (home : A → ℕ) (before : A → A → Bool) (m : ℕ) (c : A) (bs now : List (Block A)) : Type 0 where

@@ -67,13 +67,12 @@ module _ {A : Type 0} {home : A → ℕ} {before : A → A → Bool} {m : ℕ} (
       rest : Found A
       rest = search-from before f (suc i) m c bs
 
-      test : (d : A) (p q : Bool) → around m bs i ≡ holds d → before d c ≡ p → before c d ≡ q
-          → (Smaller-to home before m bs c (suc k) → Answer before m c bs (search-from before f (home c + suc k) m c bs)) → Answer before m c bs (cond p rest (cond q absent (at-place i d)))
-      test d true q z h g on = rw add-suc at (on (smaller-on ord bs c k s (rw z h)))
-      test d false true z h g on = stands-nowhere k s (inr (rw (z, h))) (λ x w v p. (let o : x ≡ d = cc (z, w) in rw o g))
-      test d false false z h g on = (z, h, g)
-
       go : (b : Block A) → around m bs i ≡ b
           → (Smaller-to home before m bs c (suc k) → Answer before m c bs (search-from before f (home c + suc k) m c bs)) → Answer before m c bs (search-step before c i b rest)
       go empty z on = stands-nowhere k s (inr (rw z)) (λ x w v p. absurd (true≢false (cc (z, w))))
-      go (holds d) z on = test d (before d c) (before c d) z refl refl on
+      go (holds d) z on = test (before d c) (before c d) refl refl
+        where
+          test : (p q : Bool) → before d c ≡ p → before c d ≡ q → Answer before m c bs (cond p rest (cond q absent (at-place i d)))
+          test true q h g = rw add-suc at (on (smaller-on ord bs c k s (rw z h)))
+          test false true h g = stands-nowhere k s (inr (rw (z, h))) (λ x w v p. (let o : x ≡ d = cc (z, w) in rw o g))
+          test false false h g = (z, h, g)

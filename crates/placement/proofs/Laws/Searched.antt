@@ -49,9 +49,6 @@ module _ (m : ℕ) (c : Chunk) (bl : List (Block Chunk)) where
   ended zero i j e = absurd (true≢false cc)
   ended (suc f) i j e = go (around m bl i) refl e (λ z. ended f (suc i) j z)
     where
-      here : (i % m) ≡ j → Ended chunk-before m c bl (suc f) i j
-      here e = record { steps = 0; few = omega arith; there = ap (λ (n : ℕ). n % m) (add-zero i) ∙ e; smaller = λ l w. absurd (omega arith) }
-
       later : (d : Chunk) → around m bl i ≡ holds d → chunk-before d c ≡ true → Ended chunk-before m c bl f (suc i) j → Ended chunk-before m c bl (suc f) i j
       later d z h r = record { steps = suc (r .steps); few = omega (arith, r .few); there = ap (λ (n : ℕ). n % m) (omega arith) ∙ r .there; smaller = all }
         where
@@ -59,17 +56,15 @@ module _ (m : ℕ) (c : Chunk) (bl : List (Block Chunk)) where
           all zero w = rw (add-zero, z) h
           all (suc l) w = ap (λ (n : ℕ). holds-smaller chunk-before c (around m bl n)) (omega arith) ∙ r .smaller l (omega arith)
 
-      test : (d : Chunk) (p q : Bool) → around m bl i ≡ holds d → chunk-before d c ≡ p
-          → place-of m (cond p (search-from chunk-before f (suc i) m c bl) (cond q absent (at-place i d))) ≡ At j
-          → (place-of m (search-from chunk-before f (suc i) m c bl) ≡ At j → Ended chunk-before m c bl f (suc i) j) → Ended chunk-before m c bl (suc f) i j
-      test d true q z h e rest = later d z h (rest e)
-      test d false true z h e rest = absurd (true≢false cc)
-      test d false false z h e rest = here (same-at (i % m) j e)
-
       go : (b : Block Chunk) → around m bl i ≡ b → place-of m (search-step chunk-before c i b (search-from chunk-before f (suc i) m c bl)) ≡ At j
           → (place-of m (search-from chunk-before f (suc i) m c bl) ≡ At j → Ended chunk-before m c bl f (suc i) j) → Ended chunk-before m c bl (suc f) i j
       go empty z e rest = absurd (true≢false cc)
-      go (holds d) z e rest = test d (chunk-before d c) (chunk-before c d) z refl e rest
+      go (holds d) z e rest = test (chunk-before d c) (chunk-before c d) refl e
+        where
+          test : (p q : Bool) → chunk-before d c ≡ p → place-of m (cond p (search-from chunk-before f (suc i) m c bl) (cond q absent (at-place i d))) ≡ At j → Ended chunk-before m c bl (suc f) i j
+          test true q h e = later d z h (rest e)
+          test false true h e = absurd (true≢false cc)
+          test false false h e = record { steps = 0; few = omega arith; there = rw add-zero (same-at (i % m) j e); smaller = λ l w. absurd (omega arith) }
 
 module _ (s : Sizes) (some : 0 < s .blocks) (bl : List (Block Chunk)) (v : All-good s bl) where
   -- the search over the labels finds every chunk in its block
