@@ -78,20 +78,19 @@ module _ {A : Type 0} (m : ℕ) (c : A) (bs : List (Block A)) where
           → ((e′ : ℕ) → e′ < f → around m bs (suc i + e′) ≡ empty → First f (suc i)) → First (suc f) i
       go empty q e l h rest = record { steps = 0; few = omega arith; free = here ∙ q; full = λ k w. absurd (omega arith); is = rw (q, add-zero) }
       go (holds d) q zero l h rest = absurd (true≢false (cc (here)))
-      go (holds d) q (suc e) l h rest = later (rest e (omega arith) (on i e ∙ h))
-        where
-          full : (r : First f (suc i)) (k : ℕ) → k < suc (r .steps) → is-free (around m bs (i + k)) ≡ false
-          full r zero w = rw (here, q)
-          full r (suc k) w = rw (← on i k) (r .full k (omega arith))
-
-          later : First f (suc i) → First (suc f) i
-          later r = record {
+      go (holds d) q (suc e) l h rest =
+          let r = rest e (omega arith) (on i e ∙ h) in
+          record {
             steps = suc (r .steps);
             few = omega (arith, r .few);
             free = sym (on i (r .steps)) ∙ r .free;
             full = full r;
             is = rw q (r .is ∙ ap (λ (x : ℕ). stored m bs x (holds c)) (omega arith));
           }
+        where
+          full : (r : First f (suc i)) (k : ℕ) → k < suc (r .steps) → is-free (around m bs (i + k)) ≡ false
+          full r zero w = rw (here, q)
+          full r (suc k) w = rw (← on i k) (r .full k (omega arith))
 
   -- some block is free
   pub lands : (i : ℕ) → i < m → length bs ≡ m → how-many bs < m → First m i

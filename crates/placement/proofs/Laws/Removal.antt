@@ -320,7 +320,8 @@ module _ {A : Type 0} {home : A → ℕ} {before : A → A → Bool} {m : ℕ} (
           let x = far ord bs d (h + t) n in
           rw (distance-steps m (home d) ((h + t) % m) (x .steps) (ord .homes d) (mod-lt (h + t) (omega arith)) (x .few) (x .there)) (test x (leb t (x .steps)) refl)
         where
-          test : (x : Far home m bs d (h + t)) (b : Bool) → leb t (x .steps) ≡ b → Pulled home before m bs (cond b (pull-from home f (h + t) 1 m (to d)) (pull-from home f h (suc t) m bs))
+          test : (x : Far home m bs d (h + t)) (b : Bool) → leb t (x .steps) ≡ b
+              → Pulled home before m bs (cond b (pull-from home f (h + t) 1 m (to d)) (pull-from home f h (suc t) m bs))
           test x true q =
               let v : t ≤ x .steps = leb-true t (x .steps) q in
               let r = move d (pull y x n v) in record {

@@ -61,7 +61,8 @@ module _ (m : ℕ) (c : Chunk) (bl : List (Block Chunk)) where
       go empty z e rest = absurd (true≢false cc)
       go (holds d) z e rest = test (chunk-before d c) (chunk-before c d) refl e
         where
-          test : (p q : Bool) → chunk-before d c ≡ p → place-of m (cond p (search-from chunk-before f (suc i) m c bl) (cond q absent (at-place i d))) ≡ At j → Ended chunk-before m c bl (suc f) i j
+          test : (p q : Bool) → chunk-before d c ≡ p → place-of m (cond p (search-from chunk-before f (suc i) m c bl) (cond q absent (at-place i d))) ≡ At j
+              → Ended chunk-before m c bl (suc f) i j
           test true q h e = later d z h (rest e)
           test false true h e = absurd (true≢false cc)
           test false false h e = record { steps = 0; few = omega arith; there = rw add-zero (same-at (i % m) j e); smaller = λ l w. absurd (omega arith) }

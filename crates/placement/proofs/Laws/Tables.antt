@@ -142,7 +142,8 @@ module _ (s : Sizes) (F : Map) (n : ℕ) (hd bs : List ℕ) (t : Table s F n hd 
       let f = found-there w i pos e in
       let c : n ≡ suc (n - 1) = omega (arith, count-some w (f .2)) in
       now-keeps (cleared w F) (n - 1) (removed-at (chunk-home s) (s .blocks) i (t .blocks)) _
-      (ap (λ (x : List ℕ). pull (bytes (block-long s)) (home s) (s .blocks) (s .blocks - 1) i (i + 1) x) (t .is) ∙ pull-at s some hd (t .head) (t .blocks) all (t .keeps .long) i (f .0))
+      (ap (λ (x : List ℕ). pull (bytes (block-long s)) (home s) (s .blocks) (s .blocks - 1) i (i + 1) x) (t .is)
+      ∙ pull-at s some hd (t .head) (t .blocks) all (t .keeps .long) i (f .0))
       (sound-without s F (labelled w []) (t .sound))
       (take-out (lawful s some) (labelled w (nodes-of F w)) i (subst (λ (x : ℕ). Keeps s (t .blocks) F x) c (t .keeps)) (f .1))
 
@@ -220,5 +221,5 @@ module _ (s : Sizes) (F : Map) (n : ℕ) (hd bs : List ℕ) (t : Table s F n hd 
 -- ONE TABLE keeps a map under a header
 pub same-bytes : (s : Sizes) (F G : Map) (n k : ℕ) (hd bs cs : List ℕ) → ((l f i : ℕ) → F l f i ≡ G l f i) → Table s F n hd bs → Table s G k hd cs → bs ≡ cs
 same-bytes s F G n k hd bs cs e x y =
-    x .is
-    ∙ ap (λ (z : List (Block Chunk)). hd ++ all-bytes s z) (kept-once (lawful s (some-blocks s (x .good))) (λ w. e (w .level) (w .first) (w .number)) (x .keeps) (y .keeps)) ∙ sym (y .is)
+    let one = kept-once (lawful s (some-blocks s (x .good))) (λ w. e (w .level) (w .first) (w .number)) (x .keeps) (y .keeps) in
+    x .is ∙ ap (λ (z : List (Block Chunk)). hd ++ all-bytes s z) one ∙ sym (y .is)

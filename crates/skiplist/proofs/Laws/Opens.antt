@@ -246,8 +246,10 @@ module _ (s : Sizes) (T : (l f : ℕ) → List Order) where
       let m : Up 1 (f .mine) = up-front (f .mine) (f .others) 1 (subst (Up 1) (f .whole) u) in
       let s₀ = shape s T (beta s) front (o ∷ os) w in
       let z : o .key ≡ 0 = ap (λ (z : Order). z .key) (head-same o (s₀ .head) os (s₀ .rest) (s₀ .whole) .0) ∙ s₀ .same in
-      let a : keys (T (suc j) 0) ≡ 0 ∷ keys (at-least s (suc j) (f .mine)) = subst (λ (k : ℕ). keys (T (suc j) k) ≡ k ∷ keys (at-least s (suc j) (f .mine))) z (q .reads) in
-      let b : tail-part s (suc j) os ≡ at-least s (suc j) (f .mine) = ap (tail-part s (suc j)) (f .whole) ∙ tail-segment s (suc j) (f .mine) (f .others) m (q .low) (f .high) in
+      let a : keys (T (suc j) 0) ≡ 0 ∷ keys (at-least s (suc j) (f .mine)) =
+      subst (λ (k : ℕ). keys (T (suc j) k) ≡ k ∷ keys (at-least s (suc j) (f .mine))) z (q .reads) in
+      let b : tail-part s (suc j) os ≡ at-least s (suc j) (f .mine) =
+      ap (tail-part s (suc j)) (f .whole) ∙ tail-segment s (suc j) (f .mine) (f .others) m (q .low) (f .high) in
       a ∙ sym (ap keys (part-front (suc j) os u ∙ ap (λ (r : List Order). front ∷ r) b))
 
   -- at level 1 with quantities

@@ -51,7 +51,7 @@ from-to-over lo hi a (x ∷ xs) h u = rw (le-ltb (x .key) hi (omega (arith, u .0
 -- those from lo up to below hi, where others come before and behind; and to the end, where all are below hi
 from-to-cut : (lo hi : ℕ) (pre p xs : List Order) → Within 0 lo pre → Within lo hi p → Up hi xs → from-to lo hi (pre ++ p ++ xs) ≡ p
 from-to-cut lo hi pre p xs w v u =
-    rw (from-to-append lo hi (pre ++ p) xs, from-to-append lo hi pre p, from-to-under 0 lo hi pre w, from-to-in lo hi p v, from-to-over lo hi hi xs (omega arith) u, append-nil)
+    rw (from-to-append, from-to-append, from-to-under 0 lo hi pre w, from-to-in lo hi p v, from-to-over lo hi hi xs (omega arith) u, append-nil)
 
 from-on-all : (a lo hi : ℕ) (xs : List Order) → Within a hi xs → from-on lo xs ≡ from-to lo hi xs
 unfolding from-on from-to
@@ -63,7 +63,8 @@ pub sets-runs : (st : Order → Bool) (o : Order) (pre p xs : List Order) (a : �
     paper-sets (o ∷ starting st xs) (pre ++ p ++ xs) ≡ (p ++ run st xs) ∷ rest st xs
 unfolding paper-sets starting run rest
 sets-runs st o pre p [] a w v u l =
-    rw (from-on-all 0 (o .key) a (pre ++ p ++ []) (rw append-nil (within-append 0 (o .key) a pre p (omega arith) (omega arith) w v)), from-to-cut (o .key) a pre p [] w v u, append-nil)
+    let all : Within 0 a (pre ++ p ++ []) = rw append-nil (within-append 0 (o .key) a pre p (omega arith) (omega arith) w v) in
+    rw (from-on-all 0 (o .key) a (pre ++ p ++ []) all, from-to-cut (o .key) a pre p [] w v u, append-nil)
 sets-runs st o pre p (x ∷ xs) a w v u l =
     go (st x)
     (sets-runs st x (pre ++ p) (x ∷ []) xs (suc (x .key)) lower (omega arith, omega arith, tt) (u .1) (omega arith))

@@ -119,7 +119,8 @@ module _ (s : Sizes) (os : List Order) (m : made s ≡ true) (g : orders-good 1 
     there = λ c a. let t = placing .comes c a in (t .at % s .blocks, omega (arith, mod-lt (t .at) some-block, placing .long), t .is);
     only = λ j c e. placed-only c (placing .only c (record { at = j; is = here j c e }));
     once = λ i j c e h.
-        sym (mod-eq-of-lt (below i c e)) ∙ sym (one-place (lawful s some-block) (blocks s os) (placing .rule-3) c c i j (here i c e) (here j c h) refl) ∙ mod-eq-of-lt (below j c h);
+        sym (mod-eq-of-lt (below i c e)) ∙ sym (one-place (lawful s some-block) (blocks s os) (placing .rule-3) c c i j (here i c e) (here j c h) refl)
+        ∙ mod-eq-of-lt (below j c h);
     smaller = passed;
   }
 
