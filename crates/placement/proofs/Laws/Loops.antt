@@ -1,9 +1,9 @@
 -- What the loops of this crate keep, and their turns.
 use mathlib.Core.Path.{_≡_, refl, sym, ap, _∙_}
 use mathlib.Core.List.{List, [], _∷_, _++_}
-use mathlib.Core.Bool.{Bool, true, false, _&&_, _||_, cond, and-false}
+use mathlib.Core.Bool.{Bool, true, false, _&&_, _||_, cond, and-false, false≢true}
 use Prim.Native.Nat.{ℕ, zero, suc, _+_, _*_, _-_, _/_, _%_, _≤_, _<_}
-use native.Mathlib.Nat.{le-refl, add-zero, sub-zero, pos-of-ne-zero, mod-lt, mod-eq-of-lt, mod-eq-sub-mod, mod-self, lt-of-lt-of-le}
+use native.Mathlib.Nat.{le-refl, add-zero, sub-zero, sub-eq-zero-of-le, pos-of-ne-zero, mod-lt, mod-eq-of-lt, mod-eq-sub-mod, mod-self, lt-of-lt-of-le}
 use native.Mathlib.Omega.{arith}
 use native.Mathlib.Numerals.{towards-suc, add-one}
 use lib.Dec.{ltb, leb, eqb}
@@ -27,6 +27,13 @@ use Rattle.sizes.specs.Hash.{hash-from, g}
 use Rattle.placement.proofs.Laws.Labels.{labels-strict, home-inside}
 use Rattle.placement.proofs.Laws.Insertion.{suc-mod-same}
 use Rattle.placement.proofs.Laws.Cells.{cond-valid}
+
+-- a turn more: one fewer is left, and the place is one further on
+one-left : {k n : ℕ} → k < n → n - k ≡ suc (n - (k + 1))
+one-left h = omega arith
+
+one-on : (i k : ℕ) → i + (k + 1) ≡ suc (i + k)
+one-on i k = omega arith
 
 -- the search goes by where it stands on the way round
 probe-round : (look : ℕ → Label) (m : ℕ) (w : Label) (k i j : ℕ) → i % m ≡ j % m → probe look m w k i ≡ probe look m w k j
@@ -147,16 +154,12 @@ module _ (look : ℕ → Label) (l m start : ℕ) where
   module _ (i : ℕ) (q : Lowering look l m start i) where
     pub lowering-end : m ≤ i → i ≡ past-lower look l (m - start) start
     unfolding past-lower
-    lowering-end h =
-        let e : m - i ≡ 0 = omega arith in
-        sym (q .rest ∙ ap (λ (k : ℕ). past-lower look l k i) e)
+    lowering-end h = sym (q .rest ∙ ap (λ (k : ℕ). past-lower look l k i) (sub-eq-zero-of-le h))
 
     module _ (v : ℕ) (ev : v ≡ look i .level) (h : i < m) where
       stops : (ltb 0 v && ltb v l) ≡ false → i ≡ past-lower look l (m - start) start
       unfolding past-lower
-      stops z =
-          let e : m - i ≡ suc (m - (i + 1)) = omega arith in
-          sym (q .rest ∙ ap (λ (k : ℕ). past-lower look l k i) e ∙ rw (← ev, z))
+      stops z = sym (q .rest ∙ ap (λ (k : ℕ). past-lower look l k i) (one-left h) ∙ rw (← ev, z))
 
       pub lowering-empty : v ≡ 0 → i ≡ past-lower look l (m - start) start
       lowering-empty z = stops (rw z)
@@ -167,13 +170,12 @@ module _ (look : ℕ → Label) (l m start : ℕ) where
       pub lowering-more : (v ≡ 0 → ⊥) → v < l → Lowering look l m start (i + 1)
       unfolding past-lower
       lowering-more ne g =
-          let e : m - i ≡ suc (m - (i + 1)) = omega arith in
           let b : (ltb 0 v && ltb v l) ≡ true = rw (lt-ltb 0 v (pos-of-ne-zero ne), lt-ltb v l g) in
           let one : past-lower look l (suc (m - (i + 1))) i ≡ past-lower look l (m - (i + 1)) (suc i) = rw (← ev, b) in
           record {
             least = let a = q .least in omega arith;
             most = omega arith;
-            rest = q .rest ∙ ap (λ (k : ℕ). past-lower look l k i) e ∙ one ∙ ap (past-lower look l (m - (i + 1))) (sym (add-one i));
+            rest = q .rest ∙ ap (λ (k : ℕ). past-lower look l k i) (one-left h) ∙ one ∙ ap (past-lower look l (m - (i + 1))) (sym (add-one i));
           }
 
 -- the level of the label in block i
@@ -263,23 +265,15 @@ module _ (g : Sizes) (at : ℕ) (bs₀ : List ℕ) where
     pub pulling-end : g .blocks ≤ k → (bs′ : List ℕ) → bs′ ≡ clear-in (block-long g) bs e
         → bs′ ≡ pull (bytes (block-long g)) (home g) (g .blocks) (g .blocks - 1) at (at + 1) bs₀
     unfolding pull
-    pulling-end h bs′ q =
-        let f : g .blocks - k ≡ 0 = omega arith in
-        q ∙ rw (p .rest, f)
+    pulling-end h bs′ q = q ∙ rw (p .rest, sub-eq-zero-of-le h)
 
     module _ (lt : k < g .blocks) (l : Label) (el : l ≡ label-in (block-long g) bs ((at + k) % g .blocks)) where
-      f : g .blocks - k ≡ suc (g .blocks - (k + 1))
-      f = omega arith
-
-      n : at + (k + 1) ≡ suc (at + k)
-      n = omega arith
-
       pub pulling-empty : l .level ≡ 0 → (bs′ : List ℕ) → bs′ ≡ clear-in (block-long g) bs e
           → bs′ ≡ pull (bytes (block-long g)) (home g) (g .blocks) (g .blocks - 1) at (at + 1) bs₀
       unfolding pull
       pulling-empty z bs′ q =
           let z′ : eqb (label-in (block-long g) bs ((at + k) % g .blocks) .level) 0 ≡ true = rw (← el) (eq-eqb _ _ z) in
-          q ∙ rw (p .rest, f, z′)
+          q ∙ rw (p .rest, one-left lt, z′)
 
       pub pulling-next : (h : ℕ) (bs′ : List ℕ) (e′ : ℕ) → (l .level ≡ 0 → ⊥) → h ≡ home g l
           → Pulled g e ((at + k) % g .blocks) h bs bs′ e′ → length bs′ ≡ length bs → Pulling g at bs₀ bs′ e′ (k + 1)
@@ -294,7 +288,7 @@ module _ (g : Sizes) (at : ℕ) (bs₀ : List ℕ) where
             within = omega arith;
             spot = rw (q .hole) (cond-valid (λ i. i < g .blocks) t (p .spot) (mod-lt _ (omega arith)));
             same = ln ∙ p .same;
-            rest = p .rest ∙ rw (f, held, test, n, q .hole, q .table);
+            rest = p .rest ∙ rw (one-left lt, held, test, one-on at k, q .hole, q .table);
           }
 
 -- as `pull_one` asks
@@ -369,15 +363,11 @@ module _ (g : Sizes) (e start n : ℕ) (bs₀ : List ℕ) where
         → Settling g e start n bs₀ bs′ (k + 1)
     unfolding settle
     settling-more h bs′ l q =
-        let f : n - k ≡ suc (n - (k + 1)) = omega arith in
-        let m : start + (k + 1) ≡ suc (start + k) = omega arith in
-        record { shaped = shaped-same g bs bs′ (p .shaped) l; within = omega arith; same = l ∙ p .same; rest = p .rest ∙ rw (f, m, q) }
+        record { shaped = shaped-same g bs bs′ (p .shaped) l; within = omega arith; same = l ∙ p .same; rest = p .rest ∙ rw (one-left h, one-on start k, q) }
 
     pub settling-end : n ≤ k → bs ≡ settle (bytes (block-long g)) (g .blocks) n e start bs₀
     unfolding settle
-    settling-end h =
-        let f : n - k ≡ 0 = omega arith in
-        rw (p .rest, f)
+    settling-end h = rw (p .rest, sub-eq-zero-of-le h)
 
 -- what a comparison of the labels of two blocks picks; and where it holds neither block is the other
 module _ (w : ℕ) (bs : List ℕ) (i j : ℕ) (x y : Label) (t : Bool) (ex : x ≡ label-in w bs i) (ey : y ≡ label-in w bs j) (et : t ≡ before x y) where
@@ -391,10 +381,7 @@ module _ (w : ℕ) (bs : List ℕ) (i j : ℕ) (x y : Label) (t : Bool) (ex : x 
   picks-second a b h = rw (compares, h)
 
   pub before-differs : t ≡ true → j ≡ i → ⊥
-  before-differs h q =
-      let z : false ≡ true = sym (labels-strict (label-in w bs i)) ∙ (rw q at (compares ∙ h)) in
-      let n : _≡_ {A = ℕ} 0 1 = cc in
-      omega arith
+  before-differs h q = false≢true (sym (labels-strict (label-in w bs i)) ∙ (rw q at (compares ∙ h)))
 
 -- what the loop of `free` keeps
 pub record Freeing (look : ℕ → Label) (m start k : ℕ) : Type 0 where
@@ -408,25 +395,20 @@ module _ (look : ℕ → Label) (m start : ℕ) where
   module _ (k : ℕ) (p : Freeing look m start k) where
     pub freeing-end : m ≤ k → Nothing ≡ free-in look m m start
     unfolding free-in
-    freeing-end h =
-        let f : m - k ≡ 0 = omega arith in
-        rw (p .rest, f)
+    freeing-end h = rw (p .rest, sub-eq-zero-of-le h)
 
     module _ (lt : k < m) (l : Label) (el : l ≡ look ((start + k) % m)) where
       pub freeing-at : l .level ≡ 0 → At ((start + k) % m) ≡ free-in look m m start
       unfolding free-in
       freeing-at z =
-          let f : m - k ≡ suc (m - (k + 1)) = omega arith in
           let t : eqb (look ((start + k) % m) .level) 0 ≡ true = rw (← el) (eq-eqb _ _ z) in
-          rw (p .rest, f, t)
+          rw (p .rest, one-left lt, t)
 
       pub freeing-more : (l .level ≡ 0 → ⊥) → Freeing look m start (k + 1)
       unfolding free-in
       freeing-more ne =
-          let f : m - k ≡ suc (m - (k + 1)) = omega arith in
-          let n : start + (k + 1) ≡ suc (start + k) = omega arith in
           let t : eqb (look ((start + k) % m) .level) 0 ≡ false = rw (← el) (ne-eqb _ _ ne) in
-          record { within = omega arith; rest = p .rest ∙ rw (f, t, n) }
+          record { within = omega arith; rest = p .rest ∙ rw (one-left lt, t, one-on start k) }
 
 -- as `write_head` asks
 head-two : (v n : ℕ) → v < 256 → n < 256 → big 2 (256 * v + n) ≡ v ∷ n ∷ []
