@@ -88,11 +88,11 @@ around-first i m h l =
 
 -- A SEARCH PASSES all blocks of lower levels
 module _ (look : ℕ → Label) (m : ℕ) (w : Label) where
-  lower : (i : ℕ) → Bool
+  abbrev lower : (i : ℕ) → Bool
   lower i = ltb 0 (look i .level) && ltb (look i .level) (w .level)
 
   lower-passes : (i : ℕ) → lower i ≡ true → passes-label (look i) w ≡ true
-  unfolding lower passes-label before
+  unfolding passes-label before
   lower-passes i e = let p = and-parts (ltb 0 (look i .level)) (ltb (look i .level) (w .level)) e in rw (p .0, p .1)
 
   passed-one : (f i : ℕ) → i < m → 0 < f → lower i ≡ true → probe look m w f i ≡ probe look m w (f - 1) (suc i)
@@ -104,25 +104,19 @@ module _ (look : ℕ → Label) (m : ℕ) (w : Label) where
   past-least : (c i : ℕ) → i ≤ past-lower look (w .level) c i
   unfolding past-lower
   past-least zero i = le-refl i
-  past-least (suc c) i = cond-valid (λ n. i ≤ n) (ltb 0 (look i .level) && ltb (look i .level) (w .level)) (omega (arith, past-least c (suc i))) (le-refl i)
+  past-least (suc c) i = cond-valid (λ n. i ≤ n) (lower i) (omega (arith, past-least c (suc i))) (le-refl i)
 
   past-probe : (c f i : ℕ) → i + c ≤ m → c ≤ f →
       probe look m w f i ≡ probe look m w (f - (past-lower look (w .level) c i - i)) (past-lower look (w .level) c i)
-  unfolding past-lower lower
-  past-probe zero f i h g =
-      let e : f ≡ f - (i - i) = omega arith in
-      ap (λ (k : ℕ). probe look m w k i) e
+  unfolding past-lower
+  past-probe zero f i h g = ap (λ (k : ℕ). probe look m w k i) (omega arith)
   past-probe (suc c) f i h g = go (lower i) refl (past-least c (suc i)) (past-probe c (f - 1) (suc i) (omega arith) (omega arith))
     where
       go : (b : Bool) → lower i ≡ b → suc i ≤ past-lower look (w .level) c (suc i) →
           probe look m w (f - 1) (suc i) ≡ probe look m w (f - 1 - (past-lower look (w .level) c (suc i) - suc i)) (past-lower look (w .level) c (suc i)) →
           probe look m w f i ≡ probe look m w (f - (cond b (past-lower look (w .level) c (suc i)) i - i)) (cond b (past-lower look (w .level) c (suc i)) i)
-      go true e l r =
-          let k : f - 1 - (past-lower look (w .level) c (suc i) - suc i) ≡ f - (past-lower look (w .level) c (suc i) - i) = omega arith in
-          passed-one f i (omega arith) (omega arith) e ∙ r ∙ ap (λ (n : ℕ). probe look m w n (past-lower look (w .level) c (suc i))) k
-      go false e l r =
-          let n : f ≡ f - (i - i) = omega arith in
-          ap (λ (k : ℕ). probe look m w k i) n
+      go true e l r = passed-one f i (omega arith) (omega arith) e ∙ r ∙ ap (λ (n : ℕ). probe look m w n (past-lower look (w .level) c (suc i))) (omega arith)
+      go false e l r = ap (λ (k : ℕ). probe look m w k i) (omega arith)
 
 -- the search for a label is the one from home on, round the whole table
 pub home-search : (s : Sizes) (bs : List ℕ) (w : Label) (start : ℕ) (r : Found) → start ≡ home s w →

@@ -209,7 +209,10 @@ module _ {A : Type 0} (before : A → A → Bool) (m : ℕ) (some : zero < m) (s
       → (x : A) → Stands m bs x → Among x cs
   unfolding around stored
   counted [] bs p u all n x t = none-stands bs (t .at % m) x n (t .is)
-  counted (c ∷ cs) bs p u all n x t = go (before-store m bs i p some empty x t) (counted cs less less-long (u .1) others (omega (arith, fewer)))
+  counted (c ∷ cs) bs p u all n x t =
+      go (before-store m bs i p some empty x t)
+      (counted cs less (stored-long m bs i empty p) (u .1) (λ d a. other d a (before-store m bs i p some empty d (all d (inr a))))
+      (omega (arith, store-count m bs i (holds c) empty p some (all c (inl refl) .is))))
     where
       i : ℕ
       i = all c (inl refl) .at
@@ -217,18 +220,9 @@ module _ {A : Type 0} (before : A → A → Bool) (m : ℕ) (some : zero < m) (s
       less : List (Block A)
       less = stored m bs i empty
 
-      less-long : length less ≡ m
-      less-long = stored-long m bs i empty p
-
-      fewer : suc (how-many less) ≡ how-many bs
-      fewer = omega (arith, store-count m bs i (holds c) empty p some (all c (inl refl) .is))
-
       other : (d : A) → Among d cs → (around m bs i ≡ holds d) ⊎ Stands m less d → Stands m less d
       other d a (inl e) = absurd (true≢false (cc (u .0 d a, strict c, all c (inl refl) .is)))
       other d a (inr s) = s
-
-      others : (d : A) → Among d cs → Stands m less d
-      others d a = other d a (before-store m bs i p some empty d (all d (inr a)))
 
       go : (around m bs i ≡ holds x) ⊎ Stands m less x → ((x : A) → Stands m less x → Among x cs) → Among x (c ∷ cs)
       go (inl e) rest = inl (cc (all c (inl refl) .is))
