@@ -89,7 +89,6 @@ pub level-is : Level-is
 unfolding Level-is level
 level-is s x m l =
     let w = largest (beta s - 1) 0 (s .gamma) (h s x) (rw (pow-zero (s .gamma)) (mod-one (h s x))) in
-    let z : 0 + (beta s - 1) ≡ beta s - 1 = omega arith in
     (divides-from (beta s - 1) 0 (s .gamma) (h s x), rw (ne-eqb x 0 (omega arith)), omega (arith, w .most), w .divides, λ i b f. w .largest i (omega (arith, b)) f)
 
 -- HASHES

@@ -193,9 +193,7 @@ module _ (s : Sizes) (T : (l f : ℕ) → List Order) where
       both-dive j (w .0) (w .1) (f n (w .0) (w .3)) (nodes-high s T l j ns (w .1) h (ex .1) (w .4)) (nodes-dive l j f h ns (w .1) (ex .1) (w .4)) u y v (sym (w .2) ∙ e) g
 
   pub dive : (l : ℕ) (x : Order) (seg : List Order) → Walks s T l x seg → (j : ℕ) → j ≤ l → (u : List Order) (y : Order) (v : List Order) → seg ≡ u ++ y ∷ v → (0 < length u → j < level s (y .key)) → Found s T j y v
-  dive zero x seg w j h u y v e g =
-      let q : 0 ≡ j = omega arith in
-      subst (λ (i : ℕ). Found s T i y v) q (here 0 x seg w u y v e (λ k. omega (arith, g k)))
+  dive zero x seg w j h u y v e g = subst (λ (i : ℕ). Found s T i y v) (omega arith) (here 0 x seg w u y v e (λ k. omega (arith, g k)))
   dive (suc l) x seg w j h u y v e g = go (λ k x seg w. dive l x seg w j k) (which (suc l) j)
     where
       go : (j ≤ l → (x : Order) (seg : List Order) → Walks s T l x seg → Dives j seg) → Which (suc l) j → Found s T j y v
