@@ -1,6 +1,7 @@
 -- Laws by subject: scanning a partition, the growth of a level, pouring chunks, and the edits of one level.
 pub mod Scanning
 pub mod Growing
+pub mod MapLabels
 pub mod CarryFronts
 pub mod Takes
 pub mod Flushes

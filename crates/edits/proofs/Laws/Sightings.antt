@@ -7,7 +7,6 @@ use native.Mathlib.Omega.{arith}
 use borrow.Author.Tests.{eq-eqb}
 use lib.Dec.{eqb}
 use Rattle.placement.specs.declared.Order.{Order}
-use Rattle.skiplist.specs.Image.{orders-in}
 use Rattle.skiplist.specs.Questions.{is-key, held, between}
 use Rattle.table.specs.Calls.{Cancel-says}
 use Rattle.readings.specs.Visit.{first-enough}

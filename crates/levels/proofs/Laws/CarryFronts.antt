@@ -3,14 +3,13 @@ use mathlib.Core.Path.{_≡_, refl, sym, ap, _∙_}
 use mathlib.Core.List.{List, [], _∷_, _++_, append-assoc, append-nil}
 use Prim.Native.Nat.{ℕ, zero, suc, _+_, _*_, _≤_}
 use native.Mathlib.Omega.{arith}
-use lib.ListN.{length, take, drop, length-append}
-use lib.Seq.{sets, take-nil, drop-nil, take-take, take-append-add, drop-append-add}
+use lib.ListN.{length, take, drop, length-append, length-drop}
+use lib.Seq.{sets, take-all, take-nil, drop-nil, take-take, take-append-add, drop-append-add}
 use Rattle.sizes.specs.Numbers.{big, rows}
 use Rattle.placement.specs.Chunks.{node-bytes, nodes-bytes}
 use Rattle.placement.specs.declared.Order.{Order}
 use Rattle.sizes.proofs.Laws.Parts.{sets-append}
-use Rattle.sizes.proofs.Laws.Numbers.{length-big}
-use Rattle.sizes.proofs.Laws.Numbers.{drop-take}
+use Rattle.sizes.proofs.Laws.Numbers.{length-big, drop-take}
 use Rattle.placement.proofs.Laws.Cells.{take-sets-end}
 use Rattle.placement.proofs.Laws.Bridge.{node-long, nodes-long}
 use Rattle.skiplist.specs.Lists.{masked}
@@ -61,6 +60,9 @@ front-part cs c a n f h =
 pub front-first : (cs : List ℕ) (c : List Order) (n : ℕ) → Front cs c → n ≤ length c → take (12 * n) (drop 0 cs) ≡ nodes-bytes (take n c)
 front-first cs c n f h = front-part cs c 0 n f (omega arith)
 
+pub front-rest : (cs : List ℕ) (c : List Order) (a n : ℕ) → Front cs c → a + n ≡ length c → take (12 * n) (drop (12 * a) cs) ≡ nodes-bytes (drop a c)
+front-rest cs c a n f e = front-part cs c a n f (omega arith) ∙ ap (λ (z : List Order). nodes-bytes z) (take-all n (drop a c) (omega (arith, length-drop a c)))
+
 -- nodes written behind those of a row
 pub front-more : (cs cs′ : List ℕ) (c d : List Order) (a : ℕ) (vs : List ℕ) → Front cs c → a ≡ 12 * length c → vs ≡ nodes-bytes d → cs′ ≡ sets cs a vs → a + 12 * length d ≤ length cs
     → Front cs′ (c ++ d)
@@ -69,6 +71,10 @@ front-more cs cs′ c d a vs f ea ev e h =
     let l : length vs ≡ 12 * length d = ap length ev ∙ nodes-long d in
     let z : 12 * length (c ++ d) ≡ a + length vs = omega (arith, length-append c d) in
     rw z (ap (take (a + length vs)) e ∙ take-sets-end cs a vs (omega arith) ∙ rw (nodes-append, ← f, ← ea, ← ev))
+
+-- .. and those from node a on moved to its front
+pub front-moved : (cs cs′ : List ℕ) (c : List Order) (a n : ℕ) → Front cs c → a + n ≡ length c → cs′ ≡ sets cs 0 (take (12 * n) (drop (12 * a) cs)) → 12 * length c ≤ length cs → Front cs′ (drop a c)
+front-moved cs cs′ c a n f e ec h = front-more cs cs′ [] (drop a c) 0 _ (front-none cs) refl (front-rest cs c a n f e) ec (omega (arith, length-drop a c))
 
 -- AS `write_node` ASKS
 three : (row : List ℕ) (at k t d : ℕ) → sets (sets (sets row at (big 4 k)) (at + 4) (big 4 t)) (at + 8) (big 4 d) ≡ sets row at (big 4 k ++ big 4 t ++ big 4 d)

@@ -1,14 +1,16 @@
 -- How many chunks so many nodes have, and the chunks of a list one by one.
 use mathlib.Core.Path.{_≡_, refl, sym, ap, _∙_}
-use mathlib.Core.List.{List, [], _∷_}
+use mathlib.Core.List.{List, [], _∷_, _++_, append-assoc}
 use Prim.Native.Nat.{ℕ, zero, suc, _+_, _*_, _-_, _/_, _≤_, _<_}
 use native.Mathlib.Decide.{decLt}
 use native.Mathlib.Nat.{suc-mul, add-mul, zero-add, suc-add, zero-mul, sub-zero, div-eq-of-lt, div-eq-sub-div, div-lt-iff-lt-mul, div-mul-le-self}
 use native.Mathlib.Omega.{arith}
-use lib.ListN.{length, take, drop, length-drop}
+use lib.ListN.{length, take, drop, length-drop, take-append-drop, drop-of-length-le}
 use lib.Seq.{drop-drop, take-nil}
 use Rattle.placement.specs.declared.Order.{Order}
 use Rattle.skiplist.proofs.Laws.Count.{pieces, pieces-less, pieces-up}
+use Rattle.placement.specs.Maps.{Map}
+use Rattle.levels.specs.Edit.{Pieces}
 use Rattle.levels.specs.Pour.{one}
 
 pub pieces-none : (b : ℕ) → pieces b 0 ≡ 0
@@ -97,14 +99,23 @@ module _ {A : Type 0} where
   pub drop-next : (b i : ℕ) (l : List A) → drop b (drop (i * b) l) ≡ drop (suc i * b) l
   drop-next b i l = drop-drop b (i * b) l ∙ ap (λ (z : ℕ). drop z l) (sym (suc-mul i b))
 
+  -- a chunk, and the nodes after it
+  pub chunk-rest : (b i : ℕ) (l : List A) → take b (drop (i * b) l) ++ drop (suc i * b) l ≡ drop (i * b) l
+  chunk-rest b i l = rw (← drop-next b i l) (take-append-drop b (drop (i * b) l))
+
+  -- .. a chunk x comes behind a carry
+  pub chunk-behind : (b i : ℕ) (l c x w : List A) → x ≡ take b (drop (i * b) l) → c ++ drop (i * b) l ≡ w → (c ++ x) ++ drop (suc i * b) l ≡ w
+  chunk-behind b i l c x w e h = append-assoc c x (drop (suc i * b) l) ∙ rw (e, chunk-rest b i l) h
+
+  -- chunks of one number
+  pub chunk-same : (b : ℕ) (l : List A) {i j : ℕ} → i ≡ j → take b (drop (i * b) l) ≡ take b (drop (j * b) l)
+  chunk-same b l e = ap (λ (n : ℕ). take b (drop (n * b) l)) e
+
   pub drop-add : (b i n : ℕ) (l : List A) → drop (n * b) (drop (i * b) l) ≡ drop ((i + n) * b) l
   drop-add b i n l = drop-drop (n * b) (i * b) l ∙ ap (λ (z : ℕ). drop z l) (sym (add-mul i n b))
 
   pub drop-past : (n : ℕ) (l : List A) → length l ≤ n → drop n l ≡ []
-  drop-past zero [] h = refl
-  drop-past zero (x ∷ l) h = absurd (omega arith)
-  drop-past (suc n) [] h = refl
-  drop-past (suc n) (x ∷ l) h = drop-past n l (omega arith)
+  drop-past n l h = drop-of-length-le l h
 
   pub take-past : (b n : ℕ) (l : List A) → length l ≤ n → take b (drop n l) ≡ []
   take-past b n l h = rw (drop-past n l h) (take-nil b)
@@ -124,7 +135,31 @@ pieces-first zero l h = absurd (omega arith)
 pieces-first (suc b) [] h = refl
 pieces-first (suc b) (x ∷ l) h = pieces-full (suc b) (length (x ∷ l)) h (omega arith) ∙ rw (← length-drop (suc b) (x ∷ l)) (omega arith)
 
+-- .. from chunk i on
+pub pieces-next : (b i : ℕ) (l : List Order) → 0 < b → pieces b (length (drop (i * b) l)) ≡ one (take b (drop (i * b) l)) + pieces b (length (drop (suc i * b) l))
+pieces-next b i l h = pieces-first b (drop (i * b) l) h ∙ rw (drop-next b i l) refl
+
 pub one-pieces : (b : ℕ) (l : List Order) → length l ≤ b → pieces b (length l) ≡ one l
 unfolding one pieces
 one-pieces b [] h = refl
 one-pieces b (x ∷ l) h = ap suc (div-eq-of-lt (omega arith))
+
+-- PIECES of a list
+module _ (F : Map) (b k f : ℕ) where
+  pub pieces-at : (ns : List Order) (i : ℕ) → Pieces F b k f 0 ns → F k f i ≡ take b (drop (i * b) ns)
+  unfolding Pieces
+  pieces-at ns i p = ap (F k f) (sym (zero-add i)) ∙ p i
+
+  pub pieces-from : (ns : List Order) (i : ℕ) → Pieces F b k f 0 ns → Pieces F b k f i (drop (i * b) ns)
+  unfolding Pieces
+  pieces-from ns i p n = pieces-at ns (i + n) p ∙ ap (take b) (sym (drop-add b i n ns))
+
+  pub pieces-join : (ns : List Order) (i : ℕ) → ((n : ℕ) → n < i → F k f n ≡ take b (drop (n * b) ns)) → Pieces F b k f i (drop (i * b) ns) → Pieces F b k f 0 ns
+  unfolding Pieces
+  pieces-join ns i low high n = ap (F k f) (zero-add n) ∙ go (decLt n i)
+    where
+      go : Dec (n < i) → F k f n ≡ take b (drop (n * b) ns)
+      go (yes h) = low n h
+      go (no h) =
+          let e : i + (n - i) ≡ n = omega (arith, h) in
+          ap (F k f) (sym e) ∙ high (n - i) ∙ ap (take b) (drop-add b i (n - i) ns ∙ ap (λ (z : ℕ). drop (z * b) ns) e)

@@ -1,27 +1,26 @@
 -- A full chunk written from a carry.
-use mathlib.Core.Path.{_≡_, refl, sym, ap, _∙_, subst}
+use mathlib.Core.Path.{_≡_, refl, sym, _∙_, subst}
 use mathlib.Core.Logic.{_≢_}
 use mathlib.Core.Bool.{true≢false}
 use mathlib.Core.List.{List, [], _∷_, _++_}
 use Prim.Native.Nat.{ℕ, zero, suc, _*_, _-_, _≤_, _<_}
 use native.Mathlib.Omega.{arith}
 use lib.ListN.{length, take, drop, length-drop}
-use lib.Seq.{sets, take-all, length-take-le}
+use lib.Seq.{sets, length-take-le}
 use Rattle.sizes.specs.Header.{block-long}
-use Rattle.placement.specs.Chunks.{nodes-bytes}
-use Rattle.placement.specs.Labels.{label, home}
+use Rattle.placement.specs.Labels.{home}
 use Rattle.placement.specs.Place.{free-in, label-in, inserted}
-use Rattle.placement.specs.Maps.{Map, Table, Fines, nodes-of, with-chunk, with-nodes}
+use Rattle.placement.specs.Maps.{Map, Table, Fines, with-nodes}
 use Rattle.sizes.specs.declared.Sizes.{Sizes}
 use Rattle.placement.specs.declared.Order.{Order}
 use Rattle.placement.specs.declared.Label.{Label}
 use Rattle.placement.specs.declared.Found.{Found}
 use Rattle.placement.proofs.Laws.Tables.{insert-keeps}
 use Rattle.sizes.proofs.Laws.Sizes.{some-nodes}
-use Rattle.levels.specs.Pour.{one, Writable, waits, writes, Flushes, Puts}
+use Rattle.levels.specs.Pour.{one, waits, writes, Flushes, Puts}
 use Rattle.levels.proofs.Laws.Takes.{one-some}
-use Rattle.placement.proofs.Laws.Labels.{Label-is, is, isnt, label-is}
-use Rattle.levels.proofs.Laws.CarryFronts.{front-none, front-part, front-first, front-more}
+use Rattle.levels.proofs.Laws.CarryFronts.{front-first, front-moved}
+use Rattle.levels.proofs.Laws.MapLabels.{with-none}
 
 pub fines-take : (n : ℕ) (c : List Order) → Fines c → Fines (take n c)
 fines-take zero c f = tt
@@ -49,44 +48,7 @@ fines-there s F n hd bs k f i t = go (F k f i) refl
     go [] e = tt
     go (o ∷ os) e = rw e at (t .sound k f i (rw e (not-none (o ∷ os) (omega arith))) .fine)
 
--- nodes of a carry written under a label that is absent
-module _ (s : Sizes) (w : Label) (F : Map) (m : ℕ) (hd bs : List ℕ) (t : Table s F m hd bs) (c : List Order) where
-  pub insert-nodes : (n : ℕ) (xs bs′ : List ℕ) (r : Found) → Writable w → Fines c → nodes-of F w ≡ [] → m < s .blocks → 0 < n → n ≤ s .nodes → n ≡ length c → xs ≡ nodes-bytes c
-      → r ≡ free-in (label-in (block-long s) bs) (s .blocks) (s .blocks) (home s w) → bs′ ≡ inserted s r w n xs bs → Table s (with-nodes w c F) (suc m) hd bs′
-  insert-nodes n xs bs′ r q f gone room pos few en ex er eb =
-      insert-keeps s F m hd bs t w c (record { level = q .level; first = q .first; number = q .number; fine = f; nodes = omega arith }) gone (not-none c (omega arith)) room r bs′ er
-      (eb ∙ rw (en, ex))
-
-module _ (s : Sizes) (w : Label) (n : ℕ) (bs cs : List ℕ) where
-  pub flush-waits : n < s .nodes → Flushes s w n bs bs cs cs n
-  unfolding Flushes
-  flush-waits h F m hd c t f en fine can = waits (omega arith) en t f
-
-  pub flush-writes : (bs′ cs′ : List ℕ) (left : ℕ) → s .nodes ≤ n → 12 * n ≤ length cs → Puts s w (s .nodes) bs bs′ cs
-      → left ≡ n - s .nodes → cs′ ≡ sets cs 0 (take (12 * left) (drop (12 * s .nodes) cs)) → Flushes s w n bs bs′ cs cs′ left
-  unfolding Flushes Puts
-  flush-writes bs′ cs′ left h room pt el ec F m hd c t f en fine can =
-      let k : s .nodes ≤ length c = omega arith in
-      let q = can k in
-      let u = pt F m hd c t f k fine (q .1) (λ z. (q .0, q .2)) in
-      let p = some-nodes s (t .good) in
-      let one-more = one-some (take (s .nodes) c) (not-none (take (s .nodes) c) (omega (arith, length-take-le (s .nodes) c k))) in
-      let ld : length (drop (s .nodes) c) ≡ left = length-drop (s .nodes) c ∙ omega arith in
-      let part : take (12 * left) (drop (12 * s .nodes) cs) ≡ nodes-bytes (drop (s .nodes) c) =
-      front-part cs c (s .nodes) left f (omega arith) ∙ ap (λ (z : List Order). nodes-bytes z) (take-all left (drop (s .nodes) c) (omega arith)) in
-      let sum : u .full ≡ suc m = omega (arith, u .count) in
-      writes k (sym ld) (subst (λ (z : ℕ). Table s (with-nodes w (take (s .nodes) c) F) z hd bs′) sum (u .table))
-      (front-more cs cs′ [] (drop (s .nodes) c) 0 _ (front-none cs) refl part ec (omega arith))
-
--- some nodes of a row, or none
-with-none : (w : Label) (F : Map) → nodes-of F w ≡ [] → with-nodes w [] F ≡ F
-unfolding with-chunk
-with-none w F e = λ j l f i. same l f i (label-is w (label l f i)) j
-  where
-    same : (l f i : ℕ) → Label-is w (label l f i) → with-nodes w [] F l f i ≡ F l f i
-    same l f i (is z p) = rw z (sym e ∙ ap (nodes-of F) p)
-    same l f i (isnt z n) = rw z
-
+-- SOME NODES OF A ROW written under a label that is absent, or none; a full chunk, and the others moved to the front
 module _ (s : Sizes) (w : Label) (n : ℕ) (bs cs : List ℕ) where
   pub put-none : n ≤ 0 → Puts s w n bs bs cs
   unfolding Puts one
@@ -100,8 +62,27 @@ module _ (s : Sizes) (w : Label) (n : ℕ) (bs cs : List ℕ) where
   put-some bs′ r pos few er eb F m hd c t f k fine gone can =
       let q = can pos in
       let l : length (take n c) ≡ n = length-take-le n c k in
+      let some = not-none (take n c) (omega arith) in
       record {
         full = suc m;
-        table = insert-nodes s w F m hd bs t (take n c) n _ bs′ r (q .0) (fines-take n c fine) gone (q .1) pos few (sym l) (front-first cs c n f k) er eb;
-        count = omega (arith, one-some (take n c) (not-none (take n c) (omega arith)));
+        table =
+            insert-keeps s F m hd bs t w (take n c) (record { level = q .0 .level; first = q .0 .first; number = q .0 .number; fine = fines-take n c fine; nodes = omega arith }) gone some (q .1)
+            r bs′ er (eb ∙ rw (front-first cs c n f k, l));
+        count = omega (arith, one-some (take n c) some);
       }
+
+  pub flush-waits : n < s .nodes → Flushes s w n bs bs cs cs n
+  unfolding Flushes
+  flush-waits h F m hd c t f en fine can = waits (omega arith) en t f
+
+  pub flush-writes : (bs′ cs′ : List ℕ) (left : ℕ) → s .nodes ≤ n → 12 * n ≤ length cs → Puts s w (s .nodes) bs bs′ cs
+      → left ≡ n - s .nodes → cs′ ≡ sets cs 0 (take (12 * left) (drop (12 * s .nodes) cs)) → Flushes s w n bs bs′ cs cs′ left
+  unfolding Flushes Puts
+  flush-writes bs′ cs′ left h room pt el ec F m hd c t f en fine can =
+      let k : s .nodes ≤ length c = omega arith in
+      let q = can k in
+      let u = pt F m hd c t f k fine (q .1) (λ z. (q .0, q .2)) in
+      let some = not-none (take (s .nodes) c) (omega (arith, length-take-le (s .nodes) c k, some-nodes s (t .good))) in
+      let sum : u .full ≡ suc m = omega (arith, u .count, one-some (take (s .nodes) c) some) in
+      writes k (omega (arith, length-drop (s .nodes) c)) (subst (λ (z : ℕ). Table s (with-nodes w (take (s .nodes) c) F) z hd bs′) sum (u .table))
+      (front-moved cs cs′ c (s .nodes) left f (omega arith) ec (omega arith))

@@ -1,58 +1,23 @@
 -- A pouring under way: chunks are taken behind a carry and written from it, until all stand in their new places.
 use mathlib.Core.Path.{_≡_, refl, sym, ap, _∙_, subst}
-use mathlib.Core.Logic.{_≢_}
-use mathlib.Core.Bool.{true, false}
-use mathlib.Core.List.{List, [], _∷_, _++_, append-assoc, append-nil}
-use Prim.Native.Nat.{ℕ, zero, suc, _+_, _*_, _-_, _/_, _≤_, _<_}
-use native.Mathlib.Decide.{ℕ-discrete, decLt}
-use native.Mathlib.Nat.{add-zero, add-suc, suc-add, add-assoc, suc-mul, zero-mul, mul-le-mul-right}
+use mathlib.Core.List.{List, [], _++_, append-nil}
+use Prim.Native.Nat.{ℕ, suc, _+_, _*_, _-_, _/_, _≤_, _<_}
+use native.Mathlib.Decide.{decLt}
+use native.Mathlib.Nat.{suc-mul, zero-mul, mul-le-mul-right}
 use native.Mathlib.Numerals.{add-one}
 use native.Mathlib.Omega.{arith}
-use lib.ListN.{length, take, drop, length-append, length-drop, length-take, take-append-drop}
-use lib.Seq.{take-append-le, drop-append-le, take-all, take-nil, drop-nil, length-take-le}
-use Rattle.placement.specs.Maps.{Map, Table, Fines, nodes-of, with-nodes, cleared, with-chunk, without-label}
-use Rattle.sizes.specs.Header.{block-long}
-use Rattle.placement.specs.Labels.{label, same-label}
-use Rattle.placement.specs.Place.{Shaped, free-in, label-in, inserted}
+use lib.ListN.{length, take, drop, length-append, length-drop, length-take}
+use lib.Seq.{take-append-le, drop-append-le, take-all, take-nil, drop-nil}
+use Rattle.placement.specs.Maps.{Map, Table, Fines, with-nodes, cleared}
+use Rattle.placement.specs.Place.{Shaped}
 use Rattle.sizes.specs.declared.Sizes.{Sizes}
-use Rattle.placement.specs.declared.Found.{Found}
 use Rattle.placement.specs.declared.Order.{Order}
-use Rattle.placement.specs.declared.Label.{Label}
-use Rattle.placement.proofs.Laws.Labels.{Label-is, is, isnt, label-is, is-same, one-label}
 use Rattle.skiplist.proofs.Laws.Count.{pieces}
 use Rattle.levels.specs.Edit.{Pieces}
 use Rattle.levels.specs.Pour.{at, Front, one, Taken, Takes, Writable, Flushed, waits, writes, Flushes, Pourable, Poured, Pours, Put, Puts, Kept}
-use Rattle.levels.proofs.Laws.Takes.{one-some, one-none}
-use Rattle.levels.proofs.Laws.Flushes.{fines-append, fines-drop, not-none, insert-nodes}
-use Rattle.levels.proofs.Laws.Chunking.{pieces-none, pieces-skip, pieces-pass, pieces-under, pieces-over, pieces-room, pieces-last, pieces-full, one-pieces, quotient-none, quotient-one, quotient-most, drop-next, drop-add, drop-past, take-past, one-taken}
-
--- LABELS of a map with nodes put in or a label cleared
-module _ (w : Label) (F : Map) (l f i : ℕ) where
-  this : w .level ≡ l → w .first ≡ f → w .number ≡ i → same-label w (label l f i) ≡ true
-  this a b d = is-same w (label l f i) (one-label w (label l f i) a b d)
-
-  another : (w .level ≡ l → w .first ≡ f → w .number ≡ i → ⊥) → same-label w (label l f i) ≡ false
-  another h = go (label-is w (label l f i))
-    where
-      go : Label-is w (label l f i) → same-label w (label l f i) ≡ false
-      go (is z p) = absurd (h (ap (λ (v : Label). v .level) p) (ap (λ (v : Label). v .first) p) (ap (λ (v : Label). v .number) p))
-      go (isnt z n) = z
-
-  pub cleared-same : w .level ≡ l → w .first ≡ f → w .number ≡ i → cleared w F l f i ≡ []
-  unfolding without-label
-  cleared-same a b d = rw (this a b d)
-
-  pub cleared-other : (w .level ≡ l → w .first ≡ f → w .number ≡ i → ⊥) → cleared w F l f i ≡ F l f i
-  unfolding without-label
-  cleared-other h = rw (another h)
-
-  pub with-same : (ns : List Order) → w .level ≡ l → w .first ≡ f → w .number ≡ i → with-nodes w ns F l f i ≡ ns
-  unfolding with-chunk
-  with-same ns a b d = rw (this a b d)
-
-  pub with-other : (ns : List Order) → (w .level ≡ l → w .first ≡ f → w .number ≡ i → ⊥) → with-nodes w ns F l f i ≡ F l f i
-  unfolding with-chunk
-  with-other ns h = rw (another h)
+use Rattle.levels.proofs.Laws.Flushes.{fines-append, fines-there, fines-drop}
+use Rattle.levels.proofs.Laws.MapLabels.{with-other, with-number, cleared-other, cleared-number}
+use Rattle.levels.proofs.Laws.Chunking.{pieces-up-to, pieces-pos, chunk-behind, chunk-same, pieces-none, pieces-skip, pieces-pass, pieces-under, pieces-over, pieces-full, one-pieces, quotient-none, quotient-one, quotient-most, drop-next, drop-past, take-past, one-taken}
 
 -- t chunks are taken, and `done` are written, up to number v; `carry` is in between
 pub record Pouring (s : Sizes) (F : Map) (m : ℕ) (hd : List ℕ) (k f j g q : ℕ) (c rest : List Order) (t v left : ℕ) (bs cs : List ℕ) : Type 0 where
@@ -70,7 +35,7 @@ pub record Pouring (s : Sizes) (F : Map) (m : ℕ) (hd : List ℕ) (k f j g q : 
   pub filled : done * s .nodes ≤ length (c ++ rest)
   pub written : (i : ℕ) → i < done → map k g (q + i) ≡ take (s .nodes) (drop (i * s .nodes) (c ++ rest))
   pub empty : (i : ℕ) → v ≤ i → map k g i ≡ []
-  pub source : Pieces map (s .nodes) k f (j + t) (drop (t * s .nodes) rest)
+  pub source : (i : ℕ) → t ≤ i → map k f (j + i) ≡ take (s .nodes) (drop (i * s .nodes) rest)
   pub gone : (i : ℕ) → i < t → map k f (j + i) ≡ []
   pub elsewhere : (l h i : ℕ) → (l ≡ k → h ≡ g → q ≤ i → ⊥) → (l ≡ k → h ≡ f → j ≤ i → ⊥) → map l h i ≡ F l h i
   pub count : full + t ≡ m + done
@@ -93,7 +58,7 @@ module _ (s : Sizes) (F : Map) (m : ℕ) (hd : List ℕ) (k f j count g q : ℕ)
     filled = rw zero-mul (omega arith);
     written = λ i h. absurd (omega arith);
     empty = pb .target;
-    source = λ n. rw (zero-mul, add-zero) (pb .source n);
+    source = λ i h. pb .source i;
     gone = λ i h. absurd (omega arith);
     elsewhere = λ l h i a b. refl;
     count = omega arith;
@@ -111,38 +76,21 @@ module _ (s : Sizes) (F : Map) (m : ℕ) (hd : List ℕ) (k f j count g q : ℕ)
     to-take : t ≤ count → pieces (s .nodes) (length rest) ≡ t + pieces (s .nodes) (length (drop (t * s .nodes) rest))
     to-take h = pieces-pass (s .nodes) (length rest) t (pb .some) (omega (arith, pb .chunks)) ∙ rw (length-drop (t * s .nodes) rest) refl
 
-    room-now : t ≤ count
-        → p .full + pieces (s .nodes) (length (p .carry) + length (drop (t * s .nodes) rest)) ≤ s .blocks + pieces (s .nodes) (length (drop (t * s .nodes) rest))
-    room-now h = omega (arith, to-write, to-take h, pb .room, p .count)
+    -- what a chunk's insertion asks
+    pub pouring-room : t ≤ count → pieces (s .nodes) (length (drop (t * s .nodes) rest)) < pieces (s .nodes) (length (p .carry) + length (drop (t * s .nodes) rest))
+        → Writable (at k g v) × (p .full < s .blocks)
+    pouring-room h more =
+        (record { level = pb .level; first = pb .first; number = omega (arith, to-write, pb .few, p .next) }, omega (arith, to-write, to-take h, pb .room, p .count))
 
     -- A CHUNK TAKEN
     module _ (h : t < count) (short : left < s .nodes) (r : ℕ) (bs′ cs′ : List ℕ) (tk : Taken s (p .map) (p .full) hd (at k f (j + t)) (p .carry) bs′ cs′ r) where
-      under : t * s .nodes < length rest
-      under = pieces-under (s .nodes) (length rest) t (pb .some) (omega (arith, pb .chunks))
-
       here : p .map k f (j + t) ≡ take (s .nodes) (drop (t * s .nodes) rest)
-      unfolding Pieces
-      here = let e : j + t + 0 ≡ j + t = omega arith in (rw (e, zero-mul) at (p .source 0))
+      here = p .source t (omega arith)
 
       more : one (p .map k f (j + t)) ≡ 1
-      more = ap one here ∙ one-taken (s .nodes) (t * s .nodes) rest (pb .some) under
-
-      filled-there : p .map k f (j + t) ≢ []
-      unfolding one
-      filled-there e = let z : _≡_ {A = ℕ} 0 1 = sym (ap one e) ∙ more in omega arith
-
-      taken-long : length (p .map k f (j + t)) ≤ s .nodes
-      taken-long = p .table .sound k f (j + t) filled-there .nodes
-
-      still : (l h i : ℕ) → (l ≡ k → h ≡ f → i ≡ j + t → ⊥) → cleared (at k f (j + t)) (p .map) l h i ≡ p .map l h i
-      still l h i n = cleared-other (at k f (j + t)) (p .map) l h i (λ a b d. n (sym a) (sym b) (sym d))
-
-      goes : (i : ℕ) → i < suc t → Dec (i ≡ t) → cleared (at k f (j + t)) (p .map) k f (j + i) ≡ []
-      goes i h (yes z) = cleared-same (at k f (j + t)) (p .map) k f (j + i) refl refl (omega arith)
-      goes i h (no z) = still k f (j + i) (λ x y w. z (omega arith)) ∙ p .gone i (omega (arith, z))
+      more = ap one here ∙ one-taken (s .nodes) (t * s .nodes) rest (pb .some) (pieces-under (s .nodes) (length rest) t (pb .some) (omega (arith, pb .chunks)))
 
       pub pouring-take : Pouring s F m hd k f j g q c rest (suc t) v r bs′ cs′
-      unfolding Pieces
       pouring-take = record {
         map = cleared (at k f (j + t)) (p .map);
         full = tk .full;
@@ -152,21 +100,15 @@ module _ (s : Sizes) (F : Map) (m : ℕ) (hd : List ℕ) (k f j count g q : ℕ)
         carry = p .carry ++ p .map k f (j + t);
         front = tk .front;
         size = tk .size;
-        most = rw length-append (omega (arith, taken-long, p .size));
-        fine = fines-append (p .carry) (p .map k f (j + t)) (p .fine) (p .table .sound k f (j + t) filled-there .fine);
-        todo =
-            append-assoc (p .carry) (p .map k f (j + t)) (drop (suc t * s .nodes) rest)
-            ∙ ap (λ (z : List Order). p .carry ++ z) (rw (here, ← drop-next (s .nodes) t rest) (take-append-drop (s .nodes) (drop (t * s .nodes) rest)))
-            ∙ p .todo;
+        most = rw (length-append, here, length-take) (omega (arith, p .size));
+        fine = fines-append (p .carry) (p .map k f (j + t)) (p .fine) (fines-there s (p .map) (p .full) hd bs k f (j + t) (p .table));
+        todo = chunk-behind (s .nodes) t rest (p .carry) (p .map k f (j + t)) _ here (p .todo);
         filled = p .filled;
-        written = λ i a. still k g (q + i) (λ x y w. pb .apart (sym y)) ∙ p .written i a;
-        empty = λ i a. still k g i (λ x y w. pb .apart (sym y)) ∙ p .empty i a;
-        source =
-            λ n.
-            let e : j + suc t + n ≡ j + t + suc n = omega arith in
-            rw e (still k f (j + t + suc n) (λ x y w. omega arith) ∙ p .source (suc n) ∙ ap (take (s .nodes)) (drop-add (s .nodes) t (suc n) rest ∙ ap (λ (z : ℕ). drop (z * s .nodes) rest) (add-suc t n ∙ sym (suc-add t n)) ∙ sym (drop-add (s .nodes) (suc t) n rest)));
-        gone = λ i a. goes i a (ℕ-discrete i t);
-        elsewhere = λ l h i a e. still l h i (λ x y w. e x y (omega arith)) ∙ p .elsewhere l h i a e;
+        written = λ i a. cleared-other (p .map) (λ x y w. pb .apart (sym y)) ∙ p .written i a;
+        empty = λ i a. cleared-other (p .map) (λ x y w. pb .apart (sym y)) ∙ p .empty i a;
+        source = λ i a. cleared-other (p .map) (λ x y w. omega arith) ∙ p .source i (omega arith);
+        gone = λ i a. cleared-number (p .map) (λ z. refl) (λ z. p .gone i (omega (arith, z)));
+        elsewhere = λ l h i a e. cleared-other (p .map) (λ x y w. e x y (omega arith)) ∙ p .elsewhere l h i a e;
         count = omega (arith, tk .count, more, p .count);
       }
 
@@ -175,36 +117,16 @@ module _ (s : Sizes) (F : Map) (m : ℕ) (hd : List ℕ) (k f j count g q : ℕ)
       -- what a flush asks
       pub pouring-can : s .nodes ≤ length (p .carry) → Writable (at k g v) × (p .map k g v ≡ []) × (p .full < s .blocks)
       pouring-can e =
-          let room = pieces-room (s .nodes) (length (p .carry)) (length (drop (t * s .nodes) rest)) (p .full) (s .blocks) (pb .some) e (room-now h) in (
-            record {
-              level = pb .level;
-              first = pb .first;
-              number = omega (
-                arith,
-                to-write,
-                pieces-full (s .nodes) (length (p .carry) + length (drop (t * s .nodes) rest)) (pb .some) (omega (arith, pb .some)),
-                pb .few,
-                p .next,
-              );
-            },
-            p .empty v (omega arith),
-            room,
-          )
+          let a = length (p .carry) in
+          let r = length (drop (t * s .nodes) rest) in
+          let u = pouring-room h (omega (arith, pieces-full (s .nodes) (a + r) (pb .some) (omega (arith, pb .some)), pieces-up-to (s .nodes) r (a + r - s .nodes) (pb .some) (omega arith))) in
+          (u .0, p .empty v (omega arith), u .1)
 
       module _ (r : ℕ) (bs′ cs′ : List ℕ) where
-        still-g : (ns : List Order) (l x i : ℕ) → (l ≡ k → x ≡ g → i ≡ v → ⊥) → with-nodes (at k g v) ns (p .map) l x i ≡ p .map l x i
-        still-g ns l x i n = with-other (at k g v) (p .map) l x i ns (λ a b d. n (sym a) (sym b) (sym d))
-
         chunk-now : s .nodes ≤ length (p .carry) → take (s .nodes) (p .carry) ≡ take (s .nodes) (drop (p .done * s .nodes) (c ++ rest))
         chunk-now e = sym (ap (take (s .nodes)) (sym (p .todo)) ∙ take-append-le (s .nodes) (p .carry) (drop (t * s .nodes) rest) e)
 
-        writes-on : s .nodes ≤ length (p .carry) → (i : ℕ) → i < suc (p .done) → Dec (i ≡ p .done)
-            → with-nodes (at k g v) (take (s .nodes) (p .carry)) (p .map) k g (q + i) ≡ take (s .nodes) (drop (i * s .nodes) (c ++ rest))
-        writes-on e i a (yes z) = with-same (at k g v) (p .map) k g (q + i) (take (s .nodes) (p .carry)) refl refl (omega (arith, p .next)) ∙ chunk-now e ∙ ap (λ (x : ℕ). take (s .nodes) (drop (x * s .nodes) (c ++ rest))) (sym z)
-        writes-on e i a (no z) = still-g (take (s .nodes) (p .carry)) k g (q + i) (λ x y w. z (omega (arith, p .next))) ∙ p .written i (omega (arith, z))
-
         pub pouring-flush : Flushed s (p .map) (p .full) hd (at k g v) (p .carry) bs′ cs′ r → Pouring s F m hd k f j g q c rest t (v + left / s .nodes) r bs′ cs′
-        unfolding Pieces
         pouring-flush (waits a er tb fr) =
             let e : v + left / s .nodes ≡ v = rw (quotient-none (s .nodes) left (omega (arith, p .size))) (omega arith) in
             rw e (record {
@@ -243,79 +165,57 @@ module _ (s : Sizes) (F : Map) (m : ℕ) (hd : List ℕ) (k f j count g q : ℕ)
               todo =
                   sym (drop-append-le (s .nodes) (p .carry) (drop (t * s .nodes) rest) a) ∙ ap (drop (s .nodes)) (p .todo) ∙ drop-next (s .nodes) (p .done) (c ++ rest);
               filled = omega (arith, whole-long, suc-mul (p .done) (s .nodes), pb .some);
-              written = λ i x. writes-on a i x (ℕ-discrete i (p .done));
-              empty = λ i x. still-g _ k g i (λ a b d. omega arith) ∙ p .empty i (omega arith);
-              source = λ n. still-g _ k f (j + t + n) (λ a b d. pb .apart b) ∙ p .source n;
-              gone = λ i x. still-g _ k f (j + i) (λ a b d. pb .apart b) ∙ p .gone i x;
-              elsewhere = λ l x i y z. still-g _ l x i (λ a b d. y a b (omega (arith, p .next))) ∙ p .elsewhere l x i y z;
+              written = λ i x. with-number (p .map) _ (λ z. chunk-now a ∙ chunk-same (s .nodes) (c ++ rest) (omega (arith, p .next))) (λ z. p .written i (omega (arith, z, p .next)));
+              empty = λ i x. with-other (p .map) (λ a b d. omega arith) _ ∙ p .empty i (omega arith);
+              source = λ i x. with-other (p .map) (λ a b d. pb .apart b) _ ∙ p .source i x;
+              gone = λ i x. with-other (p .map) (λ a b d. pb .apart b) _ ∙ p .gone i x;
+              elsewhere = λ l x i y z. with-other (p .map) (λ a b d. y a b (omega (arith, p .next))) _ ∙ p .elsewhere l x i y z;
               count = omega (arith, p .count);
             })
 
-    -- THE END: nothing is left to be taken
+    -- THE END: nothing is left to be taken, and the carry stands under the next label
     module _ (end : count ≤ t) where
+      all-taken : (n : ℕ) → t ≤ n → length rest ≤ n * s .nodes
+      all-taken n h = pieces-over (s .nodes) (length rest) n (pb .some) (omega (arith, pb .chunks))
+
       none-left : drop (t * s .nodes) rest ≡ []
-      none-left = drop-past (t * s .nodes) rest (pieces-over (s .nodes) (length rest) t (pb .some) (omega (arith, pb .chunks)))
-
-      source-end : (n : ℕ) → p .map k f (j + t + n) ≡ []
-      unfolding Pieces
-      source-end n = p .source n ∙ rw (none-left, drop-nil, take-nil)
-
-      -- what the last insertion asks
-      pub last-can : t ≤ count → 0 < left → Writable (at k g v) × (p .full < s .blocks)
-      last-can h pos =
-          let e : length (p .carry) + length (drop (t * s .nodes) rest) ≡ length (p .carry) = rw none-left (omega arith) in
-          let z : length (drop (t * s .nodes) rest) ≡ 0 = rw none-left refl in (
-            record {
-              level = pb .level;
-              first = pb .first;
-              number = omega (arith, to-write, ap (pieces (s .nodes)) e, pieces-full (s .nodes) (length (p .carry)) (pb .some) (omega (arith, p .size)), pb .few, p .next);
-            },
-            pieces-last (s .nodes) (length (p .carry)) (p .full) (s .blocks) (pb .some) (omega (arith, p .size)) (omega (arith, room-now h, ap (pieces (s .nodes)) e, ap (pieces (s .nodes)) z, pieces-none (s .nodes))),
-          )
-
-    -- .. and the carry stands under the next label
-    module _ (end : count ≤ t) (inside : t ≤ count) (short : left < s .nodes) (bs′ : List ℕ) (w : Put s (p .map) (p .full) hd (at k g v) (p .carry) bs′) where
-      same : (l x i : ℕ) → (l ≡ k → x ≡ g → i ≡ v → ⊥) → with-nodes (at k g v) (p .carry) (p .map) l x i ≡ p .map l x i
-      same l x i n = with-other (at k g v) (p .map) l x i (p .carry) (λ a b d. n (sym a) (sym b) (sym d))
-
-      carried : p .carry ≡ drop (p .done * s .nodes) (c ++ rest)
-      carried = sym (append-nil (p .carry)) ∙ ap (λ (z : List Order). p .carry ++ z) (sym (none-left end)) ∙ p .todo
-
-      long-end : length (p .carry) ≡ length (c ++ rest) - p .done * s .nodes
-      long-end = ap length carried ∙ length-drop (p .done * s .nodes) (c ++ rest)
-
-      past-end : (n : ℕ) → p .done < n → length (c ++ rest) ≤ n * s .nodes
-      past-end n h = omega (arith, long-end, p .size, suc-mul (p .done) (s .nodes), mul-le-mul-right (s .nodes) h)
-
-      stands : (n : ℕ) → Dec (n < p .done) → Dec (n ≡ p .done) → with-nodes (at k g v) (p .carry) (p .map) k g (q + n) ≡ take (s .nodes) (drop (n * s .nodes) (c ++ rest))
-      stands n (yes a) d = same k g (q + n) (λ x y w. omega (arith, p .next)) ∙ p .written n a
-      stands n (no a) (yes d) =
-          with-same (at k g v) (p .map) k g (q + n) (p .carry) refl refl (omega (arith, p .next)) ∙ sym (take-all (s .nodes) (p .carry) (omega (arith, p .size))) ∙ ap (take (s .nodes)) carried
-          ∙ ap (λ (x : ℕ). take (s .nodes) (drop (x * s .nodes) (c ++ rest))) (sym d)
-      stands n (no a) (no d) =
-          same k g (q + n) (λ x y w. d (omega (arith, p .next))) ∙ p .empty (q + n) (omega (arith, p .next, a))
-          ∙ sym (take-past (s .nodes) (n * s .nodes) (c ++ rest) (past-end n (omega (arith, a, d))))
-
-      gone-end : (n : ℕ) → Dec (n < t) → with-nodes (at k g v) (p .carry) (p .map) k f (j + n) ≡ []
-      gone-end n (yes d) = same k f (j + n) (λ x y w. pb .apart y) ∙ p .gone n d
-      gone-end n (no d) =
-          let z : j + t + (n - t) ≡ j + n = omega (arith, d) in
-          same k f (j + n) (λ x y w. pb .apart y) ∙ (rw z at (source-end end (n - t)))
+      none-left = drop-past (t * s .nodes) rest (all-taken t (omega arith))
 
       carry-long : length (p .carry) + length (drop (t * s .nodes) rest) ≡ length (p .carry)
-      carry-long = rw (none-left end) (omega arith)
+      carry-long = rw none-left (omega arith)
 
-      pub pouring-end : Poured s F m hd k f j g q c rest bs′
-      unfolding Pieces
-      pouring-end = record {
-        map = with-nodes (at k g v) (p .carry) (p .map);
-        full = w .full;
-        table = w .table;
-        there = λ n. stands n (decLt n (p .done)) (ℕ-discrete n (p .done));
-        gone = λ n. gone-end n (decLt n t) ∙ sym (rw (drop-nil, take-nil));
-        elsewhere = λ l x i y z. same l x i (λ a b d. y a b (omega (arith, p .next))) ∙ p .elsewhere l x i y z;
-        count = omega (arith, w .count, p .count, pb .chunks, to-write, one-pieces (s .nodes) (p .carry) (omega (arith, p .size)), ap (pieces (s .nodes)) carry-long);
-      }
+      pub last-can : t ≤ count → 0 < left → Writable (at k g v) × (p .full < s .blocks)
+      last-can h pos = pouring-room h (rw (carry-long, none-left) (omega (arith, pieces-none (s .nodes), pieces-pos (s .nodes) (length (p .carry)) (pb .some) (omega (arith, p .size)))))
+
+      module _ (inside : t ≤ count) (short : left < s .nodes) (bs′ : List ℕ) (w : Put s (p .map) (p .full) hd (at k g v) (p .carry) bs′) where
+        carried : p .carry ≡ drop (p .done * s .nodes) (c ++ rest)
+        carried = sym (append-nil (p .carry)) ∙ ap (λ (z : List Order). p .carry ++ z) (sym none-left) ∙ p .todo
+
+        past-end : (n : ℕ) → p .done < n → length (c ++ rest) ≤ n * s .nodes
+        past-end n h = omega (arith, whole-long, carry-long, p .size, suc-mul (p .done) (s .nodes), mul-le-mul-right (s .nodes) h)
+
+        stands : (n : ℕ) → (n ≡ p .done → ⊥) → Dec (n < p .done) → p .map k g (q + n) ≡ take (s .nodes) (drop (n * s .nodes) (c ++ rest))
+        stands n z (yes a) = p .written n a
+        stands n z (no a) = p .empty (q + n) (omega (arith, p .next, a)) ∙ sym (take-past (s .nodes) (n * s .nodes) (c ++ rest) (past-end n (omega (arith, a, z))))
+
+        gone-end : (n : ℕ) → Dec (n < t) → p .map k f (j + n) ≡ []
+        gone-end n (yes d) = p .gone n d
+        gone-end n (no d) = p .source n (omega (arith, d)) ∙ take-past (s .nodes) (n * s .nodes) rest (all-taken n (omega (arith, d)))
+
+        pub pouring-end : Poured s F m hd k f j g q c rest bs′
+        unfolding Pieces
+        pouring-end = record {
+          map = with-nodes (at k g v) (p .carry) (p .map);
+          full = w .full;
+          table = w .table;
+          there = λ n.
+              with-number (p .map) (p .carry)
+              (λ z. sym (take-all (s .nodes) (p .carry) (omega (arith, p .size))) ∙ ap (take (s .nodes)) carried ∙ chunk-same (s .nodes) (c ++ rest) (omega (arith, p .next)))
+              (λ z. stands n (λ e. z (omega (arith, p .next))) (decLt n (p .done)));
+          gone = λ n. with-other (p .map) (λ a b d. pb .apart b) _ ∙ gone-end n (decLt n t) ∙ sym (rw (drop-nil, take-nil));
+          elsewhere = λ l x i y z. with-other (p .map) (λ a b d. y a b (omega (arith, p .next))) _ ∙ p .elsewhere l x i y z;
+          count = omega (arith, w .count, p .count, pb .chunks, to-write, one-pieces (s .nodes) (p .carry) (omega (arith, p .size)), ap (pieces (s .nodes)) carry-long);
+        }
 
 -- AS `pour` ASKS: from where its loop begins, after the first flush
 unfoldable pub Pours-on : Sizes → (k f j count g q v₀ left₀ : ℕ) → (bs₀ cs₀ : List ℕ) → (t v left : ℕ) → (bs cs : List ℕ) → Type 0

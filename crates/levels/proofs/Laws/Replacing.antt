@@ -1,43 +1,21 @@
 -- The chunks of a partition before and from a key on, and what it does to a partition that chunks from one on are shifted.
-use mathlib.Core.Path.{_≡_, refl, sym, ap, _∙_, subst}
-use mathlib.Core.Logic.{_≢_}
-use mathlib.Core.List.{List, [], _∷_, _++_, append-assoc, append-nil}
-use Prim.Native.Nat.{ℕ, zero, suc, _+_, _*_, _-_, _≤_, _<_, min}
-use native.Mathlib.Decide.{ℕ-discrete, decLt}
-use native.Mathlib.Nat.{add-zero, zero-add, add-suc, suc-add, suc-mul, zero-mul, mul-le-mul-right, div-add-mod', mod-lt}
+use mathlib.Core.Path.{_≡_, refl, sym, ap, _∙_}
+use mathlib.Core.List.{List, _∷_, _++_}
+use Prim.Native.Nat.{ℕ, _/_, _%_, suc, _+_, _*_, _-_, _≤_, _<_, min}
+use native.Mathlib.Decide.{decLt}
+use native.Mathlib.Nat.{div-add-mod', mod-lt, suc-mul, mul-le-mul-right}
 use native.Mathlib.Numerals.{add-one}
 use native.Mathlib.Omega.{arith}
-use lib.ListN.{length, take, drop, length-append, length-drop, length-take, take-append-drop}
-use lib.Seq.{append-snoc, take-append-le, drop-append-le, take-at, drop-at, take-all, take-nil, drop-nil, length-take-le, take-take}
-use Rattle.placement.specs.Maps.{Map, Table, Fine, Fines, labelled, nodes-of, with-nodes, cleared}
+use lib.ListN.{length, take, drop, length-append, length-drop, length-take}
+use lib.Seq.{drop-drop, take-append-le, drop-append-le, take-at, drop-at}
+use Rattle.placement.specs.Maps.{Map, Table, Fines}
 use Rattle.sizes.specs.declared.Sizes.{Sizes}
 use Rattle.placement.specs.declared.Order.{Order}
-use Rattle.placement.specs.declared.Label.{Label}
 use Rattle.skiplist.proofs.Laws.Count.{pieces}
 use Rattle.levels.specs.Edit.{Pieces, Elsewhere, Comes-in}
-use Rattle.levels.specs.Pour.{one}
-use Rattle.levels.specs.Shift.{Shiftable, Shifted}
-use Rattle.levels.proofs.Laws.Chunking.{pieces-none, pieces-skip, pieces-pass, pieces-pos, pieces-up-to, pieces-half, pieces-first, one-pieces, drop-next, drop-add, drop-past, take-past}
-
--- PIECES of a list
-module _ (F : Map) (b k f : ℕ) where
-  pub pieces-at : (ns : List Order) (i : ℕ) → Pieces F b k f 0 ns → F k f i ≡ take b (drop (i * b) ns)
-  unfolding Pieces
-  pieces-at ns i p = ap (F k f) (sym (zero-add i)) ∙ p i
-
-  pub pieces-from : (ns : List Order) (i : ℕ) → Pieces F b k f 0 ns → Pieces F b k f i (drop (i * b) ns)
-  unfolding Pieces
-  pieces-from ns i p n = pieces-at ns (i + n) p ∙ ap (take b) (sym (drop-add b i n ns))
-
-  pub pieces-join : (ns : List Order) (i : ℕ) → ((n : ℕ) → n < i → F k f n ≡ take b (drop (n * b) ns)) → Pieces F b k f i (drop (i * b) ns) → Pieces F b k f 0 ns
-  unfolding Pieces
-  pieces-join ns i low high n = ap (F k f) (zero-add n) ∙ go (decLt n i)
-    where
-      go : Dec (n < i) → F k f n ≡ take b (drop (n * b) ns)
-      go (yes h) = low n h
-      go (no h) =
-          let e : i + (n - i) ≡ n = omega (arith, h) in
-          ap (F k f) (sym e) ∙ high (n - i) ∙ ap (take b) (drop-add b i (n - i) ns ∙ ap (λ (z : ℕ). drop (z * b) ns) e)
+use Rattle.levels.specs.Pour.{one, Front}
+use Rattle.levels.specs.Shift.{Shifts}
+use Rattle.levels.proofs.Laws.Chunking.{pieces-next, chunk-rest, pieces-at, pieces-from, pieces-join, pieces-none, pieces-skip, pieces-pass, pieces-pos, pieces-half, drop-next}
 
 -- a chunk before the end of ps, whatever follows
 pub chunk-low : (b n i : ℕ) (ps x : List Order) → n < i → i * b ≤ length ps → take b (drop (n * b) (ps ++ x)) ≡ take b (drop (n * b) ps)
@@ -64,56 +42,39 @@ rest-chunks b i l h g = go (decLt (i * b) (length l))
 
 -- chunks up to number i, chunk i, and those after it
 pub pieces-three : (b i : ℕ) (l : List Order) → 0 < b → i * b ≤ length l → pieces b (length l) ≡ i + one (take b (drop (i * b) l)) + pieces b (length (drop (suc i * b) l))
-pieces-three b i l h g =
-    omega (
-      arith,
-      pieces-skip b (length l) i h g,
-      ap (pieces b) (length-drop (i * b) l),
-      pieces-first b (drop (i * b) l) h,
-      ap (λ (z : List Order). pieces b (length z)) (drop-next b i l),
-    )
+pieces-three b i l h g = omega (arith, pieces-skip b (length l) i h g, ap (pieces b) (length-drop (i * b) l), pieces-next b i l h)
 
--- the chunk where a key comes, number i: its r nodes before the key, and those behind
-module _ (b i r : ℕ) (ps x : List Order) (e : i * b + r ≡ length ps) (h : r < b) where
-  pub number-below : i * b ≤ length ps
-  number-below = omega arith
+-- WHERE A KEY COMES in a partition of ps and qs: behind r nodes of chunk number i, which has the nodes c
+pub record Split (b i r : ℕ) (ps qs c : List Order) : Type 0 where
+  pub sum : i * b + r ≡ length ps
+  pub less : r < b
+  pub long : length c ≡ min b (r + length qs)
+  pub before : take r c ≡ drop (i * b) ps
+  pub behind : drop r c ++ drop (suc i * b) (ps ++ qs) ≡ qs
 
-  pub kept-long : length (drop (i * b) ps) ≡ r
-  kept-long = length-drop (i * b) ps ∙ omega arith
+pub split-at : (b m i r : ℕ) (ps qs c : List Order) → 2 ≤ b → i ≡ m / b → r ≡ m % b → m ≡ length ps → c ≡ take b (drop (i * b) (ps ++ qs)) → Split b i r ps qs c
+split-at b m i r ps qs c two ei er em ec =
+    let sum : i * b + r ≡ length ps = rw (ei, er, ← em) (div-add-mod' m b) in
+    let kept : length (drop (i * b) ps) ≡ r = length-drop (i * b) ps ∙ omega arith in
+    let from : drop (i * b) (ps ++ qs) ≡ drop (i * b) ps ++ qs = drop-append-le (i * b) ps qs (omega arith) in
+    let whole : c ++ drop (suc i * b) (ps ++ qs) ≡ drop (i * b) ps ++ qs = rw ec (chunk-rest b i (ps ++ qs)) ∙ from in
+    let less : r < b = rw er (mod-lt m (omega arith)) in
+    let long : length c ≡ min b (r + length qs) = ap length ec ∙ simp (length-take, from, length-append, kept) in
+    record {
+      sum = sum;
+      less = less;
+      long = long;
+      before = sym (take-append-le r c (drop (suc i * b) (ps ++ qs)) (omega arith)) ∙ ap (take r) whole ∙ take-at (drop (i * b) ps) qs r kept;
+      behind = sym (drop-append-le r c (drop (suc i * b) (ps ++ qs)) (omega arith)) ∙ ap (drop r) whole ∙ drop-at (drop (i * b) ps) qs r kept;
+    }
 
-  pub from-number : drop (i * b) (ps ++ x) ≡ drop (i * b) ps ++ x
-  from-number = drop-append-le (i * b) ps x number-below
+-- .. of a key that is there itself
+pub behind-held : (b i r : ℕ) (ps : List Order) (y : Order) (qs c : List Order) → Split b i r ps (y ∷ qs) c → drop (suc r) c ++ drop (suc i * b) (ps ++ y ∷ qs) ≡ qs
+behind-held b i r ps y qs c x =
+    let e : drop 1 (drop r c) ≡ drop (suc r) c = drop-drop 1 r c ∙ rw add-one refl in
+    rw (← e) (sym (drop-append-le 1 (drop r c) (drop (suc i * b) (ps ++ y ∷ qs)) (omega (arith, length-drop r c))) ∙ ap (drop 1) (x .behind))
 
-  -- the chunk, and the nodes after it
-  whole : take b (drop (i * b) (ps ++ x)) ++ drop (suc i * b) (ps ++ x) ≡ drop (i * b) ps ++ x
-  whole = rw (← drop-next b i (ps ++ x)) (take-append-drop b (drop (i * b) (ps ++ x))) ∙ from-number
-
-  pub chunk-long : length (take b (drop (i * b) (ps ++ x))) ≡ min b (r + length x)
-  chunk-long = simp (length-take, from-number, length-append, kept-long)
-
-  pub kept-most : r ≤ length (take b (drop (i * b) (ps ++ x)))
-  kept-most = omega (arith, chunk-long)
-
-  pub kept-before : take r (take b (drop (i * b) (ps ++ x))) ≡ drop (i * b) ps
-  kept-before =
-      sym (take-append-le r (take b (drop (i * b) (ps ++ x))) (drop (suc i * b) (ps ++ x)) kept-most) ∙ ap (take r) whole ∙ take-at (drop (i * b) ps) x r kept-long
-
-  pub kept-behind : drop r (take b (drop (i * b) (ps ++ x))) ++ drop (suc i * b) (ps ++ x) ≡ x
-  kept-behind =
-      sym (drop-append-le r (take b (drop (i * b) (ps ++ x))) (drop (suc i * b) (ps ++ x)) kept-most) ∙ ap (drop r) whole ∙ drop-at (drop (i * b) ps) x r kept-long
-
--- .. a key that is there itself
-module _ (b i r : ℕ) (ps : List Order) (y : Order) (qs : List Order) (e : i * b + r ≡ length ps) (h : r < b) where
-  pub held-inside : r < length (take b (drop (i * b) (ps ++ y ∷ qs)))
-  held-inside = omega (arith, chunk-long b i r ps (y ∷ qs) e h)
-
-  pub held-behind : drop (suc r) (take b (drop (i * b) (ps ++ y ∷ qs))) ++ drop (suc i * b) (ps ++ y ∷ qs) ≡ qs
-  held-behind =
-      sym (drop-append-le (suc r) (take b (drop (i * b) (ps ++ y ∷ qs))) (drop (suc i * b) (ps ++ y ∷ qs)) held-inside)
-      ∙ ap (drop (suc r)) (whole b i r ps (y ∷ qs) e h ∙ sym (append-snoc (drop (i * b) ps) y qs))
-      ∙ drop-at (drop (i * b) ps ++ y ∷ []) qs (suc r) (length-append (drop (i * b) ps) (y ∷ []) ∙ rw (kept-long b i r ps (y ∷ qs) e h) (omega arith))
-
--- A PARTITION SHIFTED FROM CHUNK i ON: the nodes behind ps were x and are y
+-- A PARTITION SHIFTED FROM CHUNK i ON: the nodes behind ps were x and are y, and the carry has those of chunk i
 module _ (s : Sizes) (F : Map) (n : ℕ) (hd bs : List ℕ) (k f i : ℕ) (ps x y c : List Order) (t : Table s F n hd bs) (two : 2 ≤ s .nodes) (pos : 0 < k) (first : f < 4294967296)
     (p : Pieces F (s .nodes) k f 0 (ps ++ x)) (low : i * s .nodes ≤ length ps) (few : length (ps ++ y) ≤ 65537) (fine : Fines c) (short : length c ≤ s .nodes + 1)
     (is : c ++ drop (suc i * s .nodes) (ps ++ x) ≡ drop (i * s .nodes) (ps ++ y))
@@ -121,37 +82,33 @@ module _ (s : Sizes) (F : Map) (n : ℕ) (hd bs : List ℕ) (k f i : ℕ) (ps x 
   some : 0 < s .nodes
   some = omega arith
 
-  new-pieces : pieces (s .nodes) (length (ps ++ y)) ≡ i + pieces (s .nodes) (length (drop (i * s .nodes) (ps ++ y)))
-  new-pieces = pieces-skip (s .nodes) (length (ps ++ y)) i some (omega (arith, length-append ps y)) ∙ rw (length-drop (i * s .nodes) (ps ++ y)) refl
+  from-number : (z : List Order) → pieces (s .nodes) (length (ps ++ z)) ≡ i + pieces (s .nodes) (length (drop (i * s .nodes) (ps ++ z)))
+  from-number z = pieces-skip (s .nodes) (length (ps ++ z)) i some (omega (arith, length-append ps z)) ∙ rw (length-drop (i * s .nodes) (ps ++ z)) refl
 
-  old-pieces : pieces (s .nodes) (length (ps ++ x)) ≡ i + pieces (s .nodes) (length (drop (i * s .nodes) (ps ++ x)))
-  old-pieces = pieces-skip (s .nodes) (length (ps ++ x)) i some (omega (arith, length-append ps x)) ∙ rw (length-drop (i * s .nodes) (ps ++ x)) refl
-
-  pub change-shiftable : (count : ℕ) → count ≡ pieces (s .nodes) (length (ps ++ x)) - (i + 1)
-      → Shiftable s F n k f i count c (drop (i * s .nodes) (ps ++ x)) (drop (i * s .nodes) (ps ++ y))
-  change-shiftable count ec = record {
-    level = pos;
-    first = first;
-    fine = fine;
-    short = short;
-    two = two;
-    few = omega (arith, new-pieces, pieces-half (s .nodes) (length (ps ++ y)) two);
-    chunks = ec ∙ rest-chunks (s .nodes) i (ps ++ x) some (omega (arith, length-append ps x)) ∙ rw (← drop-next (s .nodes) i (ps ++ x)) refl;
-    source = pieces-from F (s .nodes) k f (ps ++ x) i p;
-    is = rw (drop-next (s .nodes) i (ps ++ x)) is;
-    room = omega (arith, new-pieces, old-pieces, room);
-  }
-
-  pub change-in : (bs₂ : List ℕ) → Shifted s F n hd k f i (drop (i * s .nodes) (ps ++ x)) (drop (i * s .nodes) (ps ++ y)) bs₂ → Comes-in s F n hd bs₂ k f (ps ++ x) (ps ++ y)
-  unfolding Elsewhere
-  change-in bs₂ q = record {
-    map = q .map;
-    full = q .full;
-    table = q .table;
-    there =
-        pieces-join (q .map) (s .nodes) k f (ps ++ y) i
-        (λ m h. q .elsewhere k f m (λ a b d. omega arith) ∙ pieces-at F (s .nodes) k f (ps ++ x) m p ∙ chunk-low (s .nodes) m i ps x h low ∙ sym (chunk-low (s .nodes) m i ps y h low))
-        (q .there);
-    elsewhere = λ l h j e. q .elsewhere l h j (λ a b d. e a b);
-    count = omega (arith, q .count, new-pieces, old-pieces);
-  }
+  pub change-in : (count : ℕ) → count ≡ pieces (s .nodes) (length (ps ++ x)) - (i + 1) → (cs : List ℕ) → Front cs c → (m : ℕ) → m ≡ length c → (bs₂ : List ℕ) → Shifts s k f i count m bs bs₂ cs
+      → Comes-in s F n hd bs₂ k f (ps ++ x) (ps ++ y)
+  unfolding Elsewhere Shifts
+  change-in count ec cs fr m em bs₂ sf =
+      let q = sf F n hd c (drop (i * s .nodes) (ps ++ x)) (drop (i * s .nodes) (ps ++ y)) t fr em (record {
+        level = pos;
+        first = first;
+        fine = fine;
+        short = short;
+        two = two;
+        few = omega (arith, from-number y, pieces-half (s .nodes) (length (ps ++ y)) two);
+        chunks = ec ∙ rest-chunks (s .nodes) i (ps ++ x) some (omega (arith, length-append ps x)) ∙ rw (← drop-next (s .nodes) i (ps ++ x)) refl;
+        source = pieces-from F (s .nodes) k f (ps ++ x) i p;
+        is = rw (drop-next (s .nodes) i (ps ++ x)) is;
+        room = omega (arith, from-number x, from-number y, room);
+      }) in
+      record {
+        map = q .map;
+        full = q .full;
+        table = q .table;
+        there =
+            pieces-join (q .map) (s .nodes) k f (ps ++ y) i
+            (λ m h. q .elsewhere k f m (λ a b d. omega arith) ∙ pieces-at F (s .nodes) k f (ps ++ x) m p ∙ chunk-low (s .nodes) m i ps x h low ∙ sym (chunk-low (s .nodes) m i ps y h low))
+            (q .there);
+        elsewhere = λ l h j e. q .elsewhere l h j (λ a b d. e a b);
+        count = omega (arith, q .count, from-number x, from-number y);
+      }

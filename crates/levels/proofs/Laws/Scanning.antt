@@ -1,38 +1,37 @@
 -- Laws of a scan: a node comes by, the nodes of a chunk, the chunks of a partition.
-use mathlib.Core.Path.{_≡_, refl, sym, ap, _∙_, subst}
+use mathlib.Core.Path.{_≡_, refl, sym, ap, _∙_}
 use mathlib.Core.Logic.{_≢_}
-use mathlib.Core.Bool.{Bool, true, false, true≢false, and-false}
+use mathlib.Core.Bool.{Bool, true, false, true≢false}
 use mathlib.Core.List.{List, [], _∷_, _++_}
 use Prim.Native.Nat.{ℕ, zero, suc, _+_, _*_, _-_, _≤_, _<_}
 use native.Mathlib.Nat.{sub-zero, suc-mul, mul-le-mul-right}
 use native.Mathlib.Numerals.{add-one}
 use native.Mathlib.Decide.{decLt}
 use native.Mathlib.Omega.{arith}
-use borrow.Author.Tests.{ltb-true, ne-eqb, lt-ltb, le-ltb}
+use borrow.Author.Tests.{ltb-true, lt-ltb, le-ltb}
 use lib.Dec.{ltb}
 use lib.ListN.{length, getD, take, drop, length-append, length-take, length-drop, take-append-drop}
 use lib.Seq.{take-all, take-add}
 use Rattle.sizes.specs.Numbers.{field}
 use Rattle.sizes.specs.Header.{block-long}
-use Rattle.placement.specs.Blocks.{holds}
-use Rattle.placement.specs.Chunks.{block-bytes}
-use Rattle.sizes.specs.Parts.{block-in}
 use Rattle.placement.specs.Place.{search-in, taken-out}
-use Rattle.placement.specs.Labels.{same-label}
-use Rattle.placement.specs.Maps.{Map, Table, Finds, is-at, is-none, labelled, nodes-of, cleared, without-label}
+use Rattle.placement.specs.Maps.{Map, Table, cleared}
 use Rattle.sizes.specs.declared.Sizes.{Sizes}
 use Rattle.placement.specs.declared.Order.{Order}
-use Rattle.placement.specs.declared.Label.{Label}
 use Rattle.placement.specs.declared.Found.{Found}
 use Rattle.placement.specs.declared.Found.the-variants.{At, Nothing}
 use Rattle.sizes.proofs.Laws.Sizes.{some-nodes}
-use Rattle.placement.proofs.Laws.Tables.{find-told, count-most, count-some, remove-keeps}
-use Rattle.placement.proofs.Laws.Reading.{node-at, count-read, key-read}
+use Rattle.placement.proofs.Laws.Tables.{count-most, count-some, remove-keeps}
+use Rattle.placement.proofs.Laws.Reading.{node-at, key-read}
 use Rattle.skiplist.proofs.Laws.Parts.{Up, below, up-front, and-left, and-right}
 use Rattle.skiplist.proofs.Laws.Descent.{last-from}
 use Rattle.levels.specs.declared.Spot.{Spot}
 use Rattle.levels.specs.Edit.{Pieces, Scans, Reaches, Spots}
+use Rattle.levels.specs.Pour.{at}
 use Rattle.levels.specs.Scan.{passed, passes}
+use Rattle.levels.proofs.Laws.MapLabels.{cleared-other}
+use Rattle.levels.proofs.Laws.Takes.{none-found, some-found, counted}
+use Rattle.levels.proofs.Laws.Chunking.{pieces-at}
 
 -- A NODE
 module _ (key y : ℕ) (x : Spot) where
@@ -167,47 +166,30 @@ keys-read bs y (o ∷ ns) a x h =
 
 -- no partition has more chunks than there are blocks
 module _ (s : Sizes) (k f : ℕ) (pos : 0 < k) where
-  cleared-other : (a i : ℕ) (F : Map) → cleared (record { level = k; first = f; number = a }) F k f (suc a + i) ≡ F k f (suc a + i)
-  unfolding without-label same-label
-  cleared-other a i F = rw (ne-eqb a (suc a + i) (λ e. omega arith), and-false, and-false)
-
-  crowd : (j : ℕ) (F : Map) (n : ℕ) (hd bs : List ℕ) (a : ℕ) → Table s F n hd bs → ((i : ℕ) → i < j → F k f (a + i) ≢ []) → j ≤ n
+  crowd : (j : ℕ) (F : Map) (n : ℕ) (hd bs : List ℕ) (a : ℕ) → Table s F n hd bs → ((i : ℕ) → a ≤ i → i < a + j → F k f i ≢ []) → j ≤ n
   crowd zero F n hd bs a t h = omega arith
   crowd (suc j) F n hd bs a t h =
-      let w : Label = record { level = k; first = f; number = a } in
-      let z : a + 0 ≡ a = omega arith in
-      let full : F k f a ≢ [] = λ e. h 0 (omega arith) (ap (F k f) z ∙ e) in
+      let full : F k f a ≢ [] = h a (omega arith) (omega arith) in
       omega (
         arith,
-        count-some s F n hd bs t w full,
-        crowd j (cleared w F) (n - 1) hd (taken-out s (search-in s bs w) bs) (suc a) (remove-keeps s F n hd bs t w pos full .1)
-            (λ i g e. after i (h (suc i) (omega arith)) (sym (cleared-other a i F) ∙ e)),
+        count-some s F n hd bs t (at k f a) full,
+        crowd j (cleared (at k f a) F) (n - 1) hd (taken-out s (search-in s bs (at k f a)) bs) (suc a) (remove-keeps s F n hd bs t (at k f a) pos full .1)
+            (λ i g l e. h i (omega arith) (omega arith) (sym (cleared-other F (λ u v w. omega arith)) ∙ e)),
       )
-    where
-      after : (i : ℕ) → F k f (a + suc i) ≢ [] → F k f (suc a + i) ≢ []
-      after i g e = let z : a + suc i ≡ suc a + i = omega arith in g (ap (F k f) z ∙ e)
 
   module _ (F : Map) (n : ℕ) (hd bs : List ℕ) (ns : List Order) (t : Table s F n hd bs) (p : Pieces F (s .nodes) k f 0 ns) where
-    piece : (i : ℕ) → F k f i ≡ take (s .nodes) (drop (i * s .nodes) ns)
-    unfolding Pieces
-    piece i = let e : i ≡ 0 + i = omega arith in ap (F k f) e ∙ p i
-
     piece-gone : (i : ℕ) → F k f i ≡ [] → length ns ≤ i * s .nodes
-    piece-gone i e = omega (arith, some-nodes s (t .good), simp (length-take, length-drop) at (ap length (sym (piece i) ∙ e)))
+    piece-gone i e = omega (arith, some-nodes s (t .good), simp (length-take, length-drop) at (ap length (sym (pieces-at F (s .nodes) k f ns i p) ∙ e)))
 
     chunks-most : length ns ≤ s .blocks * s .nodes
     chunks-most = go (decLt (s .blocks * s .nodes) (length ns))
       where
-        there : s .blocks * s .nodes < length ns → (i : ℕ) → i < suc (s .blocks) → F k f (0 + i) ≢ []
-        there h i g e =
-            let q : i ≡ 0 + i = omega arith in
-            let m : i ≤ s .blocks = omega arith in
-            omega (arith, piece-gone i (ap (F k f) q ∙ e), mul-le-mul-right (s .nodes) m)
+        there : s .blocks * s .nodes < length ns → (i : ℕ) → 0 ≤ i → i < 0 + suc (s .blocks) → F k f i ≢ []
+        there h i l g e = let m : i ≤ s .blocks = omega arith in omega (arith, piece-gone i e, mul-le-mul-right (s .nodes) m)
 
         go : Dec (s .blocks * s .nodes < length ns) → length ns ≤ s .blocks * s .nodes
         go (no h) = omega arith
-        go (yes h) =
-            absurd (omega (arith, count-most s F n hd bs t, crowd (suc (s .blocks)) F n hd bs 0 t (there h)))
+        go (yes h) = absurd (omega (arith, count-most s F n hd bs t, crowd (suc (s .blocks)) F n hd bs 0 t (there h)))
 
 -- THE CHUNKS of a partition
 pub record Scanning (s : Sizes) (bs : List ℕ) (k f y i : ℕ) (z : Spot) : Type 0 where
@@ -229,21 +211,6 @@ pub reached : (s : Sizes) (bs : List ℕ) (k f y : ℕ) (z : Spot) → Scans s b
 unfolding Scans Reaches
 reached s bs k f y z sc F n hd ps qs t pos c low high =
     let e = sc F n hd ps qs t pos c low high in (ap (λ (v : Spot). v .below) e, ap (λ (v : Spot). v .last) e)
-
--- what a search found
-none-found : (s : Sizes) (F : Map) (w : Label) (bs : List ℕ) (r : Found) → r ≡ Nothing → Finds s F w bs r → nodes-of F w ≡ []
-none-found s F w bs Nothing e (is-none q) = q
-none-found s F w bs (At b) e x = let z : _≡_ {A = ℕ} 0 1 = cc in absurd (omega arith)
-
-record Stood (s : Sizes) (F : Map) (w : Label) (bs : List ℕ) (b : ℕ) : Type 0 where
-  full : nodes-of F w ≢ []
-  is : block-in (block-long s) bs b ≡ block-bytes s (holds (labelled w (nodes-of F w)))
-
-some-found : (s : Sizes) (F : Map) (w : Label) (bs : List ℕ) (r : Found) (b : ℕ) → r ≡ At b → Finds s F w bs r → Stood s F w bs b
-some-found s F w bs Nothing b e x = let z : _≡_ {A = ℕ} 0 1 = cc in absurd (omega arith)
-some-found s F w bs (At a) b e (is-at h f q) =
-    let z : a ≡ b = cc in
-    record { full = f; is = ap (block-in (block-long s) bs) (sym z) ∙ q }
 
 module _ (s : Sizes) (bs : List ℕ) (k f y i : ℕ) (z : Spot) (p : Scanning s bs k f y i z) where
   all-came : (ps qs : List Order) → length (ps ++ qs) ≤ i * s .nodes → below y ps ≡ true → Up y qs → z ≡ passed-all y (take (i * s .nodes) (ps ++ qs)) start →
@@ -269,58 +236,40 @@ module _ (s : Sizes) (bs : List ℕ) (k f y i : ℕ) (z : Spot) (p : Scanning s 
   pub spot-past : s .blocks ≤ 65535 → (whole : Bool) → whole ≡ false → z .below < z .size → Spots s bs k f y whole z
   spot-past b whole n h = record { reaches = past h; scans = λ e. absurd (true≢false (sym e ∙ n)); few = p .few; most = omega (arith, p .most, p .within) }
 
-  module _ (r : Found) (er : r ≡ search-in s bs (record { level = k; first = f; number = i })) where
-    finds : (F : Map) (n : ℕ) (hd : List ℕ) → Table s F n hd bs → 0 < k → Finds s F (record { level = k; first = f; number = i }) bs r
-    finds F n hd t pos = subst (Finds s F (record { level = k; first = f; number = i }) bs) (sym er) (find-told s F n hd bs t (record { level = k; first = f; number = i }) pos)
-
+  module _ (r : Found) (er : r ≡ search-in s bs (at k f i)) where
     pub scanning-none : r ≡ Nothing → Scans s bs k f y z
     unfolding Scans
     scanning-none e F n hd ps qs t pos c low high =
-        all-came ps qs (piece-gone s k f pos F n hd bs (ps ++ qs) t c i (none-found s F (record { level = k; first = f; number = i }) bs r e (finds F n hd t pos))) low high
-        (p .so-far F n hd (ps ++ qs) t pos c)
+        all-came ps qs (piece-gone s k f pos F n hd bs (ps ++ qs) t c i (none-found s F n hd bs t (at k f i) pos r er e)) low high (p .so-far F n hd (ps ++ qs) t pos c)
 
     module _ (b : ℕ) (eb : r ≡ At b) (n : ℕ) (en : n ≡ getD bs (53 + b * block-long s + 1) 0) where
-      module _ (F : Map) (m : ℕ) (hd : List ℕ) (t : Table s F m hd bs) (pos : 0 < k) where
-        stood : Stood s F (record { level = k; first = f; number = i }) bs b
-        stood = some-found s F (record { level = k; first = f; number = i }) bs r b eb (finds F m hd t pos)
-
-        counted : n ≡ length (F k f i)
-        counted =
-            let h = t .sound k f i (stood .full) in
-            en ∙ count-read s bs b (record { level = k; first = f; number = i }) (F k f i) (stood .is) (h .nodes) (h .fine)
-
-        nodes-few : n ≤ s .nodes
-        nodes-few = omega (arith, counted, t .sound k f i (stood .full) .nodes)
-
-        came : passes bs n (53 + b * block-long s + 8) y z ≡ passed-all y (F k f i) z
-        came =
-            let h = t .sound k f i (stood .full) in
-            ap (λ (j : ℕ). passes bs j (53 + b * block-long s + 8) y z) counted
-            ∙ keys-read bs y (F k f i) (53 + b * block-long s + 8) z
-            (λ j g. moved j (key-read s bs b (record { level = k; first = f; number = i }) (F k f i) (stood .is) (h .nodes) (h .fine) j g))
-          where
-            moved : (j : ℕ) → field (53 + b * block-long s + (8 + (12 * j + 0))) 4 bs ≡ node-at (F k f i) j .key → field (53 + b * block-long s + 8 + 12 * j) 4 bs ≡ node-at (F k f i) j .key
-            moved j g =
-                let e : 53 + b * block-long s + 8 + 12 * j ≡ 53 + b * block-long s + (8 + (12 * j + 0)) = omega arith in
-                ap (λ (q : ℕ). field q 4 bs) e ∙ g
+      came : (F : Map) (m : ℕ) (hd : List ℕ) → Table s F m hd bs → 0 < k → passes bs n (53 + b * block-long s + 8) y z ≡ passed-all y (F k f i) z
+      came F m hd t pos =
+          let v = some-found s F m hd bs t (at k f i) pos r er b eb in
+          ap (λ (j : ℕ). passes bs j (53 + b * block-long s + 8) y z) (counted s F m hd bs t (at k f i) pos r er b eb n en)
+          ∙ keys-read bs y (F k f i) (53 + b * block-long s + 8) z (λ j g. moved j (key-read s bs b (at k f i) (F k f i) (v .is) (v .held .nodes) (v .held .fine) j g))
+        where
+          moved : (j : ℕ) {x : ℕ} → field (53 + b * block-long s + (8 + (12 * j + 0))) 4 bs ≡ x → field (53 + b * block-long s + 8 + 12 * j) 4 bs ≡ x
+          moved j g = let e : 53 + b * block-long s + 8 + 12 * j ≡ 53 + b * block-long s + (8 + (12 * j + 0)) = omega arith in ap (λ (q : ℕ). field q 4 bs) e ∙ g
 
       -- a block with more nodes than fit is no table's
       pub scanning-wide : s .nodes < n → Scans s bs k f y z
       unfolding Scans
-      scanning-wide h F m hd ps qs t pos c low high = absurd (omega (arith, nodes-few F m hd t pos))
+      scanning-wide h F m hd ps qs t pos c low high =
+          absurd (omega (arith, some-found s F m hd bs t (at k f i) pos r er b eb .held .nodes, counted s F m hd bs t (at k f i) pos r er b eb n en))
 
-      next-came : i < s .blocks → n ≤ s .nodes → s .nodes ≤ 32 → (at : ℕ) (w : Spot) → at ≡ 53 + b * block-long s → w ≡ passes bs n (at + 8) y z → w .below ≤ w .size →
+      next-came : i < s .blocks → n ≤ s .nodes → s .nodes ≤ 32 → (a : ℕ) (w : Spot) → a ≡ 53 + b * block-long s → w ≡ passes bs n (a + 8) y z → w .below ≤ w .size →
           w .size ≡ z .size + n → Scanning s bs k f y (i + 1) w
-      next-came lt le few at w ea ew short long =
+      next-came lt le few a w ea ew short long =
           record {
             within = omega arith;
             few = short;
             most = omega (arith, p .most);
             so-far = λ F m hd ns t pos c.
                 ew
-                ∙ ap (λ (a : ℕ). passes bs n (a + 8) y z) ea
+                ∙ ap (λ (q : ℕ). passes bs n (q + 8) y z) ea
                 ∙ came F m hd t pos
-                ∙ ap (λ (l : List Order). passed-all y l z) (piece s k f pos F m hd bs ns t c i)
+                ∙ ap (λ (l : List Order). passed-all y l z) (pieces-at F (s .nodes) k f ns i c)
                 ∙ ap (passed-all y (take (s .nodes) (drop (i * s .nodes) ns))) (p .so-far F m hd ns t pos c)
                 ∙ sym (passed-append y (take (i * s .nodes) ns) (take (s .nodes) (drop (i * s .nodes) ns)) start)
                 ∙ ap (λ (l : List Order). passed-all y l start) (sym (take-add (i * s .nodes) (s .nodes) ns) ∙ ap (λ (q : ℕ). take q ns) next);
@@ -334,7 +283,7 @@ pub record Came (s : Sizes) (bs : List ℕ) (k f y i n : ℕ) (w : Spot) : Type 
   pub next : Scanning s bs k f y (i + 1) w
   pub stop : n < s .nodes → Scans s bs k f y w
 
-module _ (s : Sizes) (bs : List ℕ) (k f y i : ℕ) (z : Spot) (p : Scanning s bs k f y i z) (r : Found) (er : r ≡ search-in s bs (record { level = k; first = f; number = i }))
+module _ (s : Sizes) (bs : List ℕ) (k f y i : ℕ) (z : Spot) (p : Scanning s bs k f y i z) (r : Found) (er : r ≡ search-in s bs (at k f i))
     (b : ℕ) (eb : r ≡ At b) (n : ℕ) (en : n ≡ getD bs (53 + b * block-long s + 1) 0) where
   last-came : (w : Spot) → Scanning s bs k f y (i + 1) w → n < s .nodes → Scans s bs k f y w
   unfolding Scans
@@ -350,11 +299,11 @@ module _ (s : Sizes) (bs : List ℕ) (k f y i : ℕ) (z : Spot) (p : Scanning s 
             arith,
             h,
             next,
-            simp (length-take, length-drop) at (counted s bs k f y i z p r er b eb n en F m hd t pos ∙ ap length (piece s k f pos F m hd bs (ps ++ qs) t c i)),
+            simp (length-take, length-drop) at (counted s F m hd bs t (at k f i) pos r er b eb n en ∙ ap length (pieces-at F (s .nodes) k f (ps ++ qs) i c)),
           )
 
-  pub scanning-more : i < s .blocks → n ≤ s .nodes → s .nodes ≤ 32 → (at : ℕ) (w : Spot) → at ≡ 53 + b * block-long s → w ≡ passes bs n (at + 8) y z → w .below ≤ w .size →
+  pub scanning-more : i < s .blocks → n ≤ s .nodes → s .nodes ≤ 32 → (a : ℕ) (w : Spot) → a ≡ 53 + b * block-long s → w ≡ passes bs n (a + 8) y z → w .below ≤ w .size →
       w .size ≡ z .size + n → Came s bs k f y i n w
-  scanning-more lt le few at w ea ew short long =
-      let q = next-came s bs k f y i z p r er b eb n en lt le few at w ea ew short long in
+  scanning-more lt le few a w ea ew short long =
+      let q = next-came s bs k f y i z p r er b eb n en lt le few a w ea ew short long in
       record { next = q; stop = last-came w q }

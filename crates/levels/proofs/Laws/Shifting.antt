@@ -1,37 +1,29 @@
 -- A partition under way from some nodes to others, chunk by chunk in place.
-use mathlib.Core.Path.{_≡_, refl, sym, ap, _∙_, subst}
-use mathlib.Core.Logic.{_⊎_, inl, inr}
-use mathlib.Core.List.{List, [], _∷_, _++_, append-assoc, append-nil}
+use mathlib.Core.Path.{_≡_, refl, sym, ap, _∙_}
+use mathlib.Core.List.{List, [], _∷_, _++_}
 use Prim.Native.Nat.{ℕ, zero, suc, _+_, _*_, _-_, _≤_, _<_}
-use native.Mathlib.Decide.{ℕ-discrete, decLt}
-use native.Mathlib.Nat.{add-zero, suc-mul, zero-mul, mul-le-mul-right}
+use native.Mathlib.Decide.{decLt}
+use native.Mathlib.Nat.{suc-mul, zero-mul, mul-le-mul-right}
 use native.Mathlib.Numerals.{add-one}
 use native.Mathlib.Omega.{arith}
-use lib.ListN.{length, take, drop, length-append, length-drop, length-take, take-append-drop}
-use lib.Seq.{take-append-le, drop-append-le, length-take-le}
+use lib.ListN.{length, take, drop, length-append, length-drop, length-take}
 use Rattle.placement.specs.Maps.{Map, Table, Fines, with-nodes}
 use Rattle.placement.specs.Place.{Shaped}
 use Rattle.sizes.specs.declared.Sizes.{Sizes}
 use Rattle.placement.specs.declared.Order.{Order}
 use Rattle.skiplist.proofs.Laws.Count.{pieces}
 use Rattle.levels.specs.Edit.{Pieces}
-use Rattle.levels.specs.Pour.{at, Front, one, Read, Reads, Kept}
-use Rattle.levels.specs.Shift.{Stored, Settable, Renewed, Renews, Shiftable, Shifted, Shifts}
-use Rattle.levels.proofs.Laws.Takes.{one-none}
+use Rattle.levels.specs.Pour.{at, Front, one, Reads, Kept}
+use Rattle.levels.specs.Shift.{Settable, Renews, Shiftable, Shifted, Shifts}
 use Rattle.levels.proofs.Laws.Flushes.{fines-append, fines-drop, fines-there}
-use Rattle.levels.proofs.Laws.Chunking.{pieces-none, pieces-skip, pieces-pos, pieces-over, pieces-first, drop-next, drop-past, take-past}
-use Rattle.levels.proofs.Laws.Pouring.{with-same, with-other}
+use Rattle.levels.proofs.Laws.Chunking.{pieces-next, chunk-behind, chunk-same, pieces-none, pieces-skip, pieces-pos, pieces-over, drop-next, drop-past, take-past}
+use Rattle.levels.proofs.Laws.MapLabels.{with-other, with-number}
 
--- a list cut after b nodes, of which the first are known
-module _ (b : ℕ) (d e w : List Order) (is : d ++ e ≡ w) where
-  cut-take : (b ≤ length d) ⊎ (e ≡ []) → take b d ≡ take b w
-  cut-take (inl h) = sym (ap (take b) (sym is) ∙ take-append-le b d e h)
-  cut-take (inr z) = ap (take b) (sym (append-nil d) ∙ ap (λ (x : List Order). d ++ x) (sym z) ∙ is)
-
-  cut-drop : (b ≤ length d) ⊎ (e ≡ []) → drop b d ++ e ≡ drop b w
-  cut-drop (inl h) = sym (ap (drop b) (sym is) ∙ drop-append-le b d e h)
-  cut-drop (inr z) =
-      ap (λ (x : List Order). drop b d ++ x) z ∙ append-nil (drop b d) ∙ ap (drop b) (sym (append-nil d) ∙ ap (λ (x : List Order). d ++ x) (sym z) ∙ is)
+-- a list cut after b nodes, all of them in its first part, unless that is all
+cut : (b : ℕ) (d e : List Order) → (length d < b → e ≡ []) → (take b d ≡ take b (d ++ e)) × (drop b d ++ e ≡ drop b (d ++ e))
+cut zero d e h = (refl, refl)
+cut (suc b) [] e h = rw (h (omega arith)) (refl, refl)
+cut (suc b) (x ∷ d) e h = let c = cut b d e (λ l. h (omega arith)) in (ap (λ (z : List Order). x ∷ z) (c .0), c .1)
 
 -- t chunks hold what they are to hold; `carry` comes next, and then what came after chunk t
 pub record Shifting (s : Sizes) (F : Map) (m : ℕ) (hd : List ℕ) (k f q : ℕ) (old new : List Order) (t left : ℕ) (bs cs : List ℕ) : Type 0 where
@@ -79,106 +71,75 @@ module _ (s : Sizes) (F : Map) (m : ℕ) (hd : List ℕ) (k f q count : ℕ) (c 
     here = let e : q + t + 1 ≡ q + suc t = omega arith in rw e (as-before (suc t) (omega arith))
 
     -- with the next chunk read behind it, the carry has all of chunk t
-    whole : (p .carry ++ p .map k f (q + t + 1)) ++ drop (suc (suc t) * s .nodes) old ≡ drop (t * s .nodes) new
-    whole =
-        append-assoc (p .carry) (p .map k f (q + t + 1)) (drop (suc (suc t) * s .nodes) old)
-        ∙ ap (λ (z : List Order). p .carry ++ z) (rw (here, ← drop-next (s .nodes) (suc t) old) (take-append-drop (s .nodes) (drop (suc t * s .nodes) old)))
-        ∙ p .todo
+    abbrev now : List Order
+    now = p .carry ++ p .map k f (q + t + 1)
 
-    enough : (s .nodes ≤ length (p .carry ++ p .map k f (q + t + 1))) ⊎ (drop (suc (suc t) * s .nodes) old ≡ [])
-    enough = go (decLt (length (drop (suc t * s .nodes) old)) (s .nodes))
-      where
-        go : Dec (length (drop (suc t * s .nodes) old) < s .nodes) → (s .nodes ≤ length (p .carry ++ p .map k f (q + t + 1))) ⊎ (drop (suc (suc t) * s .nodes) old ≡ [])
-        go (yes h) = inr (sym (drop-next (s .nodes) (suc t) old) ∙ drop-past (s .nodes) (drop (suc t * s .nodes) old) (omega arith))
-        go (no h) =
-            inl (omega (
-              arith,
-              h,
-              length-append (p .carry) (p .map k f (q + t + 1)),
-              ap length here,
-              length-take-le (s .nodes) (drop (suc t * s .nodes) old) (omega (arith, h)),
-            ))
+    whole : now ++ drop (suc (suc t) * s .nodes) old ≡ drop (t * s .nodes) new
+    whole = chunk-behind (s .nodes) (suc t) old (p .carry) (p .map k f (q + t + 1)) _ here (p .todo)
 
-    chunk-now : take (s .nodes) (p .carry ++ p .map k f (q + t + 1)) ≡ take (s .nodes) (drop (t * s .nodes) new)
-    chunk-now = cut-take (s .nodes) (p .carry ++ p .map k f (q + t + 1)) (drop (suc (suc t) * s .nodes) old) (drop (t * s .nodes) new) whole enough
+    halves : (take (s .nodes) now ≡ take (s .nodes) (drop (t * s .nodes) new)) × (drop (s .nodes) now ++ drop (suc (suc t) * s .nodes) old ≡ drop (s .nodes) (drop (t * s .nodes) new))
+    halves =
+        rw whole at
+        (cut (s .nodes) now (drop (suc (suc t) * s .nodes) old) (λ h. sym (drop-next (s .nodes) (suc t) old)
+        ∙ drop-past (s .nodes) (drop (suc t * s .nodes) old) (omega (arith, length-append (p .carry) (p .map k f (q + t + 1)), ap length here, length-take (s .nodes) (drop (suc t * s .nodes) old)))))
 
-    new-pieces : pieces (s .nodes) (length (drop (t * s .nodes) new)) ≡ one (take (s .nodes) (drop (t * s .nodes) new)) + pieces (s .nodes) (length (drop (suc t * s .nodes) new))
-    new-pieces = pieces-first (s .nodes) (drop (t * s .nodes) new) some ∙ rw (drop-next (s .nodes) t new) refl
-
-    old-pieces : pieces (s .nodes) (length (drop (t * s .nodes) old)) ≡ one (take (s .nodes) (drop (t * s .nodes) old)) + pieces (s .nodes) (length (drop (suc t * s .nodes) old))
-    old-pieces = pieces-first (s .nodes) (drop (t * s .nodes) old) some ∙ rw (drop-next (s .nodes) t old) refl
+    fine-now : Fines now
+    fine-now = fines-append (p .carry) (p .map k f (q + t + 1)) (p .fine) (fines-there s (p .map) (p .full) hd bs k f (q + t + 1) (p .table))
 
     -- what writing chunk t asks
-    module _ (r : ℕ) (er : r ≡ length (p .carry ++ p .map k f (q + t + 1))) where
-      more : 0 < r → 0 < pieces (s .nodes) (length (drop (t * s .nodes) new))
-      more pos =
-          pieces-pos (s .nodes) (length (drop (t * s .nodes) new)) some
-          (omega (arith, ap length whole, length-append (p .carry ++ p .map k f (q + t + 1)) (drop (suc (suc t) * s .nodes) old)))
-
-      none-old : p .map k f (q + t) ≡ [] → pieces (s .nodes) (length (drop (t * s .nodes) old)) ≡ 0
-      none-old z = go (drop (t * s .nodes) old) (sym (as-before t (omega arith)) ∙ z)
-        where
-          go : (l : List Order) → take (s .nodes) l ≡ [] → pieces (s .nodes) (length l) ≡ 0
-          go [] e = pieces-none (s .nodes)
-          go (x ∷ l) e = absurd (omega (arith, ap length e, length-take (s .nodes) (x ∷ l), some))
-
-      pub shifting-can : Settable s (p .map) (p .full) (at k f (q + t)) r
-      shifting-can = record {
+    can : (r : ℕ) → r ≡ length now → Settable s (p .map) (p .full) (at k f (q + t)) r
+    can r er = record {
+      level = sh .level;
+      label = λ pos. record {
         level = sh .level;
-        label = λ pos. record {
-          level = sh .level;
-          first = sh .first;
-          number = omega (
-            arith,
-            more pos,
-            pieces-skip (s .nodes) (length new) t some (omega (arith, length-drop (t * s .nodes) new, more pos, pieces-none (s .nodes), inside pos)),
-            ap (pieces (s .nodes)) (length-drop (t * s .nodes) new),
-            sh .few,
-          );
-        };
-        room = λ pos z. omega (arith, more pos, none-old z, p .count, sh .room);
-      }
-        where
-          inside : 0 < r → t * s .nodes ≤ length new
-          inside pos = omega (arith, ap length whole, length-append (p .carry ++ p .map k f (q + t + 1)) (drop (suc (suc t) * s .nodes) old), length-drop (t * s .nodes) new)
+        first = sh .first;
+        number = omega (
+          arith,
+          more pos,
+          pieces-skip (s .nodes) (length new) t some (omega (arith, length-drop (t * s .nodes) new, long pos)),
+          ap (pieces (s .nodes)) (length-drop (t * s .nodes) new),
+          sh .few,
+        );
+      };
+      room = λ pos z.
+          let none : length (drop (t * s .nodes) old) ≡ 0 = omega (arith, some, ap length (sym (as-before t (omega arith)) ∙ z), length-take (s .nodes) (drop (t * s .nodes) old)) in
+          omega (arith, more pos, ap (pieces (s .nodes)) none, pieces-none (s .nodes), p .count, sh .room);
+    }
+      where
+        long : 0 < r → 0 < length (drop (t * s .nodes) new)
+        long pos = omega (arith, ap length whole, length-append now (drop (suc (suc t) * s .nodes) old))
+
+        more : 0 < r → 0 < pieces (s .nodes) (length (drop (t * s .nodes) new))
+        more pos = pieces-pos (s .nodes) (length (drop (t * s .nodes) new)) some (long pos)
 
     -- CHUNK t WRITTEN
-    module _ (r : ℕ) (bs′ cs′ : List ℕ) (x : Renewed s (p .map) (p .full) hd (at k f (q + t)) (p .carry ++ p .map k f (q + t + 1)) bs′ cs′ r) where
-      still : (l h i : ℕ) → (l ≡ k → h ≡ f → i ≡ q + t → ⊥)
-          → with-nodes (at k f (q + t)) (take (s .nodes) (p .carry ++ p .map k f (q + t + 1))) (p .map) l h i ≡ p .map l h i
-      still l h i n = with-other (at k f (q + t)) (p .map) l h i _ (λ a b d. n (sym a) (sym b) (sym d))
-
-      writes-on : (i : ℕ) → i < suc t → Dec (i ≡ t)
-          → with-nodes (at k f (q + t)) (take (s .nodes) (p .carry ++ p .map k f (q + t + 1))) (p .map) k f (q + i) ≡ take (s .nodes) (drop (i * s .nodes) new)
-      writes-on i a (yes z) =
-          with-same (at k f (q + t)) (p .map) k f (q + i) _ refl refl (omega arith) ∙ chunk-now ∙ ap (λ (y : ℕ). take (s .nodes) (drop (y * s .nodes) new)) (sym z)
-      writes-on i a (no z) = still k f (q + i) (λ u v w. z (omega arith)) ∙ p .written i (omega (arith, z))
-
-      pub shifting-more : Shifting s F m hd k f q old new (suc t) r bs′ cs′
-      shifting-more = record {
-        map = with-nodes (at k f (q + t)) (take (s .nodes) (p .carry ++ p .map k f (q + t + 1))) (p .map);
-        full = x .stored .full;
-        table = x .stored .table;
-        carry = drop (s .nodes) (p .carry ++ p .map k f (q + t + 1));
-        front = x .front;
-        size = x .size;
-        fine =
-            fines-drop (s .nodes) (p .carry ++ p .map k f (q + t + 1))
-            (fines-append (p .carry) (p .map k f (q + t + 1)) (p .fine) (fines-there s (p .map) (p .full) hd bs k f (q + t + 1) (p .table)));
-        todo =
-            cut-drop (s .nodes) (p .carry ++ p .map k f (q + t + 1)) (drop (suc (suc t) * s .nodes) old) (drop (t * s .nodes) new) whole enough ∙ drop-next (s .nodes) t new;
-        written = λ i a. writes-on i a (ℕ-discrete i t);
-        elsewhere = λ l h i a. still l h i (λ u v w. a u v (omega arith) (omega arith)) ∙ p .elsewhere l h i (λ u v w y. a u v w (omega arith));
-        count = omega (
-          arith,
-          p .count,
-          x .stored .count,
-          new-pieces,
-          old-pieces,
-          ap one (as-before t (omega arith)),
-          ap one chunk-now,
-        );
-      }
+    pub shifting-more : (cs₁ : List ℕ) (r₁ : ℕ) → Reads s (at k f (q + t + 1)) left bs cs cs₁ r₁ → (bs₂ cs₂ : List ℕ) (r₂ : ℕ) → Renews s (at k f (q + t)) r₁ bs bs₂ cs₁ cs₂ r₂
+        → Shifting s F m hd k f q old new (suc t) r₂ bs₂ cs₂
+    unfolding Reads Renews
+    shifting-more cs₁ r₁ rd bs₂ cs₂ r₂ rn =
+        let u = rd (p .map) (p .full) hd (p .carry) (p .table) (sh .level) (p .front) (p .size) in
+        let x = rn (p .map) (p .full) hd now (p .table) (u .front) (u .size) fine-now (can r₁ (u .size)) in
+        record {
+          map = with-nodes (at k f (q + t)) (take (s .nodes) now) (p .map);
+          full = x .stored .full;
+          table = x .stored .table;
+          carry = drop (s .nodes) now;
+          front = x .front;
+          size = x .size;
+          fine = fines-drop (s .nodes) now fine-now;
+          todo = halves .1 ∙ drop-next (s .nodes) t new;
+          written = λ i a. with-number (p .map) _ (λ z. halves .0 ∙ chunk-same (s .nodes) new (omega arith)) (λ z. p .written i (omega (arith, z)));
+          elsewhere = λ l h i a. with-other (p .map) (λ u v w. a u v (omega arith) (omega arith)) _ ∙ p .elsewhere l h i (λ u v w y. a u v w (omega arith));
+          count = omega (
+            arith,
+            p .count,
+            x .stored .count,
+            pieces-next (s .nodes) t new some,
+            pieces-next (s .nodes) t old some,
+            ap one (as-before t (omega arith)),
+            ap one (halves .0),
+          );
+        }
 
     -- THE END: no chunk comes after the last one written
     module _ (end : count + 2 ≤ t) where
@@ -237,18 +198,6 @@ module _ (s : Sizes) (k f q count n : ℕ) (bs₀ cs₀ : List ℕ) where
   }
 
   module _ (t left : ℕ) (bs cs : List ℕ) (i : Moving s k f q count n bs₀ cs₀ t left bs cs) where
-    moving-on : (cs₁ : List ℕ) (r : ℕ) → Reads s (at k f (q + t + 1)) left bs cs cs₁ r → (bs₂ cs₂ : List ℕ) (r₂ : ℕ) → Renews s (at k f (q + t)) r bs bs₂ cs₁ cs₂ r₂
-        → (F : Map) (m : ℕ) (hd : List ℕ) (c old new : List Order) → Table s F m hd bs₀ → Front cs₀ c → n ≡ length c → Shiftable s F m k f q count c old new
-        → Shifting s F m hd k f q old new (t + 1) r₂ bs₂ cs₂
-    unfolding Reads Renews
-    moving-on cs₁ r rd bs₂ cs₂ r₂ rn F m hd c old new tb fr en sh =
-        let p = i .on F m hd c old new tb fr en sh in
-        let u = rd (p .map) (p .full) hd (p .carry) (p .table) (sh .level) (p .front) (p .size) in
-        let fine = fines-append (p .carry) (p .map k f (q + t + 1)) (p .fine) (fines-there s (p .map) (p .full) hd bs k f (q + t + 1) (p .table)) in
-        rw add-one
-        (shifting-more s F m hd k f q count c old new sh t left bs cs p r₂ bs₂ cs₂
-        (rn (p .map) (p .full) hd (p .carry ++ p .map k f (q + t + 1)) (p .table) (u .front) (u .size) fine (shifting-can s F m hd k f q count c old new sh t left bs cs p r (u .size))))
-
     pub moving-more : t < count + 2 → (cs₁ : List ℕ) (r : ℕ) → length cs₁ ≡ length cs → r ≤ left + s .nodes → Reads s (at k f (q + t + 1)) left bs cs cs₁ r
         → (bs₂ cs₂ : List ℕ) (r₂ : ℕ) → Kept s bs₂ cs₁ cs₂ → r₂ ≤ r - s .nodes → Renews s (at k f (q + t)) r bs bs₂ cs₁ cs₂ r₂
         → Moving s k f q count n bs₀ cs₀ (t + 1) r₂ bs₂ cs₂
@@ -257,7 +206,8 @@ module _ (s : Sizes) (k f q count n : ℕ) (bs₀ cs₀ : List ℕ) where
       long = kept .long ∙ long ∙ i .long;
       within = omega arith;
       short = omega (arith, i .short);
-      on = moving-on cs₁ r rd bs₂ cs₂ r₂ rn;
+      on = λ F m hd c old new tb fr en sh.
+          rw add-one (shifting-more s F m hd k f q count c old new sh t left bs cs (i .on F m hd c old new tb fr en sh) cs₁ r rd bs₂ cs₂ r₂ rn);
     }
 
     pub moving-end : count + 2 ≤ t → Shifts s k f q count n bs₀ bs cs₀

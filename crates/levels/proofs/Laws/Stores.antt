@@ -1,8 +1,7 @@
 -- A chunk set to the first nodes of a row, in place where it is there.
-use mathlib.Core.Path.{_≡_, refl, sym, ap, _∙_, subst}
-use mathlib.Core.Bool.{true, false, true≢false}
-use mathlib.Core.List.{List, [], _∷_}
-use Prim.Native.Nat.{ℕ, zero, suc, _+_, _*_, _-_, _≤_, _<_}
+use mathlib.Core.Path.{_≡_, refl, sym, _∙_, subst}
+use mathlib.Core.List.{List, []}
+use Prim.Native.Nat.{ℕ, _+_, _*_, _-_, _≤_, _<_}
 use native.Mathlib.Omega.{arith}
 use lib.ListN.{length, take, drop, length-drop}
 use lib.Seq.{sets, take-all, length-take-le}
@@ -11,55 +10,40 @@ use Rattle.placement.specs.Chunks.{nodes-bytes}
 use Rattle.sizes.specs.Parts.{put-block}
 use Rattle.placement.specs.Labels.{home}
 use Rattle.placement.specs.Place.{search-in, bytes, pull, block-with}
-use Rattle.placement.specs.Maps.{Map, Table, Finds, is-at, is-none, Fines, nodes-of, with-chunk, without-label, with-nodes, cleared}
+use Rattle.placement.specs.Maps.{Map, Table, nodes-of, with-nodes}
 use Rattle.sizes.specs.declared.Sizes.{Sizes}
 use Rattle.placement.specs.declared.Order.{Order}
 use Rattle.placement.specs.declared.Label.{Label}
 use Rattle.placement.specs.declared.Found.{Found}
 use Rattle.placement.specs.declared.Found.the-variants.{At, Nothing}
-use Rattle.placement.proofs.Laws.Tables.{find-told, pull-keeps, write-keeps, count-some}
-use Rattle.levels.specs.Pour.{Front, one, Puts}
-use Rattle.levels.specs.Shift.{Stored, Settable, Stores, Renewed, Renews}
-use Rattle.levels.proofs.Laws.CarryFronts.{front-none, front-part, front-first, front-more}
-use Rattle.levels.proofs.Laws.Takes.{one-some, one-none}
+use Rattle.placement.proofs.Laws.Tables.{pull-keeps, write-keeps, count-some}
+use Rattle.levels.specs.Pour.{one, Puts}
+use Rattle.levels.specs.Shift.{Stored, Stores, Renews}
+use Rattle.levels.proofs.Laws.CarryFronts.{front-none, front-first, front-moved}
+use Rattle.levels.proofs.Laws.MapLabels.{cleared-is}
+use Rattle.levels.proofs.Laws.Takes.{one-some, one-none, none-found, some-found}
 use Rattle.levels.proofs.Laws.Flushes.{fines-take, not-none}
 use Rattle.levels.proofs.Laws.Chunking.{drop-past}
-
--- no nodes under a label: it is cleared
-with-nothing : (w : Label) (F : Map) → cleared w F ≡ with-nodes w [] F
-unfolding with-chunk without-label
-with-nothing w F = refl
 
 module _ (s : Sizes) (w : Label) (n : ℕ) (bs cs : List ℕ) (r : Found) (er : r ≡ search-in s bs w) where
   -- the label is absent
   pub store-absent : r ≡ Nothing → (bs′ : List ℕ) → Puts s w n bs bs′ cs → Stores s w n bs bs′ cs
   unfolding Stores Puts
-  store-absent e bs′ put F m hd c t f k fine can = go (search-in s bs w) (sym er ∙ e) (find-told s F m hd bs t w (can .level))
-    where
-      go : (x : Found) → x ≡ Nothing → Finds s F w bs x → Stored s F m hd w (take n c) bs′
-      go (At i) z f = absurd (true≢false cc)
-      go Nothing z (is-none g) =
-          let p = put F m hd c t f k fine g (λ pos. (can .label pos, can .room pos g)) in
-          record { full = p .full; table = p .table; count = omega (arith, p .count, one-none (nodes-of F w) g) }
+  store-absent e bs′ put F m hd c t f k fine can =
+      let g = none-found s F m hd bs t w (can .level) r er e in
+      let p = put F m hd c t f k fine g (λ pos. (can .label pos, can .room pos g)) in
+      record { full = p .full; table = p .table; count = omega (arith, p .count, one-none (nodes-of F w) g) }
 
   module _ (i : ℕ) (e : r ≡ At i) where
-    there : (F : Map) (m : ℕ) (hd : List ℕ) → Table s F m hd bs → 0 < w .level → one (nodes-of F w) ≡ 1
-    there F m hd t pos = go (search-in s bs w) (sym er ∙ e) (find-told s F m hd bs t w pos)
-      where
-        go : (x : Found) → x ≡ At i → Finds s F w bs x → one (nodes-of F w) ≡ 1
-        go (At j) z (is-at p q g) = one-some (nodes-of F w) q
-        go Nothing z g = absurd (true≢false cc)
-
     -- .. or there, and cleared
     pub store-none : n ≡ 0 → (bs′ : List ℕ) → bs′ ≡ pull (bytes (block-long s)) (home s) (s .blocks) (s .blocks - 1) i (i + 1) bs → Stores s w n bs bs′ cs
     unfolding Stores one
     store-none z bs′ eb F m hd c t f k fine can =
-        let h = there F m hd t (can .level) in
-        let q = count-some s F m hd bs t w (λ u. omega (arith, h, one-none (nodes-of F w) u)) in
+        let v = some-found s F m hd bs t w (can .level) r er i e in
         rw z (record {
           full = m - 1;
-          table = subst (λ (G : Map). Table s G (m - 1) hd bs′) (with-nothing w F) (rw eb (pull-keeps s F m hd bs t w i (can .level) (sym er ∙ e)));
-          count = omega arith;
+          table = subst (λ (G : Map). Table s G (m - 1) hd bs′) (cleared-is w F) (rw eb (pull-keeps s F m hd bs t w i (can .level) (sym er ∙ e)));
+          count = omega (arith, one-some (nodes-of F w) (v .full), count-some s F m hd bs t w (v .full));
         })
 
     -- .. or there, and written over
@@ -70,6 +54,7 @@ module _ (s : Sizes) (w : Label) (n : ℕ) (bs cs : List ℕ) (r : Found) (er : 
         let pos : 0 < n = omega (arith, z) in
         let some = not-none (take n c) (omega arith) in
         let q = can .label pos in
+        let v = some-found s F m hd bs t w (can .level) r er i e in
         record {
           full = m;
           table =
@@ -77,7 +62,7 @@ module _ (s : Sizes) (w : Label) (n : ℕ) (bs cs : List ℕ) (r : Found) (er : 
               (subst (λ (x : ℕ). Table s (with-nodes w (take n c) F) m hd (put-block (block-long s) bs i (block-with (block-long s) w x (nodes-bytes (take n c))))) l
               (write-keeps s F m hd bs t w i (take n c) (can .level) (sym er ∙ e)
               (record { level = q .level; first = q .first; number = q .number; fine = fines-take n c fine; nodes = omega arith }) some));
-          count = omega (arith, there F m hd t (can .level), one-some (take n c) some);
+          count = omega (arith, one-some (nodes-of F w) (v .full), one-some (take n c) some);
         }
 
 -- THE FIRST NODES OF A CARRY
@@ -97,11 +82,8 @@ module _ (s : Sizes) (w : Label) (n : ℕ) (bs bs′ cs : List ℕ) where
       → cs′ ≡ sets cs 0 (take (12 * left) (drop (12 * s .nodes) cs)) → Renews s w n bs bs′ cs cs′ left
   unfolding Renews Stores
   renew-first h left cs′ st el room ec F m hd c t f en fine can =
-      let ld : length (drop (s .nodes) c) ≡ left = length-drop (s .nodes) c ∙ omega arith in
-      let part : take (12 * left) (drop (12 * s .nodes) cs) ≡ nodes-bytes (drop (s .nodes) c) =
-      front-part cs c (s .nodes) left f (omega arith) ∙ ap (λ (z : List Order). nodes-bytes z) (take-all left (drop (s .nodes) c) (omega arith)) in
       record {
         stored = st F m hd c t f (omega arith) fine (record { level = can .level; label = λ z. can .label (omega arith); room = λ z. can .room (omega arith) });
-        front = front-more cs cs′ [] (drop (s .nodes) c) 0 _ (front-none cs) refl part ec (omega arith);
-        size = sym ld;
+        front = front-moved cs cs′ c (s .nodes) left f (omega arith) ec (omega arith);
+        size = omega (arith, length-drop (s .nodes) c);
       }

@@ -2,10 +2,9 @@
 use borrow.Author.Needs.{needs}
 use borrow.Author.Tests.{not-true, not-false}
 use Rattle.readings.proofs.Laws.Answers.{known-at}
-use Rattle.readings.proofs.Laws.Replies.{checked-yes, checked-no}
+use Rattle.readings.proofs.Laws.Replies.{checked-yes, checked-no, key-least}
 use Rattle.edits.proofs.Laws.EditAnswers.{key-yes, key-no}
 use Rattle.edits.proofs.Laws.CancelAnswers.{cancel-no-4, cancel-no-5, cancel-no-9}
-use Rattle.readings.proofs.Laws.Replies.{key-least}
 use Rattle.edits.proofs.Laws.Sightings.{unseen-held, seen-held, seen-is-key, seen-cancels}
 use Rattle.edits.proofs.changes.cancel.Statement.{statement}
 use Rattle.edits.proofs.changes.cancel.Tie as tie

@@ -9,7 +9,7 @@ use Rattle.levels.proofs.edit.cancel_in.Tie as tie
 returns : tie.Need-returns
 returns c =
     let p = c .before .before .before .before .before .before .before .before .before .before .before .pre in
-    cancel-in-short _ _ _ _ _ (p .1) (p .0 .few) _ _ 0 _ refl refl _ _ (c .before .before .read .ensures .2) (c .if1 .taken)
+    cancel-in-short _ _ _ _ _ (p .1) _ _ _ refl refl _ _ (c .before .before .read .ensures .2) (p .0 .few) (c .if1 .taken)
 
 shift-requires : tie.Need-shift-requires
 shift-requires c κs =
@@ -20,7 +20,7 @@ shift-requires c κs =
 returns-2 : tie.Need-returns-2
 returns-2 c =
     let p = c .before .before .before .before .before .before .before .before .before .before .before .before .before .before .before .before .before .before .before .before .before .before .before .before .before .pre in
-    cancel-in-made _ _ _ _ _ (p .1) (p .0 .few) _ _ _ _ refl refl _ _ (c .before .before .before .before .before .before .before .before .before .before .before .before .before .before .before .before .read .ensures .2) (c .before .before .before .before .before .before .before .before .before .before .before .before .before .before .before .before .before .before .before .later .ensures) (omega (arith, c .before .before .before .before .before .before .before .before .before .before .before .before .before .before .if1 .left)) _ _ _ (c .before .before .before .before .before .before .before .before .before .before .before .bring .ensures) (c .before .before .before .before .before .before .before .bring2 .ensures) (search needs) _ (c .before .before .before .shift .ensures)
+    cancel-in-made _ _ _ _ _ (p .1) _ _ _ refl refl _ _ (c .before .before .before .before .before .before .before .before .before .before .before .before .before .before .before .before .read .ensures .2) (p .0 .few) _ (c .before .before .before .before .before .before .before .before .before .before .before .before .before .before .before .before .before .before .before .later .ensures) (omega (arith, c .before .before .before .before .before .before .before .before .before .before .before .before .before .before .if1 .left)) _ _ _ (c .before .before .before .before .before .before .before .before .before .before .before .bring .ensures) (c .before .before .before .before .before .before .before .bring2 .ensures) (search needs) _ (c .before .before .before .shift .ensures)
 
 pub cancel-in-spec : {M : Type 1} → statement M
 cancel-in-spec =

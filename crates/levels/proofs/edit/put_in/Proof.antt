@@ -9,7 +9,7 @@ use Rattle.levels.proofs.edit.put_in.Tie as tie
 returns : tie.Need-returns
 returns c =
     let p = c .before .before .before .before .before .before .before .before .before .before .before .pre in
-    put-in-short _ _ _ _ _ _ (p .1) (p .0 .few) _ _ 0 _ refl refl _ _ (c .before .before .read .ensures .2) (c .if1 .taken)
+    put-in-short _ _ _ _ _ (p .1) _ _ _ refl refl _ _ (c .before .before .read .ensures .2) (p .0 .few) _ (c .if1 .taken)
 
 add-shift : tie.Need-add-shift
 add-shift c = record { fits = omega (arith, c .before .before .before .before .before .before .before .before .before .before .before .before .before .before .before .read .ensures .1, c .before .before .before .before .before .before .before .before .before .before .before .before .before .before .before .before .before .before .before .before .before .before .before .before .pre .0 .few) }
@@ -23,7 +23,7 @@ shift-requires c κs =
 returns-2 : tie.Need-returns-2
 returns-2 c =
     let p = c .before .before .before .before .before .before .before .before .before .before .before .before .before .before .before .before .before .before .before .before .before .before .before .before .before .before .before .before .pre in
-    put-in-made _ _ _ _ _ _ (p .1) (p .0 .few) _ _ _ _ refl refl _ _ (c .before .before .before .before .before .before .before .before .before .before .before .before .before .before .before .before .before .before .before .read .ensures .2) (c .before .before .before .before .before .before .before .before .before .before .before .before .before .before .before .before .before .before .before .before .before .before .later .ensures) (omega (arith, c .before .before .before .before .before .before .before .before .before .before .before .before .before .before .before .before .before .if1 .left)) _ _ _ _ (c .before .before .before .before .before .before .before .before .before .before .before .before .before .before .bring .ensures) (c .before .before .before .before .before .before .before .before .before .before .before .write-node .ensures) (c .before .before .before .before .before .before .before .bring2 .ensures) (search needs) _ (c .before .before .before .shift .ensures)
+    put-in-made _ _ _ _ _ (p .1) _ _ _ refl refl _ _ (c .before .before .before .before .before .before .before .before .before .before .before .before .before .before .before .before .before .before .before .read .ensures .2) (p .0 .few) _ _ (c .before .before .before .before .before .before .before .before .before .before .before .before .before .before .before .before .before .before .before .before .before .before .later .ensures) (omega (arith, c .before .before .before .before .before .before .before .before .before .before .before .before .before .before .before .before .before .if1 .left)) _ _ _ _ (c .before .before .before .before .before .before .before .before .before .before .before .before .before .before .bring .ensures) (c .before .before .before .before .before .before .before .before .before .before .before .write-node .ensures) (c .before .before .before .before .before .before .before .bring2 .ensures) (search needs) _ (c .before .before .before .shift .ensures)
 
 pub put-in-spec : {M : Type 1} → statement M
 put-in-spec =
