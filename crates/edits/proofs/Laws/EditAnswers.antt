@@ -1,8 +1,8 @@
 -- Which number a put or a cancel gives, question by question, and what an image tells of its header.
 use mathlib.Core.Path.{_≡_, sym, ap, _∙_}
-use mathlib.Core.Bool.{Bool, true, false, _&&_, and-false}
-use mathlib.Core.List.{List, []}
-use Prim.Native.Nat.{ℕ, _+_, _≤_, _<_}
+use mathlib.Core.Bool.{Bool, true, false, _&&_, and-false, true≢false}
+use mathlib.Core.List.{List, [], _∷_, _++_}
+use Prim.Native.Nat.{ℕ, suc, _+_, _≤_, _<_}
 use native.Mathlib.Omega.{arith}
 use borrow.Author.Tests.{ne-eqb, le-leb, lt-leb}
 use borrow.Author.Needs.{fits-under}
@@ -16,11 +16,14 @@ use Rattle.sizes.specs.Hash.{level}
 use Rattle.sizes.specs.Header.{header, sizes-in, held-in}
 use Rattle.placement.specs.Place.{Shaped}
 use Rattle.sizes.specs.declared.Sizes.{Sizes}
+use Rattle.placement.specs.declared.Order.{Order}
 use Rattle.sizes.proofs.Laws.Sizes.{Limits, limits}
 use Rattle.sizes.proofs.Laws.Numbers.{field-big}
 use Rattle.skiplist.specs.Image.{image, is-image, orders-in, quantities-good}
-use Rattle.skiplist.specs.Questions.{first-no, asks-image, asks-put, is-key}
+use Rattle.skiplist.specs.Questions.{first-no, asks-image, asks-put, is-key, held}
 use Rattle.skiplist.specs.Book.{Call, put, asks, changed, refusal, done}
+use Rattle.skiplist.proofs.Laws.Parts.{Up, below}
+use Rattle.skiplist.proofs.Laws.Shapes.{Place, there, absent, place, held-there, held-absent}
 use Rattle.skiplist.proofs.Laws.Kept.{fits-parts, Kept}
 use Rattle.table.specs.declared.Tally.{Tally}
 use Rattle.table.specs.Check.{swept, Examined}
@@ -131,3 +134,34 @@ known-kept bs s w = record { good = w .good; fit = w .fit }
 
 pub sized : (bs : List ℕ) (s : Sizes) (l k : ℕ) → s ≡ sizes-in bs → l ≡ level s k → Sized bs s l k
 sized bs s l k q e = record { sizes-are = q; level-is = e }
+
+-- ---- where a key stands among orders, or would
+
+pub record Held-at (k : ℕ) (os : List Order) : Type 0 where
+  pub before : List Order
+  pub own : Order
+  pub behind : List Order
+  pub is : os ≡ before ++ own ∷ behind
+  pub key : own .key ≡ k
+
+pub record Free-at (k : ℕ) (os : List Order) : Type 0 where
+  pub before : List Order
+  pub behind : List Order
+  pub is : os ≡ before ++ behind
+  pub low : below k before ≡ true
+  pub high : Up (suc k) behind
+
+module _ (k : ℕ) (os : List Order) (u : Up 1 os) where
+  pub held-at : held k os ≡ true → Held-at k os
+  held-at h = go (place k 1 os u)
+    where
+      go : Place k os → Held-at k os
+      go (there xs y zs q e) = record { before = xs; own = y; behind = zs; is = q; key = e }
+      go (absent xs zs q f v) = absurd (true≢false (sym h ∙ ap (held k) q ∙ held-absent k xs zs f v))
+
+  pub free-at : held k os ≡ false → Free-at k os
+  free-at h = go (place k 1 os u)
+    where
+      go : Place k os → Free-at k os
+      go (there xs y zs q e) = absurd (true≢false (sym (held-there xs y zs) ∙ ap (λ (n : ℕ). held n (xs ++ y ∷ zs)) e ∙ sym (ap (held k) q) ∙ h))
+      go (absent xs zs q f v) = record { before = xs; behind = zs; is = q; low = f; high = v }
