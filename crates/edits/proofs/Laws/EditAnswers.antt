@@ -25,24 +25,14 @@ use Rattle.skiplist.specs.Book.{Call, put, asks, changed, refusal, done}
 use Rattle.skiplist.proofs.Laws.Parts.{Up, below}
 use Rattle.skiplist.proofs.Laws.Shapes.{Place, there, absent, place, held-there, held-absent}
 use Rattle.skiplist.proofs.Laws.Kept.{fits-parts, Kept}
-use Rattle.table.specs.declared.Tally.{Tally}
-use Rattle.table.specs.Check.{swept, Examined}
 use Rattle.table.specs.Calls.{Edit-says, Put-says}
 use Rattle.readings.specs.Visit.{Known}
 use Rattle.readings.proofs.Laws.Answers.{known-image, known-at, known-long}
 use Rattle.edits.specs.Change.{Put-sure, Sized}
 
--- ---- question 4, as `examine` tells
-
-module _ (bs : List ℕ) (r : Tally) (x : Examined bs r) where
-  pub examined-yes : r .clean ≡ true → is-image bs ≡ true
-  examined-yes e = sym (x .image) ∙ e
-
-  pub examined-no : r .clean ≡ false → is-image bs ≡ false
-  examined-no e = sym (x .image) ∙ e
-
-  pub examined-full : r .clean ≡ true → r .full ≡ swept (sizes-in bs) bs .full
-  examined-full e = x .count e
+-- what a function answers, as its caller knows it
+pub told : (b v t : Bool) → b ≡ v → b ≡ t → v ≡ t
+told b v t e h = sym e ∙ h
 
 -- ---- an image's header
 
@@ -94,13 +84,6 @@ refused c n bs e h = (sym e, rw (e, ne-eqb n 0 h))
 pub accepted : (c : Call) (bs bs′ : List ℕ) → refusal c bs ≡ 0 → bs′ ≡ image (sizes-in bs) (changed c (orders-in bs)) → Edit-says c 0 bs bs′
 unfolding Edit-says done
 accepted c bs bs′ e h = (sym e, rw e h)
-
--- keys, as `is_key` tells
-pub key-yes : (b : Bool) (k : ℕ) → b ≡ is-key k → b ≡ true → is-key k ≡ true
-key-yes b k e z = sym e ∙ z
-
-pub key-no : (b : Bool) (k : ℕ) → b ≡ is-key k → b ≡ false → is-key k ≡ false
-key-no b k e z = sym e ∙ z
 
 -- ---- a put
 

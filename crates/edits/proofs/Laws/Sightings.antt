@@ -36,10 +36,3 @@ module _ (k : ℕ) (os : List Order) (q : Sought) (e : q ≡ first-enough 0 (bet
 
   pub unseen-is : q ≡ Nothing → false ≡ held k os
   unseen-is z = sym (unseen-held z)
-
--- as a function's answer tells it
-pub told-held : (k : ℕ) (os : List Order) (b : Bool) → b ≡ held k os → b ≡ true → held k os ≡ true
-told-held k os b e h = sym e ∙ h
-
-pub told-free : (k : ℕ) (os : List Order) (b : Bool) → b ≡ held k os → b ≡ false → held k os ≡ false
-told-free k os b e h = sym e ∙ h
