@@ -19,15 +19,12 @@ use Rattle.levels.specs.declared.Spot.{Spot}
 use Rattle.levels.specs.Edit.{Pieces, Scans, Cancels-in, Cancels-below}
 use Rattle.edits.specs.Change.{Setting, Between, Cancel-turn}
 use Rattle.table.proofs.Laws.MaskedKeys.{head-most, tail-most, up-masked}
-use Rattle.edits.proofs.Laws.WayLevels.{pred-suc, as-pieces}
+use Rattle.edits.proofs.Laws.WayLevels.{pred-suc}
 use Rattle.edits.proofs.Laws.Changed.{one-changed, two-changed}
 use Rattle.levels.proofs.Laws.Levels.{fine-masked}
+use Rattle.levels.proofs.Laws.Chunking.{pieces-none}
 use Rattle.edits.proofs.Laws.Settings.{all-up, less-up, behind-up, key-pos, order-fine, some-nodes, few-orders, first-low, less-none, part-beside}
-use Rattle.edits.proofs.Laws.WaySpots.{length-more, Spotted, scanned, room, next-first}
-
-pieces-none : (b : ℕ) → pieces b 0 ≡ 0
-unfolding pieces
-pieces-none b = refl
+use Rattle.edits.proofs.Laws.WaySpots.{length-more, there, seen, room, next-first}
 
 module _ (s : Sizes) (xs : List Order) (o : Order) (zs : List Order) (w : Setting s xs o zs) (j : ℕ) (low : suc j ≤ beta s) where
   few : length (head-part s (suc j) xs) + suc (length (tail-part s (suc j) zs)) ≤ 65536
@@ -38,15 +35,8 @@ module _ (s : Sizes) (xs : List Order) (o : Order) (zs : List Order) (w : Settin
 
   module _ (bs : List ℕ) (b : Between s (xs ++ o ∷ zs) (xs ++ zs) (suc j) bs) where
     -- a partition with its nodes
-    there : (f : ℕ) (ns : List Order) → part s (xs ++ o ∷ zs) (suc j) f ≡ ns → Pieces (b .map) (s .nodes) (suc j) f 0 (map (masked (suc j)) ns)
-    there f ns e =
-        as-pieces s (xs ++ o ∷ zs) (some-nodes s xs o zs w) (all-up s xs o zs w) (suc j) (omega arith) low (b .map) f ns e (λ i. b .upto (suc j) f i (omega arith))
-
-    seen : (x : Spot) (qs : List Order) → part s (xs ++ o ∷ zs) (suc j) (first-key (head-part s (suc j) xs)) ≡ head-part s (suc j) xs ++ qs → Up (o .key) qs →
-        Scans s bs (suc j) (first-key (head-part s (suc j) xs)) (o .key) x → Spotted x (head-part s (suc j) xs) qs
-    seen x qs e u sc =
-        scanned s xs o zs w (suc j) (omega arith) (b .map) (b .full) (header s (length (xs ++ o ∷ zs))) bs (first-key (head-part s (suc j) xs)) x qs (b .table) sc
-        (rw map-append at (there (first-key (head-part s (suc j) xs)) (head-part s (suc j) xs ++ qs) e)) u
+    nodes : (f : ℕ) (ns : List Order) → part s (xs ++ o ∷ zs) (suc j) f ≡ ns → Pieces (b .map) (s .nodes) (suc j) f 0 (map (masked (suc j)) ns)
+    nodes = there s xs o zs w j low (xs ++ o ∷ zs) (xs ++ zs) (all-up s xs o zs w) bs b
 
     module _ (x : Spot) (sc : Scans s bs (suc j) (first-key (head-part s (suc j) xs)) (o .key) x) where
       -- at the key's level
@@ -57,11 +47,11 @@ module _ (s : Sizes) (xs : List Order) (o : Order) (zs : List Order) (w : Settin
           let ps = head-part s (suc j) xs in
           let qs = tail-part s (suc j) zs in
           let e = part-in s (suc j) xs o zs (all-up s xs o zs w) h in
-          let v = seen x (o ∷ qs) e (omega arith, behind) sc in
+          let v = seen s xs o zs w j low (xs ++ o ∷ zs) (xs ++ zs) (all-up s xs o zs w) bs b x (o ∷ qs) e (omega arith, behind) sc in
           let c = p (b .map) (b .full) (header s (length (xs ++ o ∷ zs))) (map (masked (suc j)) ps) (masked (suc j) o) (map (masked (suc j)) qs) (b .table)
-          (room s xs o zs w (suc j) (omega arith) (first-key ps) x ps (o ∷ qs) (masked (suc j) o) (first-low s xs o zs w (suc j)) (fine-masked (suc j) o (order-fine s xs o zs w)) few v)
-          (rw map-append at (there (first-key ps) (ps ++ o ∷ qs) e)) (rw (length-map ps (masked (suc j))) (head-part-long s (suc j) xs)) in (
-            next-first s xs o zs w j x (o ∷ qs) v,
+          (room s xs o zs w j low x (o ∷ qs) v (masked (suc j) o) (fine-masked (suc j) o (order-fine s xs o zs w)) few)
+          (rw map-append at (nodes (first-key ps) (ps ++ o ∷ qs) e)) (rw (length-map ps (masked (suc j))) (head-part-long s (suc j) xs)) in (
+            next-first s xs o zs w j low x (o ∷ qs) v,
             one-changed s (xs ++ o ∷ zs) (xs ++ zs) (some-nodes s xs o zs w) (all-up s xs o zs w) (less-up s xs o zs w) j low bs b bs′ (first-key ps) (ps ++ o ∷ qs) (ps ++ qs)
                 (rw (map-append (masked (suc j)) ps qs, map-append (masked (suc j)) ps (o ∷ qs)) c)
                 (part-at s (suc j) xs zs (less-up s xs o zs w)) (λ g n. part-beside s xs o zs w (suc j) g h n)
@@ -75,7 +65,7 @@ module _ (s : Sizes) (xs : List Order) (o : Order) (zs : List Order) (w : Settin
           let qs = tail-part s (suc j) zs in
           ap (λ (z : Spot). z .size)
           (own (b .map) (b .full) (header s (length (xs ++ o ∷ zs))) [] (map (masked (suc j)) (o ∷ qs)) (b .table) (omega arith)
-          (there (o .key) (o ∷ qs) (part-right s (suc j) xs o zs (all-up s xs o zs w) h)) refl (up-masked (suc j) (o .key) (o ∷ qs) (omega arith, behind)))
+          (nodes (o .key) (o ∷ qs) (part-right s (suc j) xs o zs (all-up s xs o zs w) h)) refl (up-masked (suc j) (o .key) (o ∷ qs) (omega arith, behind)))
           ∙ length-map (o ∷ qs) (masked (suc j))
 
       pub cancel-under : (y : Spot) (bs′ : List ℕ) → suc j < level s (o .key) → Scans s bs (suc j) (o .key) (o .key) y →
@@ -86,14 +76,14 @@ module _ (s : Sizes) (xs : List Order) (o : Order) (zs : List Order) (w : Settin
           let ps = head-part s (suc j) xs in
           let qs = tail-part s (suc j) zs in
           let e = part-left s (suc j) xs o zs (all-up s xs o zs w) h in
-          let v = seen x [] (e ∙ sym (append-nil ps)) tt sc in
+          let v = seen s xs o zs w j low (xs ++ o ∷ zs) (xs ++ zs) (all-up s xs o zs w) bs b x [] (e ∙ sym (append-nil ps)) tt sc in
           let n : length (map (masked (suc j)) ps ++ masked (suc j) o ∷ map (masked (suc j)) qs) ≤ 65536 = rw (length-more (suc j) ps o qs) (omega (arith, few)) in
           let c = p (b .map) (b .full) (header s (length (xs ++ o ∷ zs))) (map (masked (suc j)) ps) (masked (suc j) o) (map (masked (suc j)) qs) (b .table) (omega arith)
           (omega (arith, first-low s xs o zs w (suc j), order-fine s xs o zs w .key)) (λ z. omega (arith, first-low s xs o zs w (suc j))) n
           (v .below ∙ sym (length-map ps (masked (suc j)))) (own-size y h own ∙ ap suc (sym (length-map qs (masked (suc j)))))
-          (rw (length-map ps (masked (suc j))) (head-part-long s (suc j) xs)) (there (first-key ps) ps e)
-          (there (o .key) (o ∷ qs) (part-right s (suc j) xs o zs (all-up s xs o zs w) h)) in (
-            next-first s xs o zs w j x [] v,
+          (rw (length-map ps (masked (suc j))) (head-part-long s (suc j) xs)) (nodes (first-key ps) ps e)
+          (nodes (o .key) (o ∷ qs) (part-right s (suc j) xs o zs (all-up s xs o zs w) h)) in (
+            next-first s xs o zs w j low x [] v,
             two-changed s (xs ++ o ∷ zs) (xs ++ zs) (some-nodes s xs o zs w) (all-up s xs o zs w) (less-up s xs o zs w) j low bs b bs′ (first-key ps) (o .key)
                 (pieces (s .nodes) (length (map (masked (suc j)) ps)) + pieces (s .nodes) (suc (length (map (masked (suc j)) qs)))) (ps ++ qs) []
                 (rw (map-append (masked (suc j)) ps qs) c)

@@ -1,29 +1,25 @@
 -- Where the node of a held key stands at level 1: at the head of a partition of its own, or behind the nodes below it.
 use mathlib.Core.Path.{_≡_, refl, sym, ap, _∙_, subst}
 use mathlib.Core.Bool.{Bool, true, false}
-use mathlib.Core.List.{List, [], _∷_, _++_, map-append}
-use Prim.Native.Nat.{ℕ, suc, _≤_, _<_}
+use mathlib.Core.List.{List, [], _∷_, _++_}
+use Prim.Native.Nat.{ℕ, _≤_, _<_}
 use native.Mathlib.Omega.{arith}
 use borrow.Author.Tests.{eqb-true, eqb-false}
 use lib.Dec.{eqb}
-use lib.ListN.{length, length-append}
+use lib.ListN.{length-append}
+use Rattle.sizes.specs.Sizes.{beta}
 use Rattle.sizes.specs.Hash.{level}
-use Rattle.sizes.specs.Header.{header}
-use Rattle.placement.specs.Maps.{map-of}
 use Rattle.sizes.specs.declared.Sizes.{Sizes}
 use Rattle.placement.specs.declared.Order.{Order}
-use Rattle.skiplist.specs.Lists.{first-key, chunks}
+use Rattle.skiplist.specs.Lists.{first-key}
 use Rattle.skiplist.proofs.Laws.Parts.{part}
-use Rattle.skiplist.proofs.Laws.Descent.{tail-above}
-use Rattle.skiplist.proofs.Laws.Image.{image-keeps}
 use Rattle.skiplist.proofs.Laws.Edits.{beta-least, level-least, head-part, tail-part, part-in, part-left, part-right, part-other}
 use Rattle.levels.specs.declared.Spot.{Spot}
-use Rattle.levels.specs.Edit.{Reaches, Replaces, Leads}
+use Rattle.levels.specs.Edit.{Reaches, Replaces, Way, Leads}
+use Rattle.levels.proofs.Laws.Growing.{seen}
 use Rattle.edits.specs.Change.{Put-held}
 use Rattle.table.proofs.Laws.MaskedKeys.{head-most, tail-most}
-use Rattle.edits.proofs.Laws.WayLevels.{as-pieces}
-use Rattle.edits.proofs.Laws.Settings.{all-up, behind-up, some-nodes, held-way, few-orders, part-beside}
-use Rattle.edits.proofs.Laws.WaySpots.{come-to}
+use Rattle.edits.proofs.Laws.Settings.{all-up, held-way, few-orders, part-beside}
 use Rattle.edits.proofs.Laws.Swaps.{swapped}
 
 module _ (s : Sizes) (l : ℕ) (o : Order) (bs bs′ : List ℕ) where
@@ -49,7 +45,7 @@ module _ (s : Sizes) (l : ℕ) (o : Order) (bs bs′ : List ℕ) where
   pub put-held-low : (f : ℕ) (x : Spot) → l ≤ 1 → Leads s bs 1 (o .key) f → Reaches s bs 1 f (o .key) x → Replaces s f (x .below) o bs bs′ → Put-held s l o bs bs′
   unfolding Put-held Leads
   put-held-low f x h b sc r xs y zs w v e le i =
-      swapped s xs y o zs e w v (first-key (head-part s 1 xs)) (x .below) (head-part s 1 xs) (tail-part s 1 zs) bs bs′ (rw fe at r) i seen
+      swapped s xs y o zs e w v (first-key (head-part s 1 xs)) (x .below) (head-part s 1 xs) (tail-part s 1 zs) bs bs′ (rw fe at r) i (seen s bs (o .key) xs (y ∷ zs) way 1 (omega arith) top f fe x sc .0)
       (simp length-append (omega (arith, head-most s 1 xs, tail-most s 1 zs, few-orders s xs o zs v))) in-y (part-in s 1 xs o zs (all-up s xs o zs v) at-o)
       (λ g n. part-beside s xs y zs w 1 g at-y n ∙ sym (part-beside s xs o zs v 1 g at-o n))
     where
@@ -62,17 +58,11 @@ module _ (s : Sizes) (l : ℕ) (o : Order) (bs bs′ : List ℕ) where
       in-y : part s (xs ++ y ∷ zs) 1 (first-key (head-part s 1 xs)) ≡ head-part s 1 xs ++ y ∷ tail-part s 1 zs
       in-y = part-in s 1 xs y zs (all-up s xs y zs w) at-y
 
-      from : o .key ≤ y .key
-      from = omega (arith, e)
+      way : Way s bs (o .key) xs (y ∷ zs)
+      way = held-way s xs y zs w bs (o .key) i e
+
+      top : 1 ≤ beta s
+      top = omega (arith, beta-least s)
 
       fe : f ≡ first-key (head-part s 1 xs)
-      fe = b xs (y ∷ zs) (held-way s xs y zs w bs (o .key) i e) (omega (arith, beta-least s))
-
-      seen : x .below ≡ length (head-part s 1 xs)
-      seen =
-          come-to s xs o zs v 1 (omega arith) (map-of (chunks s (xs ++ y ∷ zs))) (length (chunks s (xs ++ y ∷ zs))) (header s (length (xs ++ y ∷ zs))) bs
-          (first-key (head-part s 1 xs)) x (y ∷ tail-part s 1 zs) (rw i (image-keeps s (xs ++ y ∷ zs) (w .sizes) (w .good) (w .fit))) (rw fe at sc)
-          (rw map-append at
-          (as-pieces s (xs ++ y ∷ zs) (some-nodes s xs y zs w) (all-up s xs y zs w) 1 (omega arith) (omega (arith, beta-least s)) (map-of (chunks s (xs ++ y ∷ zs)))
-          (first-key (head-part s 1 xs)) (head-part s 1 xs ++ y ∷ tail-part s 1 zs) in-y (λ j. refl)))
-          (from, tail-above s 1 (suc (y .key)) zs (behind-up s xs y zs w)) .0
+      fe = b xs (y ∷ zs) way top

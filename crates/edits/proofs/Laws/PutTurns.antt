@@ -11,100 +11,80 @@ use Rattle.sizes.specs.Header.{header}
 use Rattle.sizes.specs.declared.Sizes.{Sizes}
 use Rattle.placement.specs.declared.Order.{Order}
 use Rattle.skiplist.specs.Lists.{masked, first-key}
-use Rattle.skiplist.proofs.Laws.Parts.{up-from}
+use Rattle.skiplist.proofs.Laws.Parts.{up-from, part}
 use Rattle.skiplist.proofs.Laws.Descent.{tail-above}
-use Rattle.skiplist.proofs.Laws.Count.{pieces, count-same, count-high, counts-more}
+use Rattle.skiplist.proofs.Laws.Count.{count, count-same, count-high, counts-more}
 use Rattle.skiplist.proofs.Laws.Edits.{level-most, head-part, tail-part, head-part-long, part-at, part-in, part-left, part-right, part-other}
 use Rattle.levels.specs.declared.Spot.{Spot}
 use Rattle.levels.specs.Edit.{Pieces, Scans, Puts-in, Puts-below}
 use Rattle.edits.specs.Change.{Setting, Between, Put-turn}
 use Rattle.table.proofs.Laws.MaskedKeys.{head-most, tail-most}
-use Rattle.edits.proofs.Laws.WayLevels.{pred-suc, as-pieces, counts-one}
+use Rattle.edits.proofs.Laws.WayLevels.{pred-suc, counts-one}
 use Rattle.edits.proofs.Laws.Changed.{one-changed, two-changed}
 use Rattle.edits.proofs.Laws.Settings.{all-up, less-up, behind-up, key-pos, order-fine, some-nodes, few-orders, room-all, first-low, less-none, part-beside}
-use Rattle.edits.proofs.Laws.WaySpots.{length-both, Spotted, scanned, room, next-first}
+use Rattle.edits.proofs.Laws.WaySpots.{length-both, Spotted, there, seen, room, next-first}
 
 module _ (s : Sizes) (xs : List Order) (o : Order) (zs : List Order) (w : Setting s xs o zs) (j : ℕ) (low : suc j ≤ beta s) where
   few : length (head-part s (suc j) xs) + length (tail-part s (suc j) zs) ≤ 65536
   few = omega (arith, head-most s (suc j) xs, tail-most s (suc j) zs, few-orders s xs o zs w)
 
   module _ (bs : List ℕ) (b : Between s (xs ++ zs) (xs ++ o ∷ zs) (suc j) bs) where
-    -- the partition that the key comes to
-    there : Pieces (b .map) (s .nodes) (suc j) (first-key (head-part s (suc j) xs)) 0 (map (masked (suc j)) (head-part s (suc j) xs) ++ map (masked (suc j)) (tail-part s (suc j) zs))
-    there =
-        rw map-append at
-        (as-pieces s (xs ++ zs) (some-nodes s xs o zs w) (less-up s xs o zs w) (suc j) (omega arith) low (b .map) (first-key (head-part s (suc j) xs)) (head-part s (suc j) xs ++ tail-part s (suc j) zs)
-        (part-at s (suc j) xs zs (less-up s xs o zs w)) (λ i. b .upto (suc j) (first-key (head-part s (suc j) xs)) i (omega arith)))
+    -- a partition with its nodes
+    nodes : (f : ℕ) (ns : List Order) → part s (xs ++ zs) (suc j) f ≡ ns → Pieces (b .map) (s .nodes) (suc j) f 0 (map (masked (suc j)) ns)
+    nodes = there s xs o zs w j low (xs ++ zs) (xs ++ o ∷ zs) (less-up s xs o zs w) bs b
 
-    seen : (x : Spot) → Scans s bs (suc j) (first-key (head-part s (suc j) xs)) (o .key) x → Spotted x (head-part s (suc j) xs) (tail-part s (suc j) zs)
-    seen x sc =
-        scanned s xs o zs w (suc j) (omega arith) (b .map) (b .full) _ bs (first-key (head-part s (suc j) xs)) x (tail-part s (suc j) zs) (b .table) sc there
-        (tail-above s (suc j) (o .key) zs (up-from zs (omega arith) (behind-up s xs o zs w)))
+    -- there are blocks for what the level has more
+    spare : b .full + count s (suc j) (xs ++ o ∷ zs) ≤ s .blocks + count s (suc j) (xs ++ zs)
+    spare =
+        omega (
+          arith,
+          b .count,
+          counts-one j s (xs ++ zs),
+          counts-one j s (xs ++ o ∷ zs),
+          counts-more j 1 s xs o zs (key-pos s xs o zs w) (some-nodes s xs o zs w),
+          room-all s xs o zs w,
+        )
 
     module _ (x : Spot) (sc : Scans s bs (suc j) (first-key (head-part s (suc j) xs)) (o .key) x) where
-      -- at the key's level
-      room-in : level s (o .key) ≡ suc j →
-          b .full + pieces (s .nodes) (suc (length (map (masked (suc j)) (head-part s (suc j) xs) ++ map (masked (suc j)) (tail-part s (suc j) zs))))
-          ≤ s .blocks + pieces (s .nodes) (length (map (masked (suc j)) (head-part s (suc j) xs) ++ map (masked (suc j)) (tail-part s (suc j) zs)))
-      room-in h =
-          rw (length-both (suc j) (head-part s (suc j) xs) (tail-part s (suc j) zs))
-          (omega (
-            arith,
-            b .count,
-            counts-one j s (xs ++ zs),
-            counts-one j s (xs ++ o ∷ zs),
-            count-same s (suc j) xs o zs (key-pos s xs o zs w) h,
-            counts-more j 1 s xs o zs (key-pos s xs o zs w) (some-nodes s xs o zs w),
-            room-all s xs o zs w,
-          ))
+      spot : Spotted x (head-part s (suc j) xs) (tail-part s (suc j) zs)
+      spot =
+          seen s xs o zs w j low (xs ++ zs) (xs ++ o ∷ zs) (less-up s xs o zs w) bs b x (tail-part s (suc j) zs) (part-at s (suc j) xs zs (less-up s xs o zs w))
+          (tail-above s (suc j) (o .key) zs (up-from zs (omega arith) (behind-up s xs o zs w))) sc
 
+      -- at the key's level
       pub put-inside : (bs′ : List ℕ) → level s (o .key) ≡ suc j → Puts-in s (suc j) (first-key (head-part s (suc j) xs)) x o bs bs′ →
           (x .last ≡ first-key (head-part s j xs)) × Between s (xs ++ zs) (xs ++ o ∷ zs) j bs′
       unfolding Puts-in
       put-inside bs′ h p =
           let ps = head-part s (suc j) xs in
           let qs = tail-part s (suc j) zs in
+          let same = count-same s (suc j) xs o zs (key-pos s xs o zs w) h in
           let c = p (b .map) (b .full) (header s (length (xs ++ zs))) (map (masked (suc j)) ps) (map (masked (suc j)) qs) (b .table)
-          (room s xs o zs w (suc j) (omega arith) (first-key ps) x ps qs o (first-low s xs o zs w (suc j)) (order-fine s xs o zs w) few (seen x sc)) there (room-in h) in (
-            next-first s xs o zs w j x qs (seen x sc),
+          (room s xs o zs w j low x qs spot o (order-fine s xs o zs w) few) (rw map-append at (nodes (first-key ps) (ps ++ qs) (part-at s (suc j) xs zs (less-up s xs o zs w))))
+          (rw (length-both (suc j) ps qs) (omega (arith, spare))) in (
+            next-first s xs o zs w j low x qs spot,
             one-changed s (xs ++ zs) (xs ++ o ∷ zs) (some-nodes s xs o zs w) (less-up s xs o zs w) (all-up s xs o zs w) j low bs b bs′ (first-key ps) (ps ++ qs) (ps ++ o ∷ qs)
                 (rw (map-append (masked (suc j)) ps qs, map-append (masked (suc j)) ps (o ∷ qs)) c)
                 (part-in s (suc j) xs o zs (all-up s xs o zs w) h) (λ g n. sym (part-beside s xs o zs w (suc j) g h n))
-                (rw (length-append ps qs, length-append ps (o ∷ qs), add-suc (length ps) (length qs)) (count-same s (suc j) xs o zs (key-pos s xs o zs w) h)),
+                (rw (length-append ps qs, length-append ps (o ∷ qs), add-suc (length ps) (length qs)) same),
           )
 
       -- below it
-      room-below : suc j < level s (o .key) →
-          b .full + pieces (s .nodes) (length (map (masked (suc j)) (head-part s (suc j) xs))) + pieces (s .nodes) (suc (length (map (masked (suc j)) (tail-part s (suc j) zs))))
-          ≤ s .blocks + pieces (s .nodes) (length (map (masked (suc j)) (head-part s (suc j) xs) ++ map (masked (suc j)) (tail-part s (suc j) zs)))
-      room-below h =
-          rw (length-both (suc j) (head-part s (suc j) xs) (tail-part s (suc j) zs), length-map (head-part s (suc j) xs) (masked (suc j)), length-map (tail-part s (suc j) zs) (masked (suc j)))
-          (omega (
-            arith,
-            b .count,
-            counts-one j s (xs ++ zs),
-            counts-one j s (xs ++ o ∷ zs),
-            count-high s (suc j) xs o zs (key-pos s xs o zs w) h,
-            counts-more j 1 s xs o zs (key-pos s xs o zs w) (some-nodes s xs o zs w),
-            room-all s xs o zs w,
-          ))
-
       pub put-under : (bs′ : List ℕ) → suc j < level s (o .key) → Puts-below s (suc j) (first-key (head-part s (suc j) xs)) x o bs bs′ →
           (x .last ≡ first-key (head-part s j xs)) × Between s (xs ++ zs) (xs ++ o ∷ zs) j bs′
       unfolding Puts-below
       put-under bs′ h p =
           let ps = head-part s (suc j) xs in
           let qs = tail-part s (suc j) zs in
+          let more = count-high s (suc j) xs o zs (key-pos s xs o zs w) h in
           let c = p (b .map) (b .full) (header s (length (xs ++ zs))) (map (masked (suc j)) ps) (map (masked (suc j)) qs) (b .table)
-          (room s xs o zs w (suc j) (omega arith) (first-key ps) x ps qs o (first-low s xs o zs w (suc j)) (order-fine s xs o zs w) few (seen x sc)) there
-          (λ z. omega (arith, first-low s xs o zs w (suc j)))
-          (as-pieces s (xs ++ zs) (some-nodes s xs o zs w) (less-up s xs o zs w) (suc j) (omega arith) low (b .map) (o .key) [] (less-none s xs o zs w (suc j)) (λ i. b .upto (suc j) (o .key) i (omega arith)))
-          (rw (length-map ps (masked (suc j))) (head-part-long s (suc j) xs)) (room-below h) in (
-            next-first s xs o zs w j x qs (seen x sc),
+          (room s xs o zs w j low x qs spot o (order-fine s xs o zs w) few) (rw map-append at (nodes (first-key ps) (ps ++ qs) (part-at s (suc j) xs zs (less-up s xs o zs w))))
+          (λ z. omega (arith, first-low s xs o zs w (suc j))) (nodes (o .key) [] (less-none s xs o zs w (suc j))) (rw (length-map ps (masked (suc j))) (head-part-long s (suc j) xs))
+          (rw (length-both (suc j) ps qs, length-map ps (masked (suc j)), length-map qs (masked (suc j))) (omega (arith, spare))) in (
+            next-first s xs o zs w j low x qs spot,
             two-changed s (xs ++ zs) (xs ++ o ∷ zs) (some-nodes s xs o zs w) (less-up s xs o zs w) (all-up s xs o zs w) j low bs b bs′ (first-key ps) (o .key) _ ps (o ∷ qs) c
                 (part-left s (suc j) xs o zs (all-up s xs o zs w) h) (part-right s (suc j) xs o zs (all-up s xs o zs w) h)
-                (λ g n m. sym (part-other s (suc j) xs o zs (all-up s xs o zs w) g n m))
-                (rw (length-both (suc j) ps qs) (count-high s (suc j) xs o zs (key-pos s xs o zs w) h)),
+                (λ g n m. sym (part-other s (suc j) xs o zs (all-up s xs o zs w) g n m)) (rw (length-both (suc j) ps qs) more),
           )
 
 -- THE TURN, as `put_level` has it

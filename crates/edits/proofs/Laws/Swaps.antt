@@ -63,35 +63,25 @@ module _ (s : Sizes) (xs : List Order) (y o : Order) (zs : List Order) (e : y .k
   unfolding with-part
   part-swap l g h u v =
       ap (map (masked l)) (part-with s l xs y zs u g)
-      ∙ go (ltb l (level s (y .key))) (ltb l (level s (o .key))) (ap (λ (z : ℕ). ltb l (level s z)) e)
-      (eqb l (level s (y .key))) (eqb l (level s (o .key))) (ap (λ (z : ℕ). eqb l (level s z)) e)
-      (eqb (y .key) g) (eqb (o .key) g) (ap (λ (z : ℕ). eqb z g) e) (eqb (first-key (head-part s l xs)) g)
+      ∙ rw (ap (λ (z : ℕ). ltb l (level s z)) e, ap (λ (z : ℕ). eqb l (level s z)) e, ap (λ (z : ℕ). eqb z g) e)
+      (at (ltb l (level s (o .key))) (eqb l (level s (o .key))) (eqb (o .key) g) (eqb (first-key (head-part s l xs)) g))
       ∙ sym (ap (map (masked l)) (part-with s l xs o zs v g))
     where
-      go : (a a′ : Bool) → a ≡ a′ → (b b′ : Bool) → b ≡ b′ → (c c′ : Bool) → c ≡ c′ → (d : Bool) →
+      at : (a b c d : Bool) →
           map (masked l)
           (cond a (cond c (y ∷ tail-part s l zs) (cond d (head-part s l xs) (part s (xs ++ zs) l g)))
           (cond b (cond d (head-part s l xs ++ y ∷ tail-part s l zs) (part s (xs ++ zs) l g)) (part s (xs ++ zs) l g)))
           ≡ map (masked l)
-          (cond a′ (cond c′ (o ∷ tail-part s l zs) (cond d (head-part s l xs) (part s (xs ++ zs) l g)))
-          (cond b′ (cond d (head-part s l xs ++ o ∷ tail-part s l zs) (part s (xs ++ zs) l g)) (part s (xs ++ zs) l g)))
-      go a a′ p b b′ q c c′ r d = rw (p, q, r) (at a′ b′ c′ d)
-        where
-          at : (a b c d : Bool) →
-              map (masked l)
-              (cond a (cond c (y ∷ tail-part s l zs) (cond d (head-part s l xs) (part s (xs ++ zs) l g)))
-              (cond b (cond d (head-part s l xs ++ y ∷ tail-part s l zs) (part s (xs ++ zs) l g)) (part s (xs ++ zs) l g)))
-              ≡ map (masked l)
-              (cond a (cond c (o ∷ tail-part s l zs) (cond d (head-part s l xs) (part s (xs ++ zs) l g)))
-              (cond b (cond d (head-part s l xs ++ o ∷ tail-part s l zs) (part s (xs ++ zs) l g)) (part s (xs ++ zs) l g)))
-          at true b true d = ap (λ (z : Order). z ∷ map (masked l) (tail-part s l zs)) (masked-swap l h)
-          at true b false d = refl
-          at false true c true =
-              map-append (masked l) (head-part s l xs) (y ∷ tail-part s l zs)
-              ∙ ap (λ (z : Order). map (masked l) (head-part s l xs) ++ z ∷ map (masked l) (tail-part s l zs)) (masked-swap l h)
-              ∙ sym (map-append (masked l) (head-part s l xs) (o ∷ tail-part s l zs))
-          at false true c false = refl
-          at false false c d = refl
+          (cond a (cond c (o ∷ tail-part s l zs) (cond d (head-part s l xs) (part s (xs ++ zs) l g)))
+          (cond b (cond d (head-part s l xs ++ o ∷ tail-part s l zs) (part s (xs ++ zs) l g)) (part s (xs ++ zs) l g)))
+      at true b true d = ap (λ (z : Order). z ∷ map (masked l) (tail-part s l zs)) (masked-swap l h)
+      at true b false d = refl
+      at false true c true =
+          map-append (masked l) (head-part s l xs) (y ∷ tail-part s l zs)
+          ∙ ap (λ (z : Order). map (masked l) (head-part s l xs) ++ z ∷ map (masked l) (tail-part s l zs)) (masked-swap l h)
+          ∙ sym (map-append (masked l) (head-part s l xs) (o ∷ tail-part s l zs))
+      at false true c false = refl
+      at false false c d = refl
 
   module _ (w : Setting s xs y zs) (v : Setting s xs o zs) where
     -- nothing is to do above level 1
