@@ -3,12 +3,12 @@ use mathlib.Core.Path.{_≡_, refl, sym, ap, _∙_}
 use mathlib.Core.List.{List, [], _∷_, _++_, append-assoc}
 use Prim.Native.Nat.{ℕ, zero, suc, _+_, _*_, _-_, _/_, _≤_, _<_}
 use native.Mathlib.Decide.{decLt}
-use native.Mathlib.Nat.{suc-mul, add-mul, zero-add, suc-add, zero-mul, sub-zero, div-eq-of-lt, div-eq-sub-div, div-lt-iff-lt-mul, div-mul-le-self}
+use native.Mathlib.Nat.{le-div-iff-mul-le, suc-mul, add-mul, zero-add, zero-mul, sub-zero, div-eq-of-lt, div-eq-sub-div, div-lt-iff-lt-mul, div-mul-le-self}
 use native.Mathlib.Omega.{arith}
 use lib.ListN.{length, take, drop, length-drop, take-append-drop, drop-of-length-le}
 use lib.Seq.{drop-drop, take-nil}
 use Rattle.placement.specs.declared.Order.{Order}
-use Rattle.skiplist.proofs.Laws.Count.{pieces, pieces-less, pieces-up}
+use Rattle.skiplist.proofs.Laws.Count.{pieces, pieces-less}
 use Rattle.placement.specs.Maps.{Map}
 use Rattle.levels.specs.Edit.{Pieces}
 use Rattle.levels.specs.Pour.{one}
@@ -16,13 +16,6 @@ use Rattle.levels.specs.Pour.{one}
 pub pieces-none : (b : ℕ) → pieces b 0 ≡ 0
 unfolding pieces
 pieces-none b = refl
-
-pub pieces-mono : (b n d : ℕ) → 0 < b → pieces b n ≤ pieces b (d + n)
-pieces-mono b n zero h = rw zero-add (omega arith)
-pieces-mono b n (suc d) h = rw suc-add (omega (arith, pieces-mono b n d h, pieces-up b (d + n) h))
-
-pub pieces-up-to : (b n m : ℕ) → 0 < b → n ≤ m → pieces b n ≤ pieces b m
-pieces-up-to b n m h g = let e : (m - n) + n ≡ m = omega arith in rw e at (pieces-mono b n (m - n) h)
 
 -- a full chunk, or some nodes, more
 pub pieces-full : (b n : ℕ) → 0 < b → 0 < n → pieces b n ≡ suc (pieces b (n - b))
@@ -48,25 +41,22 @@ pieces-pass b (suc n) (suc i) h g =
     z ∙ ap suc (pieces-pass b (suc n - b) i h (omega arith)) ∙ rw f (omega arith)
 
 pub pieces-under : (b n i : ℕ) → 0 < b → i < pieces b n → i * b < n
-pieces-under b n i h g = go (decLt (i * b) n)
-  where
-    go : Dec (i * b < n) → i * b < n
-    go (yes l) = l
-    go (no l) =
-        let z : i * b - i * b ≡ 0 = omega arith in
-        absurd (omega (arith, pieces-up-to b n (i * b) h (omega arith), pieces-skip b (i * b) i h (omega arith), ap (pieces b) z, pieces-none b))
+unfolding pieces
+pieces-under b zero i h g = absurd (omega arith)
+pieces-under b (suc n) i h g = omega (arith, le-div-iff-mul-le {x = i} {y = n} h .0 (omega arith))
 
 pub pieces-over : (b n i : ℕ) → 0 < b → pieces b n ≤ i → n ≤ i * b
 unfolding pieces
 pieces-over b zero i h g = omega arith
 pieces-over b (suc n) i h g = omega (arith, div-lt-iff-lt-mul {x = n} {y = i} h .0 (omega arith))
 
--- room for one more chunk
-pub pieces-room : (b a r full blocks : ℕ) → 0 < b → b ≤ a → full + pieces b (a + r) ≤ blocks + pieces b r → full < blocks
-pieces-room b a r full blocks h g e = omega (arith, pieces-full b (a + r) h (omega arith), pieces-up-to b r (a + r - b) h (omega arith))
+pub pieces-most : (b n i : ℕ) → 0 < b → n ≤ i * b → pieces b n ≤ i
+unfolding pieces
+pieces-most b zero i h g = omega arith
+pieces-most b (suc n) i h g = omega (arith, div-lt-iff-lt-mul {x = n} {y = i} h .1 (omega arith))
 
-pub pieces-last : (b a full blocks : ℕ) → 0 < b → 0 < a → full + pieces b a ≤ blocks → full < blocks
-pieces-last b a full blocks h g e = omega (arith, pieces-full b a h g)
+pub pieces-up-to : (b n m : ℕ) → 0 < b → n ≤ m → pieces b n ≤ pieces b m
+pieces-up-to b n m h g = pieces-most b n (pieces b m) h (omega (arith, pieces-over b m (pieces b m) h (omega arith)))
 
 pub pieces-pos : (b n : ℕ) → 0 < b → 0 < n → 0 < pieces b n
 pieces-pos b n h g = omega (arith, pieces-full b n h g)
@@ -85,9 +75,6 @@ pieces-half b zero h = omega arith
 pieces-half b (suc n) h = omega (arith, number-half b n h)
 
 -- a quotient of a carry below two chunks
-pub quotient-none : (b n : ℕ) → n < b → n / b ≡ 0
-quotient-none b n h = div-eq-of-lt h
-
 pub quotient-one : (b n : ℕ) → 0 < b → b ≤ n → n < 2 * b → n / b ≡ 1
 quotient-one b n p h g = let z : (n - b) / b ≡ 0 = div-eq-of-lt (omega arith) in rw (div-eq-sub-div p h, z)
 
@@ -119,14 +106,6 @@ module _ {A : Type 0} where
 
   pub take-past : (b n : ℕ) (l : List A) → length l ≤ n → take b (drop n l) ≡ []
   take-past b n l h = rw (drop-past n l h) (take-nil b)
-
-pub one-taken : (b i : ℕ) (l : List Order) → 0 < b → i < length l → one (take b (drop i l)) ≡ 1
-unfolding one
-one-taken zero i l h g = absurd (omega arith)
-one-taken (suc b) zero [] h g = absurd (omega arith)
-one-taken (suc b) zero (x ∷ l) h g = refl
-one-taken (suc b) (suc i) [] h g = absurd (omega arith)
-one-taken (suc b) (suc i) (x ∷ l) h g = one-taken (suc b) i l h (omega arith)
 
 -- the first chunk, or none, and the others
 pub pieces-first : (b : ℕ) (l : List Order) → 0 < b → pieces b (length l) ≡ one (take b l) + pieces b (length (drop b l))

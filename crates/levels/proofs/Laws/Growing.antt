@@ -3,7 +3,7 @@ use mathlib.Core.Path.{_≡_, refl, sym, ap, _∙_, subst}
 use mathlib.Core.Bool.{Bool, true, false}
 use mathlib.Core.List.{List, _∷_, _++_, map, map-append}
 use Prim.Native.Nat.{ℕ, zero, suc, _+_, _*_, _-_, _/_, _≤_, _<_}
-use native.Mathlib.Nat.{div-le-self, div-lt-iff-lt-mul, div-mul-le-self, lt-div-mul-add, le-div-iff-mul-le}
+use native.Mathlib.Nat.{zero-add, div-le-self, div-mul-le-self, le-div-iff-mul-le}
 use native.Mathlib.Omega.{arith}
 use borrow.Author.Tests.{eqb-true, eqb-false}
 use lib.Dec.{eqb}
@@ -11,7 +11,7 @@ use lib.ListN.{length, take, drop, length-append, length-map}
 use Rattle.sizes.specs.Sizes.{beta}
 use Rattle.sizes.specs.Hash.{level}
 use Rattle.sizes.specs.Header.{header}
-use Rattle.placement.specs.Maps.{map-of, Table}
+use Rattle.placement.specs.Maps.{Map, map-of, Table}
 use Rattle.sizes.specs.declared.Sizes.{Sizes}
 use Rattle.placement.specs.declared.Order.{Order}
 use Rattle.sizes.proofs.Laws.Sizes.{some-nodes}
@@ -26,6 +26,7 @@ use Rattle.skiplist.proofs.Laws.Image.{image-keeps}
 use Rattle.levels.specs.declared.Spot.{Spot}
 use Rattle.levels.specs.Edit.{Pieces, Scans, Reaches, Way, Leads, Grows}
 use Rattle.levels.specs.Scan.{Grown}
+use Rattle.levels.proofs.Laws.Chunking.{pieces-full, pieces-up-to}
 use Rattle.levels.proofs.Laws.Scanning.{reached}
 
 -- THE CHUNKS of so many nodes
@@ -46,9 +47,7 @@ module _ (b n : ℕ) where
 
 -- WHAT A KEY ADDS at a level: at most 1 in its own, at most 2 below
 pub pieces-step : (b n : ℕ) → 0 < b → pieces b (suc n) ≤ pieces b n + 1
-unfolding pieces
-pieces-step b zero h = omega (arith, div-le-self 0 b)
-pieces-step b (suc n) h = omega (arith, div-lt-iff-lt-mul {x = suc n} {y = n / b + 2} h .1 (omega (arith, lt-div-mul-add {a = n} h)))
+pieces-step b n h = omega (arith, pieces-full b (suc n) h (omega arith), pieces-up-to b (suc n - b) n h (omega arith))
 
 pub pieces-twice : (b p q : ℕ) → 0 < b → pieces b p + pieces b (suc q) ≤ pieces b (p + q) + 2
 unfolding pieces
@@ -57,6 +56,11 @@ pieces-twice b (suc p) q h =
     let e : suc p + q ≡ suc (p + q) = omega arith in
     rw e
     (omega (arith, le-div-iff-mul-le {x = p / b + q / b} {y = p + q} h .1 (omega (arith, div-mul-le-self p b, div-mul-le-self q b))))
+
+-- .. and none are fewer
+pieces-both : (b p q : ℕ) → 0 < b → pieces b (p + q) ≤ pieces b p + pieces b (suc q)
+pieces-both b zero q h = rw (zero-add q) (omega (arith, pieces-up b q h))
+pieces-both b (suc p) q h = pieces-cut b (suc p) q h (omega arith)
 
 module _ (b : ℕ) (pos : 0 < b) (k l : ℕ) (x : Spot) where
   module _ (p q : ℕ) (ep : p ≡ pieces b (x .size + 1)) (eq : q ≡ pieces b (x .size)) where
@@ -81,16 +85,7 @@ module _ (b : ℕ) (pos : 0 < b) (k l : ℕ) (x : Spot) where
     behind = let e : x .size - x .below + 1 ≡ suc (x .size - x .below) = omega arith in eq ∙ ap (pieces b) e
 
     pub under-less : r ≤ p + q
-    under-less = go (x .below) (x .size - x .below) refl refl
-      where
-        go : (m n : ℕ) → x .below ≡ m → x .size - x .below ≡ n → r ≤ p + q
-        go zero n em en =
-            let e : x .size ≡ n = omega arith in
-            omega (arith, pieces-up b n pos, behind, ap (λ (j : ℕ). pieces b (suc j)) en, er, ap (pieces b) e)
-        go (suc m) n em en =
-            let e : x .size ≡ suc m + n = omega arith in
-            let h : 0 < suc m = omega arith in
-            omega (arith, pieces-cut b (suc m) n pos h, behind, ap (λ (j : ℕ). pieces b (suc j)) en, er, ap (pieces b) e, ep, ap (pieces b) em)
+    under-less = omega (arith, pieces-both b (x .below) (x .size - x .below) pos, ap (pieces b) both, ep, behind, er)
 
     pub grown-under : (k ≡ l → ⊥) → Grown b k l x (p + q - r)
     grown-under n = record {
@@ -99,6 +94,16 @@ module _ (b : ℕ) (pos : 0 < b) (k l : ℕ) (x : Spot) where
       few = omega (arith, pieces-twice b (x .below) (x .size - x .below) pos, ap (pieces b) both, ep, behind, er);
     }
 
+-- THE MAP OF AN IMAGE, level by level
+module _ (s : Sizes) (os : List Order) (b : 0 < s .nodes) (u : Up 1 os) (k : ℕ) (pos : 0 < k) (low : k ≤ beta s) where
+  pub level-nodes : (f i : ℕ) → map-of (chunks s os) k f i ≡ take (s .nodes) (drop (i * s .nodes) (map (masked k) (part s os k f)))
+  level-nodes f i = map-is s k f i os b u pos low ∙ rw (map-take, map-drop)
+
+  -- what a partition of an image's level has, as pieces
+  pub as-pieces : (F : Map) (f : ℕ) (ns : List Order) → part s os k f ≡ ns → ((i : ℕ) → F k f i ≡ map-of (chunks s os) k f i) → Pieces F (s .nodes) k f 0 (map (masked k) ns)
+  unfolding Pieces
+  as-pieces F f ns e h n = rw (zero-add n) (h n ∙ level-nodes f n ∙ ap (λ (z : List Order). take (s .nodes) (drop (n * s .nodes) (map (masked k) z))) e)
+
 -- THE WAY DOWN to a key
 module _ (s : Sizes) (bs : List ℕ) (y : ℕ) (xs zs : List Order) (w : Way s bs y xs zs) where
   rising : Up 1 (xs ++ zs)
@@ -106,14 +111,9 @@ module _ (s : Sizes) (bs : List ℕ) (y : ℕ) (xs zs : List Order) (w : Way s b
 
   module _ (k : ℕ) (lo : 0 < k) (hi : k ≤ beta s) (f : ℕ) (ef : f ≡ first-key (head-part s k xs)) where
     there : Pieces (map-of (chunks s (xs ++ zs))) (s .nodes) k f 0 (map (masked k) (head-part s k xs) ++ map (masked k) (tail-part s k zs))
-    unfolding Pieces
-    there i =
-        let e : 0 + i ≡ i = omega arith in
-        ap (map-of (chunks s (xs ++ zs)) k f) e
-        ∙ map-is s k f i (xs ++ zs) (some-nodes s (w .good)) rising (omega arith) hi
-        ∙ ap (λ (l : List Order). map (masked k) (take (s .nodes) (drop (i * s .nodes) l))) (ap (part s (xs ++ zs) k) ef ∙ part-at s k xs zs rising)
-        ∙ map-take (masked k) (s .nodes) (drop (i * s .nodes) (head-part s k xs ++ tail-part s k zs))
-        ∙ ap (take (s .nodes)) (map-drop (masked k) (i * s .nodes) (head-part s k xs ++ tail-part s k zs) ∙ ap (drop (i * s .nodes)) (map-append (masked k) (head-part s k xs) (tail-part s k zs)))
+    there =
+        rw map-append at
+        (as-pieces s (xs ++ zs) (some-nodes s (w .good)) rising k lo hi (map-of (chunks s (xs ++ zs))) f (head-part s k xs ++ tail-part s k zs) (ap (part s (xs ++ zs) k) ef ∙ part-at s k xs zs rising) (λ i. refl))
 
     kept : Table s (map-of (chunks s (xs ++ zs))) (length (chunks s (xs ++ zs))) (header s (length (xs ++ zs))) bs
     kept =

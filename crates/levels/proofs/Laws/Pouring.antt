@@ -3,7 +3,7 @@ use mathlib.Core.Path.{_≡_, refl, sym, ap, _∙_, subst}
 use mathlib.Core.List.{List, [], _++_, append-nil}
 use Prim.Native.Nat.{ℕ, suc, _+_, _*_, _-_, _/_, _≤_, _<_}
 use native.Mathlib.Decide.{decLt}
-use native.Mathlib.Nat.{suc-mul, zero-mul, mul-le-mul-right}
+use native.Mathlib.Nat.{div-eq-of-lt, suc-mul, zero-mul, mul-le-mul-right}
 use native.Mathlib.Numerals.{add-one}
 use native.Mathlib.Omega.{arith}
 use lib.ListN.{length, take, drop, length-append, length-drop, length-take}
@@ -15,9 +15,10 @@ use Rattle.placement.specs.declared.Order.{Order}
 use Rattle.skiplist.proofs.Laws.Count.{pieces}
 use Rattle.levels.specs.Edit.{Pieces}
 use Rattle.levels.specs.Pour.{at, Front, one, Taken, Takes, Writable, Flushed, waits, writes, Flushes, Pourable, Poured, Pours, Put, Puts, Kept}
-use Rattle.levels.proofs.Laws.Flushes.{fines-append, fines-there, fines-drop}
+use Rattle.levels.proofs.Laws.Takes.{one-some}
+use Rattle.levels.proofs.Laws.Flushes.{not-none, fines-append, fines-there, fines-drop}
 use Rattle.levels.proofs.Laws.MapLabels.{with-other, with-number, cleared-other, cleared-number}
-use Rattle.levels.proofs.Laws.Chunking.{pieces-up-to, pieces-pos, chunk-behind, chunk-same, pieces-none, pieces-skip, pieces-pass, pieces-under, pieces-over, pieces-full, one-pieces, quotient-none, quotient-one, quotient-most, drop-next, drop-past, take-past, one-taken}
+use Rattle.levels.proofs.Laws.Chunking.{pieces-up-to, pieces-pos, chunk-behind, chunk-same, pieces-none, pieces-skip, pieces-pass, pieces-under, pieces-over, pieces-full, one-pieces, quotient-one, quotient-most, drop-next, drop-past, take-past}
 
 -- t chunks are taken, and `done` are written, up to number v; `carry` is in between
 pub record Pouring (s : Sizes) (F : Map) (m : ℕ) (hd : List ℕ) (k f j g q : ℕ) (c rest : List Order) (t v left : ℕ) (bs cs : List ℕ) : Type 0 where
@@ -88,7 +89,9 @@ module _ (s : Sizes) (F : Map) (m : ℕ) (hd : List ℕ) (k f j count g q : ℕ)
       here = p .source t (omega arith)
 
       more : one (p .map k f (j + t)) ≡ 1
-      more = ap one here ∙ one-taken (s .nodes) (t * s .nodes) rest (pb .some) (pieces-under (s .nodes) (length rest) t (pb .some) (omega (arith, pb .chunks)))
+      more =
+          let some = pieces-under (s .nodes) (length rest) t (pb .some) (omega (arith, pb .chunks)) in
+          one-some (p .map k f (j + t)) (not-none (p .map k f (j + t)) (rw here (simp (length-take, length-drop) (omega (arith, pb .some)))))
 
       pub pouring-take : Pouring s F m hd k f j g q c rest (suc t) v r bs′ cs′
       pouring-take = record {
@@ -128,7 +131,7 @@ module _ (s : Sizes) (F : Map) (m : ℕ) (hd : List ℕ) (k f j count g q : ℕ)
 
         pub pouring-flush : Flushed s (p .map) (p .full) hd (at k g v) (p .carry) bs′ cs′ r → Pouring s F m hd k f j g q c rest t (v + left / s .nodes) r bs′ cs′
         pouring-flush (waits a er tb fr) =
-            let e : v + left / s .nodes ≡ v = rw (quotient-none (s .nodes) left (omega (arith, p .size))) (omega arith) in
+            let e : v + left / s .nodes ≡ v = rw (div-eq-of-lt {n = left} {m = s .nodes} (omega (arith, p .size))) (omega arith) in
             rw e (record {
               map = p .map;
               full = p .full;

@@ -4,7 +4,7 @@ use mathlib.Core.Logic.{_≢_}
 use mathlib.Core.Bool.{Bool, true, false, true≢false}
 use mathlib.Core.List.{List, [], _∷_, _++_}
 use Prim.Native.Nat.{ℕ, zero, suc, _+_, _*_, _-_, _≤_, _<_}
-use native.Mathlib.Nat.{sub-zero, suc-mul, mul-le-mul-right}
+use native.Mathlib.Nat.{zero-mul, add-zero, sub-zero, suc-mul, mul-le-mul-right}
 use native.Mathlib.Numerals.{add-one}
 use native.Mathlib.Decide.{decLt}
 use native.Mathlib.Omega.{arith}
@@ -52,14 +52,7 @@ pub record Passing (bs : List ℕ) (n at y : ℕ) (x : Spot) (i : ℕ) (z : Spot
 
 module _ (bs : List ℕ) (n at y : ℕ) (x : Spot) where
   pub passing-start : x .below ≤ x .size → Passing bs n at y x 0 x
-  passing-start h =
-      let e : at ≡ at + 12 * 0 = omega arith in
-      record {
-        within = omega arith;
-        few = h;
-        long = omega arith;
-        rest = ap (λ (j : ℕ). passes bs j at y x) (sym (sub-zero n)) ∙ ap (λ (a : ℕ). passes bs (n - 0) a y x) e;
-      }
+  passing-start h = record { within = omega arith; few = h; long = omega arith; rest = rw (sub-zero, add-zero) }
 
   module _ (i : ℕ) (z : Spot) (p : Passing bs n at y x i z) where
     pub passing-more : i < n → (key : ℕ) (w : Spot) → key ≡ field (at + 12 * i) 4 bs → w ≡ passed key y z → w .below ≤ w .size → w .size ≡ z .size + 1 →
@@ -99,51 +92,40 @@ unfolding passed-all
 passed-append y [] zs x = refl
 passed-append y (o ∷ xs) zs x = passed-append y xs zs (passed (o .key) y x)
 
-passed-below : (y : ℕ) (ps : List Order) (x : Spot) → below y ps ≡ true →
-    passed-all y ps x ≡ record { below = x .below + length ps; last = last-from (x .last) ps; size = x .size + length ps }
+passed-below : (y : ℕ) (ps : List Order) (x : Spot) → below y ps ≡ true → (w : Spot) → w ≡ passed-all y ps x →
+    (w .below ≡ x .below + length ps) × (w .last ≡ last-from (x .last) ps) × (w .size ≡ x .size + length ps)
 unfolding passed-all below last-from
-passed-below y [] x e =
-    let a : x .below ≡ x .below + 0 = omega arith in
-    let b : x .size ≡ x .size + 0 = omega arith in
-    λ i. record { below = a i; last = x .last; size = b i }
-passed-below y (p ∷ ps) x e =
-    let h = ltb-true (p .key) y (and-left (ltb (p .key) y) (below y ps) e) in
-    let a : x .below + 1 + length ps ≡ x .below + suc (length ps) = omega arith in
-    let b : x .size + 1 + length ps ≡ x .size + suc (length ps) = omega arith in
-    ap (passed-all y ps) (sym (passed-low (p .key) y x h))
-    ∙ passed-below y ps (record { below = x .below + 1; last = p .key; size = x .size + 1 }) (and-right (ltb (p .key) y) (below y ps) e)
-    ∙ (λ i. record { below = a i; last = last-from (p .key) ps; size = b i })
+passed-below y [] x e w ew = (omega (arith, ap (λ (v : Spot). v .below) ew), ap (λ (v : Spot). v .last) ew, omega (arith, ap (λ (v : Spot). v .size) ew))
+passed-below y (p ∷ ps) x e w ew =
+    let low = passed-low (p .key) y x (ltb-true (p .key) y (and-left (ltb (p .key) y) (below y ps) e)) in
+    let r = passed-below y ps _ (and-right (ltb (p .key) y) (below y ps) e) w (ew ∙ ap (passed-all y ps) (sym low)) in
+    (omega (arith, r .0), r .1, omega (arith, r .2))
 
-passed-above : (y a : ℕ) (qs : List Order) (x : Spot) → y ≤ a → Up a qs →
-    passed-all y qs x ≡ record { below = x .below; last = x .last; size = x .size + length qs }
+passed-above : (y a : ℕ) (qs : List Order) (x : Spot) → y ≤ a → Up a qs → (w : Spot) → w ≡ passed-all y qs x → (w .below ≡ x .below) × (w .last ≡ x .last) × (w .size ≡ x .size + length qs)
 unfolding passed-all
-passed-above y a [] x h u =
-    let b : x .size ≡ x .size + 0 = omega arith in
-    λ i. record { below = x .below; last = x .last; size = b i }
-passed-above y a (q ∷ qs) x h u =
-    let b : x .size + 1 + length qs ≡ x .size + suc (length qs) = omega arith in
-    ap (passed-all y qs) (sym (passed-high (q .key) y x (omega (arith, u .0))))
-    ∙ passed-above y (suc (q .key)) qs (record { below = x .below; last = x .last; size = x .size + 1 }) (omega (arith, u .0)) (u .1)
-    ∙ (λ i. record { below = x .below; last = x .last; size = b i })
+passed-above y a [] x h u w ew = (ap (λ (v : Spot). v .below) ew, ap (λ (v : Spot). v .last) ew, omega (arith, ap (λ (v : Spot). v .size) ew))
+passed-above y a (q ∷ qs) x h u w ew =
+    let high = passed-high (q .key) y x (omega (arith, u .0)) in
+    let r = passed-above y (suc (q .key)) qs _ (omega (arith, u .0)) (u .1) w (ew ∙ ap (passed-all y qs) (sym high)) in
+    (r .0, r .1, omega (arith, r .2))
 
 -- all nodes of a partition came by
-passed-both : (y : ℕ) (ps qs : List Order) → below y ps ≡ true → Up y qs →
-    passed-all y (ps ++ qs) start ≡ record { below = length ps; last = last-from 0 ps; size = length (ps ++ qs) }
-passed-both y ps qs l u =
-    let a : 0 + length ps ≡ length ps = omega arith in
-    let b : 0 + length ps + length qs ≡ length (ps ++ qs) = simp length-append (omega arith) in
-    passed-append y ps qs start
-    ∙ ap (passed-all y qs) (passed-below y ps start l)
-    ∙ passed-above y y qs (record { below = 0 + length ps; last = last-from 0 ps; size = 0 + length ps }) (omega arith) u
-    ∙ (λ i. record { below = a i; last = last-from 0 ps; size = b i })
+passed-both : (y : ℕ) (ps qs : List Order) → below y ps ≡ true → Up y qs → (w : Spot) → w ≡ passed-all y (ps ++ qs) start →
+    w ≡ record { below = length ps; last = last-from 0 ps; size = length (ps ++ qs) }
+passed-both y ps qs l u w ew =
+    let b = passed-below y ps start l _ refl in
+    let r = passed-above y y qs (passed-all y ps start) (omega arith) u w (ew ∙ passed-append y ps qs start) in
+    let n : w .below ≡ length ps = omega (arith, b .0, r .0) in
+    let m : w .size ≡ length (ps ++ qs) = rw length-append (omega (arith, b .2, r .2)) in
+    λ i. record { below = n i; last = (r .1 ∙ b .1) i; size = m i }
 
 -- .. or as many as it takes for one that is not below y
 passed-some : (y m : ℕ) (ps qs : List Order) (x : Spot) → below y ps ≡ true → Up y qs → x .size ≤ x .below → (w : Spot) → w ≡ passed-all y (take m (ps ++ qs)) x →
     w .below < w .size → (w .below ≡ x .below + length ps) × (w .last ≡ last-from (x .last) ps)
 unfolding passed-all below last-from
 passed-some y m [] qs x l u e w ew h =
-    let z = ew ∙ passed-above y y (take m qs) x (omega arith) (up-front (take m qs) (drop m qs) y (rw take-append-drop u)) in
-    (omega (arith, ap (λ (v : Spot). v .below) z), ap (λ (v : Spot). v .last) z)
+    let r = passed-above y y (take m qs) x (omega arith) (up-front (take m qs) (drop m qs) y (rw take-append-drop u)) w ew in
+    (omega (arith, r .0), r .1)
 passed-some y zero (p ∷ ps) qs x l u e w ew h = absurd (omega (arith, ap (λ (v : Spot). v .below) ew, ap (λ (v : Spot). v .size) ew))
 passed-some y (suc m) (p ∷ ps) qs x l u e w ew h =
     let lt = ltb-true (p .key) y (and-left (ltb (p .key) y) (below y ps) l) in
@@ -200,11 +182,12 @@ pub record Scanning (s : Sizes) (bs : List ℕ) (k f y i : ℕ) (z : Spot) : Typ
 
 pub scanning-start : (s : Sizes) (bs : List ℕ) (k f y : ℕ) → Scanning s bs k f y 0 start
 unfolding passed-all
-scanning-start s bs k f y =
-    record { within = omega arith; few = omega arith; most = omega arith; so-far = λ F n hd ns t pos p. ap (λ (q : ℕ). passed-all y (take q ns) start) none }
-  where
-    none : 0 ≡ 0 * s .nodes
-    none = omega arith
+scanning-start s bs k f y = record { within = omega arith; few = omega arith; most = omega arith; so-far = λ F n hd ns t pos p. rw zero-mul }
+
+-- one more chunk came by; if it is not full, it is the last
+pub record Came (s : Sizes) (bs : List ℕ) (k f y i n : ℕ) (w : Spot) : Type 0 where
+  pub next : Scanning s bs k f y (i + 1) w
+  pub stop : n < s .nodes → Scans s bs k f y w
 
 -- what a scan says, as far as a reach says it
 pub reached : (s : Sizes) (bs : List ℕ) (k f y : ℕ) (z : Spot) → Scans s bs k f y z → Reaches s bs k f y z
@@ -212,15 +195,17 @@ unfolding Scans Reaches
 reached s bs k f y z sc F n hd ps qs t pos c low high =
     let e = sc F n hd ps qs t pos c low high in (ap (λ (v : Spot). v .below) e, ap (λ (v : Spot). v .last) e)
 
-module _ (s : Sizes) (bs : List ℕ) (k f y i : ℕ) (z : Spot) (p : Scanning s bs k f y i z) where
-  all-came : (ps qs : List Order) → length (ps ++ qs) ≤ i * s .nodes → below y ps ≡ true → Up y qs → z ≡ passed-all y (take (i * s .nodes) (ps ++ qs)) start →
-      z ≡ record { below = length ps; last = last-from 0 ps; size = length (ps ++ qs) }
-  all-came ps qs h low high e = e ∙ ap (λ (l : List Order). passed-all y l start) (take-all (i * s .nodes) (ps ++ qs) h) ∙ passed-both y ps qs low high
+-- no more nodes than came by
+all-came : (s : Sizes) (bs : List ℕ) (k f y i : ℕ) (z : Spot) → Scanning s bs k f y i z →
+    ((F : Map) (n : ℕ) (hd : List ℕ) (ns : List Order) → Table s F n hd bs → 0 < k → Pieces F (s .nodes) k f 0 ns → length ns ≤ i * s .nodes) → Scans s bs k f y z
+unfolding Scans
+all-came s bs k f y i z p h F n hd ps qs t pos c low high =
+    passed-both y ps qs low high z
+    (p .so-far F n hd (ps ++ qs) t pos c ∙ ap (λ (l : List Order). passed-all y l start) (take-all (i * s .nodes) (ps ++ qs) (h F n hd (ps ++ qs) t pos c)))
 
+module _ (s : Sizes) (bs : List ℕ) (k f y i : ℕ) (z : Spot) (p : Scanning s bs k f y i z) where
   pub scanning-end : s .blocks ≤ i → Scans s bs k f y z
-  unfolding Scans
-  scanning-end h F n hd ps qs t pos c low high =
-      all-came ps qs (omega (arith, chunks-most s k f pos F n hd bs (ps ++ qs) t c, mul-le-mul-right (s .nodes) h)) low high (p .so-far F n hd (ps ++ qs) t pos c)
+  scanning-end h = all-came s bs k f y i z p (λ F n hd ns t pos c. omega (arith, chunks-most s k f pos F n hd bs ns t c, mul-le-mul-right (s .nodes) h))
 
   -- what a spot says once all nodes came by
   pub spot-all : s .blocks ≤ 65535 → (whole : Bool) → Scans s bs k f y z → Spots s bs k f y whole z
@@ -238,9 +223,7 @@ module _ (s : Sizes) (bs : List ℕ) (k f y i : ℕ) (z : Spot) (p : Scanning s 
 
   module _ (r : Found) (er : r ≡ search-in s bs (at k f i)) where
     pub scanning-none : r ≡ Nothing → Scans s bs k f y z
-    unfolding Scans
-    scanning-none e F n hd ps qs t pos c low high =
-        all-came ps qs (piece-gone s k f pos F n hd bs (ps ++ qs) t c i (none-found s F n hd bs t (at k f i) pos r er e)) low high (p .so-far F n hd (ps ++ qs) t pos c)
+    scanning-none e = all-came s bs k f y i z p (λ F n hd ns t pos c. piece-gone s k f pos F n hd bs ns t c i (none-found s F n hd bs t (at k f i) pos r er e))
 
     module _ (b : ℕ) (eb : r ≡ At b) (n : ℕ) (en : n ≡ getD bs (53 + b * block-long s + 1) 0) where
       came : (F : Map) (m : ℕ) (hd : List ℕ) → Table s F m hd bs → 0 < k → passes bs n (53 + b * block-long s + 8) y z ≡ passed-all y (F k f i) z
@@ -258,10 +241,19 @@ module _ (s : Sizes) (bs : List ℕ) (k f y i : ℕ) (z : Spot) (p : Scanning s 
       scanning-wide h F m hd ps qs t pos c low high =
           absurd (omega (arith, some-found s F m hd bs t (at k f i) pos r er b eb .held .nodes, counted s F m hd bs t (at k f i) pos r er b eb n en))
 
-      next-came : i < s .blocks → n ≤ s .nodes → s .nodes ≤ 32 → (a : ℕ) (w : Spot) → a ≡ 53 + b * block-long s → w ≡ passes bs n (a + 8) y z → w .below ≤ w .size →
-          w .size ≡ z .size + n → Scanning s bs k f y (i + 1) w
-      next-came lt le few a w ea ew short long =
-          record {
+      pub scanning-more : i < s .blocks → n ≤ s .nodes → s .nodes ≤ 32 → (a : ℕ) (w : Spot) → a ≡ 53 + b * block-long s → w ≡ passes bs n (a + 8) y z → w .below ≤ w .size →
+          w .size ≡ z .size + n → Came s bs k f y i n w
+      scanning-more lt le few a w ea ew short long = record {
+        next = next;
+        stop = λ h. all-came s bs k f y (i + 1) w next (λ F m hd ns t pos c.
+            omega (arith, h, step, simp (length-take, length-drop) at (counted s F m hd bs t (at k f i) pos r er b eb n en ∙ ap length (pieces-at F (s .nodes) k f ns i c))));
+      }
+        where
+          step : i * s .nodes + s .nodes ≡ (i + 1) * s .nodes
+          step = rw add-one (sym (suc-mul i (s .nodes)))
+
+          next : Scanning s bs k f y (i + 1) w
+          next = record {
             within = omega arith;
             few = short;
             most = omega (arith, p .most);
@@ -272,38 +264,5 @@ module _ (s : Sizes) (bs : List ℕ) (k f y i : ℕ) (z : Spot) (p : Scanning s 
                 ∙ ap (λ (l : List Order). passed-all y l z) (pieces-at F (s .nodes) k f ns i c)
                 ∙ ap (passed-all y (take (s .nodes) (drop (i * s .nodes) ns))) (p .so-far F m hd ns t pos c)
                 ∙ sym (passed-append y (take (i * s .nodes) ns) (take (s .nodes) (drop (i * s .nodes) ns)) start)
-                ∙ ap (λ (l : List Order). passed-all y l start) (sym (take-add (i * s .nodes) (s .nodes) ns) ∙ ap (λ (q : ℕ). take q ns) next);
+                ∙ ap (λ (l : List Order). passed-all y l start) (sym (take-add (i * s .nodes) (s .nodes) ns) ∙ ap (λ (q : ℕ). take q ns) step);
           }
-        where
-          next : i * s .nodes + s .nodes ≡ (i + 1) * s .nodes
-          next = rw add-one (sym (suc-mul i (s .nodes)))
-
--- one more chunk came by; if it is not full, it is the last
-pub record Came (s : Sizes) (bs : List ℕ) (k f y i n : ℕ) (w : Spot) : Type 0 where
-  pub next : Scanning s bs k f y (i + 1) w
-  pub stop : n < s .nodes → Scans s bs k f y w
-
-module _ (s : Sizes) (bs : List ℕ) (k f y i : ℕ) (z : Spot) (p : Scanning s bs k f y i z) (r : Found) (er : r ≡ search-in s bs (at k f i))
-    (b : ℕ) (eb : r ≡ At b) (n : ℕ) (en : n ≡ getD bs (53 + b * block-long s + 1) 0) where
-  last-came : (w : Spot) → Scanning s bs k f y (i + 1) w → n < s .nodes → Scans s bs k f y w
-  unfolding Scans
-  last-came w q h F m hd ps qs t pos c low high =
-      all-came s bs k f y (i + 1) w q ps qs short low high (q .so-far F m hd (ps ++ qs) t pos c)
-    where
-      next : (i + 1) * s .nodes ≡ i * s .nodes + s .nodes
-      next = rw add-one (suc-mul i (s .nodes))
-
-      short : length (ps ++ qs) ≤ (i + 1) * s .nodes
-      short =
-          omega (
-            arith,
-            h,
-            next,
-            simp (length-take, length-drop) at (counted s F m hd bs t (at k f i) pos r er b eb n en ∙ ap length (pieces-at F (s .nodes) k f (ps ++ qs) i c)),
-          )
-
-  pub scanning-more : i < s .blocks → n ≤ s .nodes → s .nodes ≤ 32 → (a : ℕ) (w : Spot) → a ≡ 53 + b * block-long s → w ≡ passes bs n (a + 8) y z → w .below ≤ w .size →
-      w .size ≡ z .size + n → Came s bs k f y i n w
-  scanning-more lt le few a w ea ew short long =
-      let q = next-came s bs k f y i z p r er b eb n en lt le few a w ea ew short long in
-      record { next = q; stop = last-came w q }
