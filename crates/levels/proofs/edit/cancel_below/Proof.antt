@@ -7,10 +7,7 @@ use Rattle.levels.proofs.Laws.Parting.{cancel-below-none, cancel-below-
 use Rattle.levels.proofs.edit.cancel_below.Statement.{statement}
 use Rattle.levels.proofs.edit.cancel_below.Tie as tie
 
-returns : tie.Need-returns
-returns c =
-    let p = c .before .before .before .before .before .before .before .before .before .before .before .before .before .before .before .before .before .pre in
-    cancel-below-none _ _ _ _ _ _ _ (p .1) (p .0 .few) _ 0 _ _ refl _ _ _ (c .before .before .before .before .before .before .before .before .before .before .take .ensures .2) _ _ _ (c .before .before .before .before .take2 .ensures .2) (c .if1 .taken)
+ruleset laws = (needs, cancel-below-none)
 
 pour-requires : tie.Need-pour-requires
 pour-requires c κs =
@@ -28,4 +25,4 @@ returns-2 c =
 pub cancel-below-spec : {M : Type 1} → statement M
 cancel-below-spec =
     tie.close
-    (tie.spec (λ c. search needs) (λ c κs. search needs) (λ c. search needs) (λ c κs. search needs) (λ c. search needs) (λ c κs. search needs) (λ c. search needs) returns (λ c. search needs) (λ c. search needs) (λ c. search needs) (λ c. search needs) (λ c. search needs) (λ c. search needs) (λ c. search needs) (λ c κs. search needs) (λ c. search needs) (λ c. search needs) (λ c. search needs) pour-requires (λ c. search needs) returns-2)
+    (tie.spec (λ c. search laws) (λ c κs. search laws) (λ c. search laws) (λ c κs. search laws) (λ c. search laws) (λ c κs. search laws) (λ c. search laws) (λ c. search laws) (λ c. search laws) (λ c. search laws) (λ c. search laws) (λ c. search laws) (λ c. search laws) (λ c. search laws) (λ c. search laws) (λ c κs. search laws) (λ c. search laws) (λ c. search laws) (λ c. search laws) pour-requires (λ c. search laws) returns-2)

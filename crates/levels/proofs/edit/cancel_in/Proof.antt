@@ -6,10 +6,7 @@ use Rattle.levels.proofs.Laws.Levels.{numbers-shift, cancel-in-short, c
 use Rattle.levels.proofs.edit.cancel_in.Statement.{statement}
 use Rattle.levels.proofs.edit.cancel_in.Tie as tie
 
-returns : tie.Need-returns
-returns c =
-    let p = c .before .before .before .before .before .before .before .before .before .before .before .pre in
-    cancel-in-short _ _ _ _ _ (p .1) _ _ _ refl refl _ _ (c .before .before .read .ensures .2) (p .0 .few) (c .if1 .taken)
+ruleset laws = (needs, cancel-in-short)
 
 shift-requires : tie.Need-shift-requires
 shift-requires c κs =
@@ -25,4 +22,4 @@ returns-2 c =
 pub cancel-in-spec : {M : Type 1} → statement M
 cancel-in-spec =
     tie.close
-    (tie.spec (λ c. search needs) (λ c. search needs) (λ c κs. search needs) (λ c. search needs) (λ c κs. search needs) (λ c. search needs) returns (λ c. search needs) (λ c. search needs) (λ c. search needs) (λ c. search needs) (λ c κs. search needs) (λ c. search needs) (λ c. search needs) (λ c. search needs) (λ c. search needs) (λ c. search needs) (λ c. search needs) (λ c. search needs) (λ c. search needs) (λ c. search needs) (λ c. search needs) (λ c. search needs) (λ c κs. search needs) (λ c. search needs) (λ c. search needs) shift-requires (λ c. search needs) returns-2)
+    (tie.spec (λ c. search laws) (λ c. search laws) (λ c κs. search laws) (λ c. search laws) (λ c κs. search laws) (λ c. search laws) (λ c. search laws) (λ c. search laws) (λ c. search laws) (λ c. search laws) (λ c. search laws) (λ c κs. search laws) (λ c. search laws) (λ c. search laws) (λ c. search laws) (λ c. search laws) (λ c. search laws) (λ c. search laws) (λ c. search laws) (λ c. search laws) (λ c. search laws) (λ c. search laws) (λ c. search laws) (λ c κs. search laws) (λ c. search laws) (λ c. search laws) shift-requires (λ c. search laws) returns-2)

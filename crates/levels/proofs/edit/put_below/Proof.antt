@@ -8,10 +8,7 @@ use Rattle.levels.proofs.Laws.Parting.{put-below-short, put-below-made}
 use Rattle.levels.proofs.edit.put_below.Statement.{statement}
 use Rattle.levels.proofs.edit.put_below.Tie as tie
 
-returns : tie.Need-returns
-returns c =
-    let p = c .before .before .before .before .before .before .before .before .before .before .before .pre in
-    put-below-short _ _ _ _ _ (p .1) _ _ _ refl refl _ _ (c .before .before .read .ensures .2) (p .0 .few) _ (c .if1 .taken)
+ruleset laws = (needs, put-below-short)
 
 add-pour : tie.Need-add-pour
 add-pour c =
@@ -33,4 +30,4 @@ returns-2 c =
 pub put-below-spec : {M : Type 1} → statement M
 put-below-spec =
     tie.close
-    (tie.spec (λ c. search needs) (λ c. search needs) (λ c κs. search needs) (λ c. search needs) (λ c κs. search needs) (λ c. search needs) returns (λ c. search needs) (λ c κs. search needs) (λ c. search needs) (λ c κs. search needs) (λ c. search needs) (λ c. search needs) (λ c. search needs) (λ c. search needs) (λ c. search needs) (λ c. search needs) (λ c κs. search needs) add-pour (λ c. search needs) (λ c. search needs) pour-requires (λ c. search needs) returns-2)
+    (tie.spec (λ c. search laws) (λ c. search laws) (λ c κs. search laws) (λ c. search laws) (λ c κs. search laws) (λ c. search laws) (λ c. search laws) (λ c. search laws) (λ c κs. search laws) (λ c. search laws) (λ c κs. search laws) (λ c. search laws) (λ c. search laws) (λ c. search laws) (λ c. search laws) (λ c. search laws) (λ c. search laws) (λ c κs. search laws) add-pour (λ c. search laws) (λ c. search laws) pour-requires (λ c. search laws) returns-2)

@@ -7,8 +7,7 @@ use Rattle.levels.proofs.Laws.Flushes.{flush-waits, flush-writes}
 use Rattle.levels.proofs.pour.flush.Statement.{statement}
 use Rattle.levels.proofs.pour.flush.Tie as tie
 
-returns : tie.Need-returns
-returns c = (record { shaped = c .before .before .before .before .pre .0; long = refl }, (λ h. omega (arith, c .if1 .taken)), flush-waits _ _ _ _ _ (c .if1 .taken))
+ruleset laws = (needs, flush-waits)
 
 copy-requires : tie.Need-copy-requires
 copy-requires c κs =
@@ -25,4 +24,4 @@ returns-2 c =
 pub flush-spec : {M : Type 1} → statement M
 flush-spec =
     tie.close
-    (tie.spec returns (λ c κs. search needs) (λ c. search needs) (λ c. search needs) (λ c. search needs) (λ c. search needs) copy-requires (λ c. search needs) (λ c. search needs) returns-2)
+    (tie.spec (λ c. search laws) (λ c κs. search laws) (λ c. search laws) (λ c. search laws) (λ c. search laws) (λ c. search laws) copy-requires (λ c. search laws) (λ c. search laws) returns-2)
