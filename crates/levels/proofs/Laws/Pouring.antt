@@ -6,6 +6,9 @@ use native.Mathlib.Decide.{decLt}
 use native.Mathlib.Nat.{div-eq-of-lt, suc-mul, zero-mul, mul-le-mul-right}
 use native.Mathlib.Numerals.{add-one}
 use native.Mathlib.Omega.{arith}
+use borrow.Author.Needs.{fits-under}
+use mir.Syntax.{w32}
+use mir.Val.{Fits}
 use lib.ListN.{length, take, drop, length-append, length-drop, length-take}
 use lib.Seq.{take-append-le, drop-append-le, take-all, take-nil, drop-nil}
 use Rattle.placement.specs.Maps.{Map, Table, Fines, with-nodes, cleared}
@@ -235,8 +238,9 @@ pub record Turning (s : Sizes) (k f j count g q v₀ left₀ : ℕ) (bs₀ cs₀
   pub next : v ≤ q + 1 + t
   pub on : Pours-on s k f j count g q v₀ left₀ bs₀ cs₀ t v left bs cs
 
-pub next-fits : (q count b t v left r : ℕ) → q + 1 + count < 4294967296 → 2 ≤ b → t < count → v ≤ q + 1 + t → left < b → r ≤ left + b → v + r / b < 4294967296
-next-fits q count b t v left r room two h next short most = omega (arith, quotient-most b r (omega arith) (omega arith))
+-- the number of the next chunk fits
+pub first-fits : (q count b n : ℕ) → q + 1 + count < 4294967296 → 2 ≤ b → n < 2 * b → Fits w32 (q + n / b)
+first-fits q count b n room two most = fits-under w32 (q + n / b) 4294967296 (omega (arith, quotient-most b n (omega arith) most)) tt
 
 module _ (s : Sizes) (k f j count g q : ℕ) where
   module _ (n : ℕ) (bs₀ cs₀ bs cs : List ℕ) (r : ℕ) where
@@ -261,6 +265,9 @@ module _ (s : Sizes) (k f j count g q : ℕ) where
   }
 
   module _ (v₀ left₀ : ℕ) (bs₀ cs₀ : List ℕ) (t v left : ℕ) (bs cs : List ℕ) (i : Turning s k f j count g q v₀ left₀ bs₀ cs₀ t v left bs cs) where
+    pub next-fits : (r : ℕ) → q + 1 + count < 4294967296 → 2 ≤ s .nodes → t < count → r ≤ left + s .nodes → Fits w32 (v + r / s .nodes)
+    next-fits r room two h most = fits-under w32 (v + r / s .nodes) 4294967296 (omega (arith, i .next, i .short, quotient-most (s .nodes) r (omega arith) (omega (arith, i .short)))) tt
+
     pour-turn : t < count → (bs₁ cs₁ : List ℕ) (r : ℕ) → Takes s (at k f (j + t)) left bs bs₁ cs cs₁ r → (bs₂ cs₂ : List ℕ) (r₂ : ℕ) → Flushes s (at k g v) r bs₁ bs₂ cs₁ cs₂ r₂
         → Pours-on s k f j count g q v₀ left₀ bs₀ cs₀ (t + 1) (v + r / s .nodes) r₂ bs₂ cs₂
     unfolding Pours-on Takes Flushes

@@ -7,13 +7,7 @@ use Rattle.levels.proofs.Laws.Flushes.{flush-waits, flush-writes}
 use Rattle.levels.proofs.pour.flush.Statement.{statement}
 use Rattle.levels.proofs.pour.flush.Tie as tie
 
-ruleset laws = (needs, flush-waits)
-
-copy-requires : tie.Need-copy-requires
-copy-requires c κs =
-    let h = c .before .before .before .before .before .before .before .before .if1 .left in
-    let p = c .before .before .before .before .before .before .before .before .before .before .before .before .pre .2 in
-    (omega (arith, h, p), omega (arith, h, p), inr (omega arith))
+ruleset laws = (needs, inr, flush-waits)
 
 returns-2 : tie.Need-returns-2
 returns-2 c =
@@ -24,4 +18,4 @@ returns-2 c =
 pub flush-spec : {M : Type 1} → statement M
 flush-spec =
     tie.close
-    (tie.spec (λ c. search laws) (λ c κs. search laws) (λ c. search laws) (λ c. search laws) (λ c. search laws) (λ c. search laws) copy-requires (λ c. search laws) (λ c. search laws) returns-2)
+    (tie.spec (λ c. search laws) (λ c κs. search laws) (λ c. search laws) (λ c. search laws) (λ c. search laws) (λ c. search laws) (λ c κs. search laws) (λ c. search laws) (λ c. search laws) returns-2)

@@ -1,13 +1,11 @@
 -- `levels::pour::pour` meets its contract: each need follows from the laws listed.
 use borrow.Author.Needs.{needs}
 use Prim.Native.Nat.{_-_}
-use native.Mathlib.Omega.{arith}
-use Rattle.levels.proofs.Laws.Chunking.{quotient-most}
-use Rattle.levels.proofs.Laws.Pouring.{Turning, turning-start, turning-more, next-fits, pour-made}
+use Rattle.levels.proofs.Laws.Pouring.{Turning, first-fits, next-fits, turning-start, turning-more, pour-made}
 use Rattle.levels.proofs.pour.pour.Statement.{statement}
 use Rattle.levels.proofs.pour.pour.Tie as tie
 
-ruleset laws = (needs, turning-start, turning-more, pour-made)
+ruleset laws = (needs, first-fits, next-fits, turning-start, turning-more, pour-made)
 
 abbrev Inv-loop : tie.InvT-loop
 Inv-loop table₀ s level from j count to q carry₀ n written₀ left₀ k₀ table carry written left k = Turning s level from j count to q written₀ left₀ table₀ carry₀ k written left table carry
@@ -15,13 +13,7 @@ Inv-loop table₀ s level from j count to q carry₀ n written₀ left₀ k₀ t
 abbrev μ-loop : tie.MeasureT-loop
 μ-loop table₀ s level from j count to q carry₀ n written₀ left₀ k₀ table carry written left k = count - k
 
-add-written : tie.Need-add-written Inv-loop μ-loop
-add-written c = record { fits = omega (arith, c .before .before .before .pre .5, quotient-most _ _ (omega (arith, c .before .before .before .pre .1)) (c .before .before .before .pre .3)) }
-
-add-written-2 : tie.Need-add-written-2 Inv-loop μ-loop
-add-written-2 c = record { fits = omega (arith, next-fits _ _ _ _ _ _ _ (c .before .before .before .before .before .before .before .before .before .before .before .before .before .before .before .before .before .before .before .before .before .before .before .before .before .before .before .pre .5) (c .before .before .before .before .before .before .before .before .before .before .before .before .before .before .before .before .before .before .before .before .before .before .before .before .before .before .before .pre .1) (c .before .before .before .before .before .before .before .before .before .before .before .before .before .before .before .loop-test .taken) (c .before .before .before .before .before .before .before .before .before .before .before .before .before .before .before .before .loop .inv .next) (c .before .before .before .before .before .before .before .before .before .before .before .before .before .before .before .before .loop .inv .short) (c .before .before .before .before .before .before .before .before .before .before .before .before .take .ensures .1)) }
-
 pub pour-spec : {M : Type 1} → statement M
 pour-spec =
     tie.close
-    (tie.spec Inv-loop μ-loop (λ c. search laws) add-written (λ c κs. search laws) (λ c. search laws) (λ c. search laws) (λ c κs. search laws) (λ c κs. search laws) (λ c. search laws) add-written-2 (λ c. search laws) (λ c. search laws) (λ c. search laws) (λ c κs. search laws) (λ c. search laws) (λ c. search laws) (λ c. search laws))
+    (tie.spec Inv-loop μ-loop (λ c. search laws) (λ c. search laws) (λ c κs. search laws) (λ c. search laws) (λ c. search laws) (λ c κs. search laws) (λ c κs. search laws) (λ c. search laws) (λ c. search laws) (λ c. search laws) (λ c. search laws) (λ c. search laws) (λ c κs. search laws) (λ c. search laws) (λ c. search laws) (λ c. search laws))
