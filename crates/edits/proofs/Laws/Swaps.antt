@@ -22,7 +22,7 @@ use Rattle.skiplist.proofs.Laws.Image.{image-keeps}
 use Rattle.skiplist.proofs.Laws.Edits.{beta-least, head-part, tail-part, part-with, with-part}
 use Rattle.levels.specs.Edit.{Replaces}
 use Rattle.edits.specs.Change.{Setting, Between}
-use Rattle.edits.proofs.Laws.WayLevels.{level-nodes, as-pieces}
+use Rattle.levels.proofs.Laws.Growing.{level-nodes, as-pieces}
 use Rattle.edits.proofs.Laws.Changed.{one-changed}
 use Rattle.edits.proofs.Laws.Settings.{all-up, key-pos, order-fine, some-nodes}
 use Rattle.edits.proofs.Laws.Ways.{none-over, way-even}

@@ -15,25 +15,16 @@ use Rattle.sizes.specs.declared.Sizes.{Sizes}
 use Rattle.placement.specs.declared.Order.{Order}
 use Rattle.skiplist.specs.Lists.{masked, chunks}
 use Rattle.skiplist.proofs.Laws.Parts.{Up, part}
-use Rattle.skiplist.proofs.Laws.Masks.{map-take, map-drop}
-use Rattle.skiplist.proofs.Laws.Faithful.{map-is}
 use Rattle.skiplist.proofs.Laws.Count.{count, counts}
 use Rattle.levels.specs.Edit.{Pieces}
+use Rattle.levels.proofs.Laws.Growing.{level-nodes}
 use Rattle.table.proofs.Laws.Counted.{counts-snoc}
 use Rattle.edits.specs.Change.{Between}
 
 module _ (s : Sizes) (os : List Order) (b : 0 < s .nodes) (u : Up 1 os) (k : ℕ) (pos : 0 < k) (low : k ≤ beta s) where
-  pub level-nodes : (f i : ℕ) → map-of (chunks s os) k f i ≡ take (s .nodes) (drop (i * s .nodes) (map (masked k) (part s os k f)))
-  level-nodes f i = map-is s k f i os b u pos low ∙ rw (map-take, map-drop)
-
-  -- what a partition of an image's level has, as pieces
-  pub as-pieces : (F : Map) (f : ℕ) (ns : List Order) → part s os k f ≡ ns → ((i : ℕ) → F k f i ≡ map-of (chunks s os) k f i) → Pieces F (s .nodes) k f 0 (map (masked k) ns)
-  unfolding Pieces
-  as-pieces F f ns e h n = rw (zero-add n) (h n ∙ level-nodes f n ∙ ap (λ (z : List Order). take (s .nodes) (drop (n * s .nodes) (map (masked k) z))) e)
-
   pub from-pieces : (F : Map) (f : ℕ) (ns : List Order) → part s os k f ≡ ns → Pieces F (s .nodes) k f 0 (map (masked k) ns) → (i : ℕ) → F k f i ≡ map-of (chunks s os) k f i
   unfolding Pieces
-  from-pieces F f ns e h i = rw (zero-add i) at (h i) ∙ ap (λ (z : List Order). take (s .nodes) (drop (i * s .nodes) (map (masked k) z))) (sym e) ∙ sym (level-nodes f i)
+  from-pieces F f ns e h i = rw (zero-add i) at (h i) ∙ ap (λ (z : List Order). take (s .nodes) (drop (i * s .nodes) (map (masked k) z))) (sym e) ∙ sym (level-nodes s os b u k pos low f i)
 
 -- two sets of orders that have the same partition there
 pub same-part : (s : Sizes) (os qs : List Order) → 0 < s .nodes → Up 1 os → Up 1 qs → (k f : ℕ) → 0 < k → k ≤ beta s → part s os k f ≡ part s qs k f →

@@ -17,7 +17,7 @@ use Rattle.skiplist.proofs.Laws.Edits.{head-part}
 use Rattle.levels.specs.declared.Spot.{Spot}
 use Rattle.levels.specs.Edit.{Pieces, Scans, Room}
 use Rattle.edits.specs.Change.{Setting, Between}
-use Rattle.edits.proofs.Laws.WayLevels.{as-pieces}
+use Rattle.levels.proofs.Laws.Growing.{as-pieces}
 use Rattle.table.proofs.Laws.MaskedKeys.{below-masked, up-masked, last-masked}
 use Rattle.edits.proofs.Laws.Settings.{front-up, front-below, key-pos, order-fine, some-nodes, first-low}
 

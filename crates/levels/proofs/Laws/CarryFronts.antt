@@ -1,17 +1,17 @@
 -- Rows of nodes in bytes: what copies and writes of whole nodes do to the nodes that a row begins with.
 use mathlib.Core.Path.{_≡_, refl, sym, ap, _∙_}
 use mathlib.Core.List.{List, [], _∷_, _++_, append-assoc, append-nil}
-use Prim.Native.Nat.{ℕ, zero, suc, _+_, _*_, _≤_}
+use Prim.Native.Nat.{ℕ, _+_, _*_, _≤_}
 use native.Mathlib.Omega.{arith}
-use lib.ListN.{length, take, drop, length-append, length-drop}
-use lib.Seq.{sets, take-all, take-nil, drop-nil, take-take, take-append-add, drop-append-add}
+use lib.ListN.{length, take, drop, take-append-drop, length-append, length-drop}
+use lib.Seq.{sets, take-at, drop-at, length-take-le, take-all}
 use Rattle.sizes.specs.Numbers.{big, rows}
 use Rattle.placement.specs.Chunks.{node-bytes, nodes-bytes}
 use Rattle.placement.specs.declared.Order.{Order}
 use Rattle.sizes.proofs.Laws.Parts.{sets-append}
-use Rattle.sizes.proofs.Laws.Numbers.{length-big, drop-take}
+use Rattle.sizes.proofs.Laws.Numbers.{length-big}
 use Rattle.placement.proofs.Laws.Cells.{take-sets-end}
-use Rattle.placement.proofs.Laws.Bridge.{node-long, nodes-long}
+use Rattle.placement.proofs.Laws.Bridge.{nodes-long}
 use Rattle.skiplist.specs.Lists.{masked}
 use borrow.Author.Tests.{eq-eqb, ne-eqb}
 use Rattle.levels.specs.Pour.{Front}
@@ -25,22 +25,6 @@ pub nodes-one : (o : Order) → nodes-bytes (o ∷ []) ≡ node-bytes o
 unfolding rows
 nodes-one o = append-nil (node-bytes o)
 
-pub nodes-take : (n : ℕ) (a : List Order) → take (12 * n) (nodes-bytes a) ≡ nodes-bytes (take n a)
-unfolding rows
-nodes-take zero a = refl
-nodes-take (suc n) [] = take-nil (12 * suc n)
-nodes-take (suc n) (o ∷ a) =
-    let e : 12 * suc n ≡ length (node-bytes o) + 12 * n = omega (arith, node-long o) in
-    rw (e, take-append-add, nodes-take n a)
-
-pub nodes-drop : (n : ℕ) (a : List Order) → drop (12 * n) (nodes-bytes a) ≡ nodes-bytes (drop n a)
-unfolding rows
-nodes-drop zero a = refl
-nodes-drop (suc n) [] = drop-nil (12 * suc n)
-nodes-drop (suc n) (o ∷ a) =
-    let e : 12 * suc n ≡ length (node-bytes o) + 12 * n = omega (arith, node-long o) in
-    rw (e, drop-append-add, nodes-drop n a)
-
 pub front-none : (cs : List ℕ) → Front cs []
 unfolding Front rows
 front-none cs = refl
@@ -49,13 +33,15 @@ front-none cs = refl
 pub front-part : (cs : List ℕ) (c : List Order) (a n : ℕ) → Front cs c → a + n ≤ length c → take (12 * n) (drop (12 * a) cs) ≡ nodes-bytes (take n (drop a c))
 unfolding Front
 front-part cs c a n f h =
-    let e : 12 * a + 12 * n ≡ 12 * (a + n) = omega arith in
-    let m : 12 * (a + n) ≤ 12 * length c = omega arith in
-    sym (drop-take (12 * a) (12 * n) cs)
-    ∙ ap (λ (z : ℕ). drop (12 * a) (take z cs)) e
-    ∙ ap (drop (12 * a)) (sym (take-take (12 * (a + n)) (12 * length c) cs m) ∙ ap (take (12 * (a + n))) f ∙ nodes-take (a + n) c)
-    ∙ nodes-drop a (take (a + n) c)
-    ∙ ap (λ (z : List Order). nodes-bytes z) (drop-take a n c)
+    let part = take n (drop a c) in
+    let past = nodes-bytes (drop n (drop a c)) ++ drop (12 * length c) cs in
+    let la : length (nodes-bytes (take a c)) ≡ 12 * a = nodes-long (take a c) ∙ rw (length-take-le a c (omega arith)) refl in
+    let ln : length (nodes-bytes part) ≡ 12 * n = nodes-long part ∙ rw (length-take-le n (drop a c) (omega (arith, length-drop a c))) refl in
+    let all : nodes-bytes c ≡ nodes-bytes (take a c) ++ (nodes-bytes part ++ nodes-bytes (drop n (drop a c))) =
+    rw (← nodes-append part (drop n (drop a c)), take-append-drop n (drop a c), ← nodes-append (take a c) (drop a c), take-append-drop a c) refl in
+    let row : cs ≡ nodes-bytes (take a c) ++ (nodes-bytes part ++ past) = sym (take-append-drop (12 * length c) cs) ∙ rw (f, all) (simp append-assoc) in
+    ap (λ (z : List ℕ). take (12 * n) (drop (12 * a) z)) row ∙ ap (take (12 * n)) (drop-at (nodes-bytes (take a c)) (nodes-bytes part ++ past) (12 * a) la)
+    ∙ take-at (nodes-bytes part) past (12 * n) ln
 
 pub front-first : (cs : List ℕ) (c : List Order) (n : ℕ) → Front cs c → n ≤ length c → take (12 * n) (drop 0 cs) ≡ nodes-bytes (take n c)
 front-first cs c n f h = front-part cs c 0 n f (omega arith)
@@ -73,7 +59,8 @@ front-more cs cs′ c d a vs f ea ev e h =
     rw z (ap (take (a + length vs)) e ∙ take-sets-end cs a vs (omega arith) ∙ rw (nodes-append, ← f, ← ea, ← ev))
 
 -- .. and those from node a on moved to its front
-pub front-moved : (cs cs′ : List ℕ) (c : List Order) (a n : ℕ) → Front cs c → a + n ≡ length c → cs′ ≡ sets cs 0 (take (12 * n) (drop (12 * a) cs)) → 12 * length c ≤ length cs → Front cs′ (drop a c)
+pub front-moved : (cs cs′ : List ℕ) (c : List Order) (a n : ℕ) → Front cs c → a + n ≡ length c → cs′ ≡ sets cs 0 (take (12 * n) (drop (12 * a) cs))
+    → 12 * length c ≤ length cs → Front cs′ (drop a c)
 front-moved cs cs′ c a n f e ec h = front-more cs cs′ [] (drop a c) 0 _ (front-none cs) refl (front-rest cs c a n f e) ec (omega (arith, length-drop a c))
 
 -- AS `write_node` ASKS

@@ -52,7 +52,8 @@ module _ (y o : Order) (qs : List Order) where
   pub chunk-changed : (b i r : ℕ) (ps : List Order) → i * b + r ≡ length ps → r < b
       → take b (drop (i * b) (ps ++ o ∷ qs)) ≡ take r (take b (drop (i * b) (ps ++ y ∷ qs))) ++ o ∷ drop (suc r) (take b (drop (i * b) (ps ++ y ∷ qs)))
   chunk-changed b i r ps e h =
-      rw (drop-append-le (i * b) ps (y ∷ qs) (omega arith), drop-append-le (i * b) ps (o ∷ qs) (omega arith)) (take-changed (drop (i * b) ps) b r (length-drop (i * b) ps ∙ omega arith) h)
+      rw (drop-append-le (i * b) ps (y ∷ qs) (omega arith), drop-append-le (i * b) ps (o ∷ qs) (omega arith))
+      (take-changed (drop (i * b) ps) b r (length-drop (i * b) ps ∙ omega arith) h)
 
 -- BYTES in the middle of a list
 pub sets-middle : (p m q v : List ℕ) (a : ℕ) → length p ≡ a → length v ≡ length m → sets (p ++ m ++ q) a v ≡ p ++ v ++ q
@@ -94,7 +95,9 @@ module _ (s : Sizes) (f m : ℕ) (o : Order) (bs : List ℕ) (two : 2 ≤ s .nod
 
   pub replace-none : x ≡ Nothing → Replaces s f m o bs bs
   unfolding Replaces
-  replace-none e F n hd ps y qs t fo key em few p = let u = place F ps y qs em p in absurd (omega (arith, ap length (none-found s F n hd bs t (at 1 f i) (omega arith) x ex e)))
+  replace-none e F n hd ps y qs t fo key em few p =
+      let u = place F ps y qs em p in
+      absurd (omega (arith, ap length (none-found s F n hd bs t (at 1 f i) (omega arith) x ex e)))
 
   module _ (j : ℕ) (e : x ≡ At j) (a : ℕ) (ea : a ≡ 53 + j * block-long s) (bs₁ bs₂ : List ℕ) (e₁ : bs₁ ≡ sets bs (a + (8 + 12 * r) + 4) (big 4 (o .total)))
       (e₂ : bs₂ ≡ sets bs₁ (a + (8 + 12 * r) + 8) (big 4 (o .displayed))) where
@@ -129,7 +132,8 @@ module _ (s : Sizes) (f m : ℕ) (o : Order) (bs : List ℕ) (two : 2 ≤ s .nod
           let la : length (take r (F 1 f i)) ≡ r = length-take-le r (F 1 f i) (omega arith) in
           let hb = head-bytes (at 1 f i) (length (F 1 f i)) in
           let zs : List ℕ = replicate (block-long s - 8 - 12 * length (F 1 f i)) 0 in
-          ap (λ (z : List ℕ). sets z (8 + 12 * r + 4) quantities) (v .is ∙ sym (block-written s (at 1 f i) (F 1 f i) (v .held .nodes)) ∙ ap (λ (z : List Order). hb ++ nodes-bytes z ++ zs) as-was)
+          ap (λ (z : List ℕ). sets z (8 + 12 * r + 4) quantities)
+          (v .is ∙ sym (block-written s (at 1 f i) (F 1 f i) (v .held .nodes)) ∙ ap (λ (z : List Order). hb ++ nodes-bytes z ++ zs) as-was)
           ∙ node-changed hb zs (take r (F 1 f i)) (drop (suc r) (F 1 f i)) y o key (8 + 12 * r + 4) (omega (arith, length-head (at 1 f i) (length (F 1 f i))))
 
       bytes-are : bs₂ ≡ put-block (block-long s) bs j (block-with (block-long s) (at 1 f i) (length now) (nodes-bytes now))

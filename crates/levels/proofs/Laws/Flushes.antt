@@ -66,8 +66,9 @@ module _ (s : Sizes) (w : Label) (n : ℕ) (bs cs : List ℕ) where
       record {
         full = suc m;
         table =
-            insert-keeps s F m hd bs t w (take n c) (record { level = q .0 .level; first = q .0 .first; number = q .0 .number; fine = fines-take n c fine; nodes = omega arith }) gone some (q .1)
-            r bs′ er (eb ∙ rw (front-first cs c n f k, l));
+            insert-keeps s F m hd bs t w (take n c)
+            (record { level = q .0 .level; first = q .0 .first; number = q .0 .number; fine = fines-take n c fine; nodes = omega arith })
+            gone some (q .1) r bs′ er (eb ∙ rw (front-first cs c n f k, l));
         count = omega (arith, one-some (take n c) some);
       }
 

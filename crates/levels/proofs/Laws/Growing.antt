@@ -113,7 +113,8 @@ module _ (s : Sizes) (bs : List ℕ) (y : ℕ) (xs zs : List Order) (w : Way s b
     there : Pieces (map-of (chunks s (xs ++ zs))) (s .nodes) k f 0 (map (masked k) (head-part s k xs) ++ map (masked k) (tail-part s k zs))
     there =
         rw map-append at
-        (as-pieces s (xs ++ zs) (some-nodes s (w .good)) rising k lo hi (map-of (chunks s (xs ++ zs))) f (head-part s k xs ++ tail-part s k zs) (ap (part s (xs ++ zs) k) ef ∙ part-at s k xs zs rising) (λ i. refl))
+        (as-pieces s (xs ++ zs) (some-nodes s (w .good)) rising k lo hi (map-of (chunks s (xs ++ zs))) f (head-part s k xs ++ tail-part s k zs)
+        (ap (part s (xs ++ zs) k) ef ∙ part-at s k xs zs rising) (λ i. refl))
 
     kept : Table s (map-of (chunks s (xs ++ zs))) (length (chunks s (xs ++ zs))) (header s (length (xs ++ zs))) bs
     kept =

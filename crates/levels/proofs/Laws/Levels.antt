@@ -27,11 +27,11 @@ use Rattle.levels.proofs.Laws.Replacing.{Split, split-at, behind-held, 
 -- SMALL FACTS
 pub fine-masked : (k : ℕ) (o : Order) → Fine o → Fine (masked k o)
 unfolding masked
-fine-masked k o f = record { key = f .key; total = go (eqb k 1) (o .total) (f .total); displayed = go (eqb k 1) (o .displayed) (f .displayed) }
+fine-masked k o f = go (eqb k 1)
   where
-    go : (t : Bool) (v : ℕ) → v < 4294967296 → cond t v 0 < 4294967296
-    go true v h = h
-    go false v h = omega arith
+    go : (t : Bool) → Fine (record { key = o .key; total = cond t (o .total) 0; displayed = cond t (o .displayed) 0 })
+    go true = f
+    go false = record { key = f .key; total = omega arith; displayed = omega arith }
 
 -- the number of a chunk, and of those after it, fit
 module _ (b m w i count : ℕ) (two : 2 ≤ b) (hm : m < 4294967296) (hw : w < 4294967296) (ei : i ≡ m / b) where
@@ -49,13 +49,15 @@ module _ (ch ca₀ ca₁ ca₂ : List ℕ) (c : List Order) (o : Order) (n r : �
   carry-before : ca₁ ≡ sets ca₀ 0 (take (12 * r) (drop 0 ch)) → Front ca₁ (take r c)
   carry-before e = front-more ca₀ ca₁ [] (take r c) 0 _ (front-none ca₀) refl (front-first ch c r fr (omega arith)) e (omega (arith, before-long))
 
-  pub carry-put : (ca₃ : List ℕ) → ca₁ ≡ sets ca₀ 0 (take (12 * r) (drop 0 ch)) → ca₂ ≡ sets ca₁ (12 * r) (node-bytes o) → ca₃ ≡ sets ca₂ (12 * (r + 1)) (take (12 * (n - r)) (drop (12 * r) ch))
+  pub carry-put : (ca₃ : List ℕ) → ca₁ ≡ sets ca₀ 0 (take (12 * r) (drop 0 ch)) → ca₂ ≡ sets ca₁ (12 * r) (node-bytes o)
+      → ca₃ ≡ sets ca₂ (12 * (r + 1)) (take (12 * (n - r)) (drop (12 * r) ch))
       → Front ca₃ (take r c ++ o ∷ [] ++ drop r c)
   carry-put ca₃ e₁ e₂ e₃ =
       let l₁ : length ca₁ ≡ length ca₀ = ap length e₁ ∙ simp length-sets in
       let l₂ : length ca₂ ≡ length ca₁ = ap length e₂ ∙ simp length-sets in
       let f₂ = front-more ca₁ ca₂ (take r c) (o ∷ []) (12 * r) _ (carry-before e₁) (omega (arith, before-long)) (sym (nodes-one o)) e₂ (omega arith) in
-      front-more ca₂ ca₃ (take r c ++ o ∷ []) (drop r c) (12 * (r + 1)) _ f₂ (omega (arith, before-long, length-append (take r c) (o ∷ []))) (front-rest ch c r (n - r) fr (omega arith)) e₃
+      front-more ca₂ ca₃ (take r c ++ o ∷ []) (drop r c) (12 * (r + 1)) _ f₂ (omega (arith, before-long, length-append (take r c) (o ∷ [])))
+      (front-rest ch c r (n - r) fr (omega arith)) e₃
       (omega (arith, length-drop r c))
 
   -- .. of a put that splits
@@ -66,10 +68,12 @@ module _ (ch ca₀ ca₁ ca₂ : List ℕ) (c : List Order) (o : Order) (n r : �
       front-more ca₁ ca₂ (o ∷ []) (drop r c) 12 _ f₁ refl (front-rest ch c r (n - r) fr (omega arith)) e₂ (omega (arith, length-drop r c))
 
   -- .. of a cancel
-  pub carry-cancel : r < n → ca₁ ≡ sets ca₀ 0 (take (12 * r) (drop 0 ch)) → ca₂ ≡ sets ca₁ (12 * r) (take (12 * (n - r - 1)) (drop (12 * (r + 1)) ch)) → Front ca₂ (take r c ++ drop (suc r) c)
+  pub carry-cancel : r < n → ca₁ ≡ sets ca₀ 0 (take (12 * r) (drop 0 ch)) → ca₂ ≡ sets ca₁ (12 * r) (take (12 * (n - r - 1)) (drop (12 * (r + 1)) ch))
+      → Front ca₂ (take r c ++ drop (suc r) c)
   carry-cancel h e₁ e₂ =
       let l₁ : length ca₁ ≡ length ca₀ = ap length e₁ ∙ simp length-sets in
-      front-more ca₁ ca₂ (take r c) (drop (suc r) c) (12 * r) _ (carry-before e₁) (omega (arith, before-long)) (front-rest ch c (suc r) (n - r - 1) fr (omega arith)) (rw add-one at e₂)
+      front-more ca₁ ca₂ (take r c) (drop (suc r) c) (12 * r) _ (carry-before e₁) (omega (arith, before-long)) (front-rest ch c (suc r) (n - r - 1) fr (omega arith))
+      (rw add-one at e₂)
       (omega (arith, length-drop (suc r) c))
 
 -- THE CHUNK WHERE A KEY COMES, in a row of n nodes
@@ -81,7 +85,8 @@ pub record Chunk-read (s : Sizes) (F : Map) (k f i r n : ℕ) (ch : List ℕ) (p
 
 module _ (s : Sizes) (k f : ℕ) (x : Spot) (bs : List ℕ) (two : 2 ≤ s .nodes) (i r n : ℕ) (ei : i ≡ x .below / s .nodes) (er : r ≡ x .below % s .nodes)
     (ch₀ ch : List ℕ) (rd : Reads s (at k f i) 0 bs ch₀ ch n) where
-  pub chunk-read : (F : Map) (m : ℕ) (hd : List ℕ) (ps qs : List Order) (o : Order) → Table s F m hd bs → Room s k f ps qs x o → Pieces F (s .nodes) k f 0 (ps ++ qs) → Chunk-read s F k f i r n ch ps qs
+  pub chunk-read : (F : Map) (m : ℕ) (hd : List ℕ) (ps qs : List Order) (o : Order) → Table s F m hd bs → Room s k f ps qs x o → Pieces F (s .nodes) k f 0 (ps ++ qs)
+      → Chunk-read s F k f i r n ch ps qs
   unfolding Reads
   chunk-read F m hd ps qs o t rm p =
       let u = rd F m hd [] t (rm .level) (front-none ch₀) refl in
@@ -98,8 +103,10 @@ module _ (s : Sizes) (k f : ℕ) (x : Spot) (bs : List ℕ) (two : 2 ≤ s .node
     unfolding Puts-in
     put-in-short h F m hd ps qs t rm p room = let u = chunk-read F m hd ps qs o t rm p in absurd (omega arith)
 
-    pub put-in-made : (count : ℕ) → count ≡ pieces (s .nodes) (x .size) - (i + 1) → r ≤ n → (ca₀ ca₁ ca₂ ca₃ : List ℕ) → ca₁ ≡ sets ca₀ 0 (take (12 * r) (drop 0 ch)) → ca₂ ≡ sets ca₁ (12 * r) (node-bytes (masked k o))
-        → ca₃ ≡ sets ca₂ (12 * (r + 1)) (take (12 * (n - r)) (drop (12 * r) ch)) → length ca₀ ≡ 780 → (bs₂ : List ℕ) → Shifts s k f i count (n + 1) bs bs₂ ca₃ → Puts-in s k f x o bs bs₂
+    pub put-in-made : (count : ℕ) → count ≡ pieces (s .nodes) (x .size) - (i + 1) → r ≤ n → (ca₀ ca₁ ca₂ ca₃ : List ℕ) → ca₁ ≡ sets ca₀ 0 (take (12 * r) (drop 0 ch))
+        → ca₂ ≡ sets ca₁ (12 * r) (node-bytes (masked k o))
+        → ca₃ ≡ sets ca₂ (12 * (r + 1)) (take (12 * (n - r)) (drop (12 * r) ch)) → length ca₀ ≡ 780 → (bs₂ : List ℕ) → Shifts s k f i count (n + 1) bs bs₂ ca₃
+        → Puts-in s k f x o bs bs₂
     unfolding Puts-in
     put-in-made count ec h ca₀ ca₁ ca₂ ca₃ e₁ e₂ e₃ long bs₂ sf F m hd ps qs t rm p room =
         let u = chunk-read F m hd ps qs o t rm p in
@@ -107,7 +114,8 @@ module _ (s : Sizes) (k f : ℕ) (x : Spot) (bs : List ℕ) (two : 2 ≤ s .node
         let fr = carry-put ch ca₀ ca₁ ca₂ now (masked k o) n r (u .front) (u .size) h (omega arith) (omega arith) ca₃ e₁ e₂ e₃ in
         let c = take r now ++ masked k o ∷ [] ++ drop r now in
         let cl : n + 1 ≡ length c = simp (length-append, length-drop, length-take) (omega arith) in
-        let fine = fines-append (take r now ++ masked k o ∷ []) (drop r now) (fines-append (take r now) (masked k o ∷ []) (fines-take r now (u .fine)) (fine-masked k o (rm .fine), tt)) (fines-drop r now (u .fine)) in
+        let fine = fines-append (take r now ++ masked k o ∷ []) (drop r now)
+        (fines-append (take r now) (masked k o ∷ []) (fines-take r now (u .fine)) (fine-masked k o (rm .fine), tt)) (fines-drop r now (u .fine)) in
         let is : c ++ drop (suc i * s .nodes) (ps ++ qs) ≡ drop (i * s .nodes) (ps ++ masked k o ∷ qs) =
         append-assoc (take r now ++ masked k o ∷ []) (drop r now) (drop (suc i * s .nodes) (ps ++ qs))
         ∙ rw (u .split .before, u .split .behind, append-snoc) (sym (drop-append-le (i * s .nodes) ps (masked k o ∷ qs) (omega arith))) in
@@ -122,7 +130,8 @@ module _ (s : Sizes) (k f : ℕ) (x : Spot) (bs : List ℕ) (two : 2 ≤ s .node
     cancel-in-short h F m hd ps y qs t rm p some = let u = chunk-read F m hd ps (y ∷ qs) y t rm p in absurd (omega arith)
 
     pub cancel-in-made : (count : ℕ) → count ≡ pieces (s .nodes) (x .size) - (i + 1) → r < n → (ca₀ ca₁ ca₂ : List ℕ) → ca₁ ≡ sets ca₀ 0 (take (12 * r) (drop 0 ch))
-        → ca₂ ≡ sets ca₁ (12 * r) (take (12 * (n - r - 1)) (drop (12 * (r + 1)) ch)) → length ca₀ ≡ 780 → (bs₂ : List ℕ) → Shifts s k f i count (n - 1) bs bs₂ ca₂ → Cancels-in s k f x bs bs₂
+        → ca₂ ≡ sets ca₁ (12 * r) (take (12 * (n - r - 1)) (drop (12 * (r + 1)) ch)) → length ca₀ ≡ 780 → (bs₂ : List ℕ) → Shifts s k f i count (n - 1) bs bs₂ ca₂
+        → Cancels-in s k f x bs bs₂
     unfolding Cancels-in
     cancel-in-made count ec h ca₀ ca₁ ca₂ e₁ e₂ long bs₂ sf F m hd ps y qs t rm p some =
         let u = chunk-read F m hd ps (y ∷ qs) y t rm p in
@@ -136,5 +145,6 @@ module _ (s : Sizes) (k f : ℕ) (x : Spot) (bs : List ℕ) (two : 2 ≤ s .node
         ∙ rw (u .split .before, behind-held (s .nodes) i r ps y qs now (u .split)) (sym (drop-append-le (i * s .nodes) ps qs (omega arith))) in
         let ly : length (ps ++ y ∷ qs) ≡ suc (length (ps ++ qs)) = length-append ps (y ∷ qs) ∙ omega (arith, length-append ps qs) in
         let fewer = pieces-up-to (s .nodes) (length (ps ++ qs)) (length (ps ++ y ∷ qs)) (omega arith) (omega arith) in
-        change-in s F m hd bs k f i ps (y ∷ qs) qs c t two (rm .level) (rm .first) p (omega arith) (omega (arith, rm .few)) fine (omega arith) is (omega (arith, count-most s F m hd bs t))
+        change-in s F m hd bs k f i ps (y ∷ qs) qs c t two (rm .level) (rm .first) p (omega arith) (omega (arith, rm .few)) fine (omega arith) is
+        (omega (arith, count-most s F m hd bs t))
         count (ec ∙ rw (rm .size) refl) ca₂ fr (n - 1) cl bs₂ sf

@@ -10,7 +10,8 @@ use Rattle.placement.proofs.Laws.Labels.{Label-is, is, isnt, label-is}
 use Rattle.levels.specs.Pour.{at}
 
 -- by cases: the label itself, or another
-with-each : (w : Label) (ns : List Order) (F : Map) (l h i : ℕ) (x : List Order) → (label l h i ≡ w → ns ≡ x) → ((label l h i ≡ w → ⊥) → F l h i ≡ x) → with-nodes w ns F l h i ≡ x
+with-each : (w : Label) (ns : List Order) (F : Map) (l h i : ℕ) (x : List Order) → (label l h i ≡ w → ns ≡ x) → ((label l h i ≡ w → ⊥) → F l h i ≡ x)
+    → with-nodes w ns F l h i ≡ x
 unfolding with-chunk
 with-each w ns F l h i x a b = go (label-is w (label l h i))
   where

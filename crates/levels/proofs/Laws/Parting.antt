@@ -61,7 +61,8 @@ module _ (s : Sizes) (F : Map) (m : ℕ) (hd bs : List ℕ) (k f g i r n : ℕ) 
       → Pours s k f (i + 1) count g 0 (n - r + 1) bs₁ bs₂ cs → Splits s F m hd bs₂ k f g ps (o ∷ qs) (pieces (s .nodes) (length (ps ++ qs)))
   unfolding Pieces Pours Elsewhere-both
   split-made count ec cs fr bs₂ pr =
-      let q = pr (with-nodes (at k f i) (take r (F k f i)) F) (st .full) hd (o ∷ drop r (F k f i)) (drop (suc i * s .nodes) (ps ++ qs)) (st .table) fr (omega (arith, length-drop r (F k f i))) (record {
+      let q = pr (with-nodes (at k f i) (take r (F k f i)) F) (st .full) hd (o ∷ drop r (F k f i)) (drop (suc i * s .nodes) (ps ++ qs)) (st .table) fr
+      (omega (arith, length-drop r (F k f i))) (record {
         level = pos;
         first = first;
         fine = fine;
@@ -83,7 +84,8 @@ module _ (s : Sizes) (F : Map) (m : ℕ) (hd bs : List ℕ) (k f g i r n : ℕ) 
             (λ j h. q .elsewhere k f j (λ a b d. ne b) (λ a b d. omega arith)
             ∙ with-number F _ (λ z. u .split .before ∙ sym (last-chunk (s .nodes) i r ps (u .split .sum) (u .split .less)) ∙ chunk-same (s .nodes) ps (sym z))
             (λ z. pieces-at F (s .nodes) k f (ps ++ qs) j p ∙ chunk-low (s .nodes) j i ps qs (omega (arith, z)) (omega arith)))
-            (λ j. ap (λ (z : ℕ). q .map k f (z + j)) (sym (add-one i)) ∙ q .gone j ∙ rw (drop-past (suc i * s .nodes) ps (past-last (s .nodes) i r ps (u .split .sum) (u .split .less) (suc i) (omega arith))) refl);
+            (λ j. ap (λ (z : ℕ). q .map k f (z + j)) (sym (add-one i)) ∙ q .gone j
+            ∙ rw (drop-past (suc i * s .nodes) ps (past-last (s .nodes) i r ps (u .split .sum) (u .split .less) (suc i) (omega arith))) refl);
         right-there = subst (Pieces (q .map) (s .nodes) k g 0) is (q .there);
         elsewhere = λ l h j a b. q .elsewhere l h j (λ u v w. b u v) (λ u v w. a u v) ∙ with-other F (λ u v w. a u v) _;
         count = omega (arith, q .count, new-pieces, old-pieces, kept-pieces, st .count);
@@ -137,29 +139,37 @@ module _ (s : Sizes) (F : Map) (m : ℕ) (hd bs : List ℕ) (k f g i r : ℕ) (p
       let z : suc (length qs) - s .nodes ≡ length rest = omega (arith, length-drop (suc 0 * s .nodes) (y ∷ qs)) in
       pieces-full (s .nodes) (suc (length qs)) some (omega arith) ∙ rw z (omega (arith, one-some second (not-none second (omega (arith, second-long)))))
 
-  pub join-made : s .nodes ≤ 32 → (count : ℕ) → count ≡ pieces (s .nodes) (suc (length qs)) - (0 + 1) → length ca ≡ 768 → (cs : List ℕ) → cs ≡ sets ca (12 * m₁) (take (12 * (m₂ - 1)) (drop 12 ch))
-      → (bs₃ : List ℕ) → Pours s k g 1 count f i (m₁ + m₂ - 1) bs₂ bs₃ cs → Splits s F m hd bs₃ k f g (ps ++ qs) [] (pieces (s .nodes) (length ps) + pieces (s .nodes) (suc (length qs)))
+  pub join-made : s .nodes ≤ 32 → (count : ℕ) → count ≡ pieces (s .nodes) (suc (length qs)) - (0 + 1) → length ca ≡ 768 → (cs : List ℕ)
+      → cs ≡ sets ca (12 * m₁) (take (12 * (m₂ - 1)) (drop 12 ch)) → (bs₃ : List ℕ) → Pours s k g 1 count f i (m₁ + m₂ - 1) bs₂ bs₃ cs
+      → Splits s F m hd bs₃ k f g (ps ++ qs) [] (pieces (s .nodes) (length ps) + pieces (s .nodes) (suc (length qs)))
   unfolding Pieces Pours Elsewhere-both
   join-made max count ec long cs ecs bs₃ pr =
       let l₁ = ap length first-is ∙ length-drop (i * s .nodes) ps in
       let l₂ = second-long in
       let ld = length-drop 1 second in
       let lc = length-append (F k f i) (drop 1 second) in
-      let fr = front-more ca cs (F k f i) (drop 1 second) (12 * m₁) _ (tk₁ .front) (omega (arith, tk₁ .size)) (front-rest ch second 1 (m₂ - 1) (tk₂ .front) (omega (arith, tk₂ .size))) ecs (omega (arith, tk₁ .size)) in
+      let fr = front-more ca cs (F k f i) (drop 1 second) (12 * m₁) _ (tk₁ .front) (omega (arith, tk₁ .size))
+      (front-rest ch second 1 (m₂ - 1) (tk₂ .front) (omega (arith, tk₂ .size))) ecs (omega (arith, tk₁ .size)) in
       let q = pr (cleared (at k g 0) (cleared (at k f i) F)) (tk₂ .full) hd carry rest (tk₂ .table) fr (omega (arith, tk₁ .size, tk₂ .size)) (record {
         level = pos;
         first = first;
-        fine = fines-append (F k f i) (drop 1 second) (fines-there s F m hd bs k f i t) (fines-drop 1 second (fines-there s (cleared (at k f i) F) (tk₁ .full) hd bs₁ k g 0 (tk₁ .table)));
+        fine =
+            fines-append (F k f i) (drop 1 second) (fines-there s F m hd bs k f i t)
+            (fines-drop 1 second (fines-there s (cleared (at k f i) F) (tk₁ .full) hd bs₁ k g 0 (tk₁ .table)));
         few = omega (arith, joined-pieces, pieces-half (s .nodes) (length (ps ++ qs)) two, length-append ps qs, length-append ps (y ∷ qs));
         some = some;
         short = omega arith;
         chunks = ec ∙ rest-chunks (s .nodes) 0 (y ∷ qs) some (omega arith);
-        source = λ j. cleared-other (cleared (at k f i) F) (λ a b d. omega arith) ∙ cleared-other F (λ a b d. ne (sym b)) ∙ pieces-from F (s .nodes) k g (y ∷ qs) (suc 0) p′ j;
+        source = λ j.
+            cleared-other (cleared (at k f i) F) (λ a b d. omega arith) ∙ cleared-other F (λ a b d. ne (sym b)) ∙ pieces-from F (s .nodes) k g (y ∷ qs) (suc 0) p′ j;
         apart = λ z. ne (sym z);
         target = λ j a.
             cleared-other (cleared (at k f i) F) (λ u v w. ne v)
-            ∙ cleared-number F (λ z. refl) (λ z. pieces-at F (s .nodes) k f ps j p ∙ take-past (s .nodes) (j * s .nodes) ps (past-last (s .nodes) i r ps e less j (omega (arith, z))));
-        room = omega (arith, joined-pieces, first-pieces, second-pieces, tk₁ .count, tk₂ .count, count-most s F m hd bs t, ap (pieces (s .nodes)) (length-append ps qs), pieces-cut (s .nodes) (length ps) (length qs) some filled);
+            ∙ cleared-number F (λ z. refl)
+            (λ z. pieces-at F (s .nodes) k f ps j p ∙ take-past (s .nodes) (j * s .nodes) ps (past-last (s .nodes) i r ps e less j (omega (arith, z))));
+        room =
+            let cut = pieces-cut (s .nodes) (length ps) (length qs) some filled in
+            omega (arith, joined-pieces, first-pieces, second-pieces, tk₁ .count, tk₂ .count, count-most s F m hd bs t, ap (pieces (s .nodes)) (length-append ps qs));
       }) in
       record {
         map = q .map;
@@ -172,9 +182,11 @@ module _ (s : Sizes) (F : Map) (m : ℕ) (hd bs : List ℕ) (k f g i r : ℕ) (p
             (subst (Pieces (q .map) (s .nodes) k f i) joined (q .there));
         right-there =
             pieces-join (q .map) (s .nodes) k g [] 1
-            (λ j h. q .elsewhere k g j (λ a b d. ne (sym b)) (λ a b d. omega arith) ∙ cleared-number (cleared (at k f i) F) (λ z. refl) (λ z. absurd (z (omega arith))) ∙ sym (rw (drop-nil, take-nil)))
+            (λ j h. q .elsewhere k g j (λ a b d. ne (sym b)) (λ a b d. omega arith) ∙ cleared-number (cleared (at k f i) F) (λ z. refl) (λ z. absurd (z (omega arith)))
+            ∙ sym (rw (drop-nil, take-nil)))
             (rw (drop-nil {A = Order} (1 * s .nodes)) (q .gone));
-        elsewhere = λ l h j a b. q .elsewhere l h j (λ u v w. a u v) (λ u v w. b u v) ∙ cleared-other (cleared (at k f i) F) (λ u v w. b u v) ∙ cleared-other F (λ u v w. a u v);
+        elsewhere = λ l h j a b.
+            q .elsewhere l h j (λ u v w. a u v) (λ u v w. b u v) ∙ cleared-other (cleared (at k f i) F) (λ u v w. b u v) ∙ cleared-other F (λ u v w. a u v);
         count = omega (arith, q .count, joined-pieces, first-pieces, second-pieces, tk₁ .count, tk₂ .count, pieces-none (s .nodes));
       }
 
@@ -197,7 +209,8 @@ module _ (s : Sizes) (k f : ℕ) (x : Spot) (bs : List ℕ) (two : 2 ≤ s .node
         label = λ g. record { level = rm .level; first = rm .first; number = omega (arith, rm .few, length-append ps qs) };
         room = λ g z. absurd (omega (arith, ap length z));
       }) in
-      split-made s F m hd bs k f (o .key) i r n ch ps qs (masked k o) t two (rm .level) (rm .fine .key) ne p p′ (rm .few) u (fine-masked k o (rm .fine), fines-drop r (F k f i) (u .fine)) room bs₁ kept
+      split-made s F m hd bs k f (o .key) i r n ch ps qs (masked k o) t two (rm .level) (rm .fine .key) ne p p′ (rm .few) u
+      (fine-masked k o (rm .fine), fines-drop r (F k f i) (u .fine)) room bs₁ kept
       count (ec ∙ rw (rm .size) refl) ca₂ (carry-split ch ca₀ ca₁ ca₂ (F k f i) (masked k o) n r (u .front) (u .size) h (omega arith) (omega arith) e₁ e₂) bs₂ pr
 
 -- AS `cancel_below` ASKS
@@ -210,11 +223,12 @@ module _ (s : Sizes) (k f g m w : ℕ) (bs : List ℕ) (two : 2 ≤ s .nodes) (m
       let u₂ = tk₂ (cleared (at k f i) F) (u₁ .full) hd [] (u₁ .table) pos (front-none ch₀) refl in
       absurd (omega (arith, u₂ .size, ap length (second-is s F k f g i (y ∷ qs) ne p′), length-take (s .nodes) (y ∷ qs)))
 
-  pub cancel-below-made : count ≡ pieces (s .nodes) w - (0 + 1) → length ca₁ ≡ 768 → (ca₂ : List ℕ) → ca₂ ≡ sets ca₁ (12 * r) (take (12 * (n - 1)) (drop 12 ch)) → (bs₃ : List ℕ)
-      → Pours s k g 1 count f i (r + n - 1) bs₂ bs₃ ca₂ → Cancels-below s k f g m w bs bs₃
+  pub cancel-below-made : count ≡ pieces (s .nodes) w - (0 + 1) → length ca₁ ≡ 768 → (ca₂ : List ℕ) → ca₂ ≡ sets ca₁ (12 * r) (take (12 * (n - 1)) (drop 12 ch))
+      → (bs₃ : List ℕ) → Pours s k g 1 count f i (r + n - 1) bs₂ bs₃ ca₂ → Cancels-below s k f g m w bs bs₃
   unfolding Cancels-below Takes
   cancel-below-made ec long ca₂ e₂ bs₃ pr F a hd ps y qs t pos first ne few em ew some p p′ =
       let u₁ = tk₁ F a hd [] t pos (front-none ca₀) refl in
       let u₂ = tk₂ (cleared (at k f i) F) (u₁ .full) hd [] (u₁ .table) pos (front-none ch₀) refl in
-      join-made s F a hd bs k f g i (m % s .nodes) ps y qs t two pos first ne p p′ few some (rw (ei, ← em) (div-add-mod' m (s .nodes))) (mod-lt m (omega arith)) bs₁ ca₁ r u₁ bs₂ ch n u₂
+      join-made s F a hd bs k f g i (m % s .nodes) ps y qs t two pos first ne p p′ few some (rw (ei, ← em) (div-add-mod' m (s .nodes)))
+      (mod-lt m (omega arith)) bs₁ ca₁ r u₁ bs₂ ch n u₂
       max count (ec ∙ rw ew refl) long ca₂ e₂ bs₃ pr

@@ -125,7 +125,8 @@ module _ (s : Sizes) (F : Map) (m : ℕ) (hd : List ℕ) (k f j count g q : ℕ)
       pouring-can e =
           let a = length (p .carry) in
           let r = length (drop (t * s .nodes) rest) in
-          let u = pouring-room h (omega (arith, pieces-full (s .nodes) (a + r) (pb .some) (omega (arith, pb .some)), pieces-up-to (s .nodes) r (a + r - s .nodes) (pb .some) (omega arith))) in
+          let full = pieces-full (s .nodes) (a + r) (pb .some) (omega (arith, pb .some)) in
+          let u = pouring-room h (omega (arith, pieces-up-to (s .nodes) r (a + r - s .nodes) (pb .some) (omega arith))) in
           (u .0, p .empty v (omega arith), u .1)
 
       module _ (r : ℕ) (bs′ cs′ : List ℕ) where
@@ -171,7 +172,8 @@ module _ (s : Sizes) (F : Map) (m : ℕ) (hd : List ℕ) (k f j count g q : ℕ)
               todo =
                   sym (drop-append-le (s .nodes) (p .carry) (drop (t * s .nodes) rest) a) ∙ ap (drop (s .nodes)) (p .todo) ∙ drop-next (s .nodes) (p .done) (c ++ rest);
               filled = omega (arith, whole-long, suc-mul (p .done) (s .nodes), pb .some);
-              written = λ i x. with-number (p .map) _ (λ z. chunk-now a ∙ chunk-same (s .nodes) (c ++ rest) (omega (arith, p .next))) (λ z. p .written i (omega (arith, z, p .next)));
+              written = λ i x.
+                  with-number (p .map) _ (λ z. chunk-now a ∙ chunk-same (s .nodes) (c ++ rest) (omega (arith, p .next))) (λ z. p .written i (omega (arith, z, p .next)));
               empty = λ i x. with-other (p .map) (λ a b d. omega arith) _ ∙ p .empty i (omega arith);
               source = λ i x. with-other (p .map) (λ a b d. pb .apart b) _ ∙ p .source i x;
               gone = λ i x. with-other (p .map) (λ a b d. pb .apart b) _ ∙ p .gone i x;
@@ -191,7 +193,9 @@ module _ (s : Sizes) (F : Map) (m : ℕ) (hd : List ℕ) (k f j count g q : ℕ)
       carry-long = rw none-left (omega arith)
 
       pub last-can : t ≤ count → 0 < left → Writable (at k g v) × (p .full < s .blocks)
-      last-can h pos = pouring-room h (rw (carry-long, none-left) (omega (arith, pieces-none (s .nodes), pieces-pos (s .nodes) (length (p .carry)) (pb .some) (omega (arith, p .size)))))
+      last-can h pos =
+          let some = pieces-pos (s .nodes) (length (p .carry)) (pb .some) (omega (arith, p .size)) in
+          pouring-room h (rw (carry-long, none-left) (omega (arith, pieces-none (s .nodes))))
 
       module _ (inside : t ≤ count) (short : left < s .nodes) (bs′ : List ℕ) (w : Put s (p .map) (p .full) hd (at k g v) (p .carry) bs′) where
         carried : p .carry ≡ drop (p .done * s .nodes) (c ++ rest)
@@ -266,7 +270,8 @@ module _ (s : Sizes) (k f j count g q : ℕ) where
 
   module _ (v₀ left₀ : ℕ) (bs₀ cs₀ : List ℕ) (t v left : ℕ) (bs cs : List ℕ) (i : Turning s k f j count g q v₀ left₀ bs₀ cs₀ t v left bs cs) where
     pub next-fits : (r : ℕ) → q + 1 + count < 4294967296 → 2 ≤ s .nodes → t < count → r ≤ left + s .nodes → Fits w32 (v + r / s .nodes)
-    next-fits r room two h most = fits-under w32 (v + r / s .nodes) 4294967296 (omega (arith, i .next, i .short, quotient-most (s .nodes) r (omega arith) (omega (arith, i .short)))) tt
+    next-fits r room two h most =
+        fits-under w32 (v + r / s .nodes) 4294967296 (omega (arith, i .next, i .short, quotient-most (s .nodes) r (omega arith) (omega (arith, i .short)))) tt
 
     pour-turn : t < count → (bs₁ cs₁ : List ℕ) (r : ℕ) → Takes s (at k f (j + t)) left bs bs₁ cs cs₁ r → (bs₂ cs₂ : List ℕ) (r₂ : ℕ) → Flushes s (at k g v) r bs₁ bs₂ cs₁ cs₂ r₂
         → Pours-on s k f j count g q v₀ left₀ bs₀ cs₀ (t + 1) (v + r / s .nodes) r₂ bs₂ cs₂

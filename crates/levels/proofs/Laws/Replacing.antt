@@ -85,7 +85,8 @@ module _ (s : Sizes) (F : Map) (n : ℕ) (hd bs : List ℕ) (k f i : ℕ) (ps x 
   from-number : (z : List Order) → pieces (s .nodes) (length (ps ++ z)) ≡ i + pieces (s .nodes) (length (drop (i * s .nodes) (ps ++ z)))
   from-number z = pieces-skip (s .nodes) (length (ps ++ z)) i some (omega (arith, length-append ps z)) ∙ rw (length-drop (i * s .nodes) (ps ++ z)) refl
 
-  pub change-in : (count : ℕ) → count ≡ pieces (s .nodes) (length (ps ++ x)) - (i + 1) → (cs : List ℕ) → Front cs c → (m : ℕ) → m ≡ length c → (bs₂ : List ℕ) → Shifts s k f i count m bs bs₂ cs
+  pub change-in : (count : ℕ) → count ≡ pieces (s .nodes) (length (ps ++ x)) - (i + 1) → (cs : List ℕ) → Front cs c → (m : ℕ) → m ≡ length c → (bs₂ : List ℕ)
+      → Shifts s k f i count m bs bs₂ cs
       → Comes-in s F n hd bs₂ k f (ps ++ x) (ps ++ y)
   unfolding Elsewhere Shifts
   change-in count ec cs fr m em bs₂ sf =
@@ -107,7 +108,8 @@ module _ (s : Sizes) (F : Map) (n : ℕ) (hd bs : List ℕ) (k f i : ℕ) (ps x 
         table = q .table;
         there =
             pieces-join (q .map) (s .nodes) k f (ps ++ y) i
-            (λ m h. q .elsewhere k f m (λ a b d. omega arith) ∙ pieces-at F (s .nodes) k f (ps ++ x) m p ∙ chunk-low (s .nodes) m i ps x h low ∙ sym (chunk-low (s .nodes) m i ps y h low))
+            (λ m h. q .elsewhere k f m (λ a b d. omega arith) ∙ pieces-at F (s .nodes) k f (ps ++ x) m p
+            ∙ chunk-low (s .nodes) m i ps x h low ∙ sym (chunk-low (s .nodes) m i ps y h low))
             (q .there);
         elsewhere = λ l h j e. q .elsewhere l h j (λ a b d. e a b);
         count = omega (arith, q .count, from-number x, from-number y);

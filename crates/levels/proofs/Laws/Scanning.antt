@@ -101,7 +101,8 @@ passed-below y (p ∷ ps) x e w ew =
     let r = passed-below y ps _ (and-right (ltb (p .key) y) (below y ps) e) w (ew ∙ ap (passed-all y ps) (sym low)) in
     (omega (arith, r .0), r .1, omega (arith, r .2))
 
-passed-above : (y a : ℕ) (qs : List Order) (x : Spot) → y ≤ a → Up a qs → (w : Spot) → w ≡ passed-all y qs x → (w .below ≡ x .below) × (w .last ≡ x .last) × (w .size ≡ x .size + length qs)
+passed-above : (y a : ℕ) (qs : List Order) (x : Spot) → y ≤ a → Up a qs → (w : Spot) → w ≡ passed-all y qs x
+    → (w .below ≡ x .below) × (w .last ≡ x .last) × (w .size ≡ x .size + length qs)
 unfolding passed-all
 passed-above y a [] x h u w ew = (ap (λ (v : Spot). v .below) ew, ap (λ (v : Spot). v .last) ew, omega (arith, ap (λ (v : Spot). v .size) ew))
 passed-above y a (q ∷ qs) x h u w ew =

@@ -81,7 +81,8 @@ module _ (s : Sizes) (F : Map) (m : ℕ) (hd : List ℕ) (k f q count : ℕ) (c 
     halves =
         rw whole at
         (cut (s .nodes) now (drop (suc (suc t) * s .nodes) old) (λ h. sym (drop-next (s .nodes) (suc t) old)
-        ∙ drop-past (s .nodes) (drop (suc t * s .nodes) old) (omega (arith, length-append (p .carry) (p .map k f (q + t + 1)), ap length here, length-take (s .nodes) (drop (suc t * s .nodes) old)))))
+        ∙ drop-past (s .nodes) (drop (suc t * s .nodes) old)
+        (omega (arith, length-append (p .carry) (p .map k f (q + t + 1)), ap length here, length-take (s .nodes) (drop (suc t * s .nodes) old)))))
 
     fine-now : Fines now
     fine-now = fines-append (p .carry) (p .map k f (q + t + 1)) (p .fine) (fines-there s (p .map) (p .full) hd bs k f (q + t + 1) (p .table))
@@ -102,7 +103,8 @@ module _ (s : Sizes) (F : Map) (m : ℕ) (hd : List ℕ) (k f q count : ℕ) (c 
         );
       };
       room = λ pos z.
-          let none : length (drop (t * s .nodes) old) ≡ 0 = omega (arith, some, ap length (sym (as-before t (omega arith)) ∙ z), length-take (s .nodes) (drop (t * s .nodes) old)) in
+          let none : length (drop (t * s .nodes) old) ≡ 0 =
+          omega (arith, some, ap length (sym (as-before t (omega arith)) ∙ z), length-take (s .nodes) (drop (t * s .nodes) old)) in
           omega (arith, more pos, ap (pieces (s .nodes)) none, pieces-none (s .nodes), p .count, sh .room);
     }
       where
@@ -113,7 +115,8 @@ module _ (s : Sizes) (F : Map) (m : ℕ) (hd : List ℕ) (k f q count : ℕ) (c 
         more pos = pieces-pos (s .nodes) (length (drop (t * s .nodes) new)) some (long pos)
 
     -- CHUNK t WRITTEN
-    pub shifting-more : (cs₁ : List ℕ) (r₁ : ℕ) → Reads s (at k f (q + t + 1)) left bs cs cs₁ r₁ → (bs₂ cs₂ : List ℕ) (r₂ : ℕ) → Renews s (at k f (q + t)) r₁ bs bs₂ cs₁ cs₂ r₂
+    pub shifting-more : (cs₁ : List ℕ) (r₁ : ℕ) → Reads s (at k f (q + t + 1)) left bs cs cs₁ r₁ → (bs₂ cs₂ : List ℕ) (r₂ : ℕ)
+        → Renews s (at k f (q + t)) r₁ bs bs₂ cs₁ cs₂ r₂
         → Shifting s F m hd k f q old new (suc t) r₂ bs₂ cs₂
     unfolding Reads Renews
     shifting-more cs₁ r₁ rd bs₂ cs₂ r₂ rn =

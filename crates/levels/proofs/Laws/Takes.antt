@@ -93,7 +93,9 @@ module _ (s : Sizes) (w : Label) (n : ℕ) (bs cs : List ℕ) (r : Found) (er : 
         let v = some-found s F m hd bs t w pos r er i e in
         let lm = counted s F m hd bs t w pos r er i e more em in
         record {
-          front = front-more cs cs′ c (nodes-of F w) k (take (12 * more) (drop (at + 8) bs)) f (omega arith) (rw (lm, ea) (nodes-read s bs i w (nodes-of F w) (v .is) (v .held .nodes))) ec (omega arith);
+          front =
+              front-more cs cs′ c (nodes-of F w) k (take (12 * more) (drop (at + 8) bs)) f (omega arith)
+              (rw (lm, ea) (nodes-read s bs i w (nodes-of F w) (v .is) (v .held .nodes))) ec (omega arith);
           size = omega (arith, length-append c (nodes-of F w));
         }
 

@@ -18,4 +18,5 @@ returns-2 c =
 pub flush-spec : {M : Type 1} → statement M
 flush-spec =
     tie.close
-    (tie.spec (λ c. search laws) (λ c κs. search laws) (λ c. search laws) (λ c. search laws) (λ c. search laws) (λ c. search laws) (λ c κs. search laws) (λ c. search laws) (λ c. search laws) returns-2)
+    (tie.spec (λ c. search laws) (λ c κs. search laws) (λ c. search laws) (λ c. search laws) (λ c. search laws) (λ c. search laws) (λ c κs. search laws)
+    (λ c. search laws) (λ c. search laws) returns-2)

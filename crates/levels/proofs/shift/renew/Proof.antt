@@ -10,4 +10,5 @@ ruleset laws = (needs, inr, renew-all, renew-first)
 pub renew-spec : {M : Type 1} → statement M
 renew-spec =
     tie.close
-    (tie.spec (λ c κs. search laws) (λ c. search laws) (λ c. search laws) (λ c. search laws) (λ c κs. search laws) (λ c. search laws) (λ c. search laws) (λ c. search laws) (λ c. search laws) (λ c. search laws) (λ c κs. search laws) (λ c. search laws) (λ c. search laws) (λ c. search laws))
+    (tie.spec (λ c κs. search laws) (λ c. search laws) (λ c. search laws) (λ c. search laws) (λ c κs. search laws) (λ c. search laws) (λ c. search laws)
+    (λ c. search laws) (λ c. search laws) (λ c. search laws) (λ c κs. search laws) (λ c. search laws) (λ c. search laws) (λ c. search laws))
