@@ -4,13 +4,12 @@ use mathlib.Core.Bool.{Bool, true, false, cond}
 use mathlib.Core.List.{List, _∷_, _++_, map, map-append}
 use Prim.Native.Nat.{ℕ, zero, suc, _*_, _≤_, _<_}
 use native.Mathlib.Omega.{arith}
-use borrow.Author.Tests.{ltb-true, ltb-false, eqb-true, eqb-false, ne-eqb, leb-true, leb-false}
-use lib.Dec.{ltb, leb, eqb}
+use borrow.Author.Tests.{ltb-true, ltb-false, eqb-true, eqb-false, ne-eqb}
+use lib.Dec.{ltb, eqb}
 use lib.ListN.{length, take, drop, length-append}
 use Rattle.sizes.specs.Sizes.{beta}
 use Rattle.sizes.specs.Hash.{level}
 use Rattle.sizes.specs.Header.{header}
-use Rattle.placement.specs.Maps.{map-of}
 use Rattle.sizes.specs.declared.Sizes.{Sizes}
 use Rattle.placement.specs.declared.Order.{Order}
 use Rattle.skiplist.specs.Lists.{masked, first-key, chunks}
@@ -18,14 +17,13 @@ use Rattle.skiplist.specs.Image.{image}
 use Rattle.skiplist.proofs.Laws.Parts.{Up, part}
 use Rattle.skiplist.proofs.Laws.Masks.{masked-one}
 use Rattle.skiplist.proofs.Laws.Count.{count, counts, count-low, count-same, count-high, length-chunks}
-use Rattle.skiplist.proofs.Laws.Image.{image-keeps}
 use Rattle.skiplist.proofs.Laws.Edits.{beta-least, head-part, tail-part, part-with, with-part}
 use Rattle.levels.specs.Edit.{Replaces}
 use Rattle.edits.specs.Change.{Setting, Between}
 use Rattle.levels.proofs.Laws.Growing.{level-nodes, as-pieces}
 use Rattle.edits.proofs.Laws.Changed.{one-changed}
 use Rattle.edits.proofs.Laws.Settings.{all-up, key-pos, order-fine, some-nodes}
-use Rattle.edits.proofs.Laws.Ways.{none-over, way-even}
+use Rattle.edits.proofs.Laws.Ways.{way-start, way-even}
 
 module _ (s : Sizes) (xs : List Order) (y o : Order) (zs : List Order) (e : y .key ≡ o .key) where
   same-level : level s (y .key) ≡ level s (o .key)
@@ -86,23 +84,13 @@ module _ (s : Sizes) (xs : List Order) (y o : Order) (zs : List Order) (e : y .k
   module _ (w : Setting s xs y zs) (v : Setting s xs o zs) where
     -- nothing is to do above level 1
     swap-start : Between s (xs ++ y ∷ zs) (xs ++ o ∷ zs) 1 (image s (xs ++ y ∷ zs))
-    swap-start = record {
-      map = map-of (chunks s (xs ++ y ∷ zs));
-      full = length (chunks s (xs ++ y ∷ zs));
-      table = image-keeps s (xs ++ y ∷ zs) (w .sizes) (w .good) (w .fit);
-      above = λ l f i q. go l f i q (leb l (beta s)) refl;
-      upto = λ l f i q. refl;
-      count =
-          omega (arith, chunks-swap (key-pos s xs y zs w) (key-pos s xs o zs v) (some-nodes s xs o zs v), counts-swap 1 1 (key-pos s xs y zs w) (key-pos s xs o zs v));
-    }
-      where
-        go : (l f i : ℕ) → 1 < l → (t : Bool) → leb l (beta s) ≡ t → map-of (chunks s (xs ++ y ∷ zs)) l f i ≡ map-of (chunks s (xs ++ o ∷ zs)) l f i
-        go l f i q true z =
-            level-nodes s (xs ++ y ∷ zs) (some-nodes s xs y zs w) (all-up s xs y zs w) l (omega arith) (leb-true l (beta s) z) f i
-            ∙ ap (λ (ns : List Order). take (s .nodes) (drop (i * s .nodes) ns)) (part-swap l f q (all-up s xs y zs w) (all-up s xs o zs v))
-            ∙ sym (level-nodes s (xs ++ o ∷ zs) (some-nodes s xs o zs v) (all-up s xs o zs v) l (omega arith) (leb-true l (beta s) z) f i)
-        go l f i q false z =
-            none-over s (xs ++ y ∷ zs) (w .good) l f i (leb-false l (beta s) z) ∙ sym (none-over s (xs ++ o ∷ zs) (v .good) l f i (leb-false l (beta s) z))
+    swap-start =
+        way-start s (xs ++ y ∷ zs) (xs ++ o ∷ zs) (w .good) (v .good) (w .sizes) (w .fit) 1 (omega (arith, beta-least s))
+        (λ l f i q low.
+        level-nodes s (xs ++ y ∷ zs) (some-nodes s xs y zs w) (all-up s xs y zs w) l (omega arith) low f i
+        ∙ ap (λ (ns : List Order). take (s .nodes) (drop (i * s .nodes) ns)) (part-swap l f q (all-up s xs y zs w) (all-up s xs o zs v))
+        ∙ sym (level-nodes s (xs ++ o ∷ zs) (some-nodes s xs o zs v) (all-up s xs o zs v) l (omega arith) low f i))
+        (λ l q low. count-swap l (key-pos s xs y zs w) (key-pos s xs o zs v))
 
     -- the node stands between ps and qs in partition f of level 1
     pub swapped : (f m : ℕ) (ps qs : List Order) (bs bs′ : List ℕ) → Replaces s f m o bs bs′ → bs ≡ image s (xs ++ y ∷ zs) → m ≡ length ps → length (ps ++ y ∷ qs) ≤ 65536 →

@@ -1,7 +1,7 @@
 -- The loops of `put_new` and `cancel_held`: one turn for each level, from the key's own down.
 use mathlib.Core.Path.{_≡_, refl, sym, _∙_, subst}
 use mathlib.Core.List.{List, _∷_, _++_}
-use Prim.Native.Nat.{ℕ, suc, _+_, _-_, _≤_, _<_}
+use Prim.Native.Nat.{ℕ, _+_, _-_, _≤_, _<_}
 use native.Mathlib.Omega.{arith}
 use lib.ListN.{length}
 use Rattle.sizes.specs.Sizes.{beta}
@@ -16,33 +16,28 @@ use Rattle.skiplist.specs.Image.{image}
 use Rattle.skiplist.proofs.Laws.Edits.{head-part, level-most, part-above}
 use Rattle.skiplist.proofs.Laws.Count.{count, count-low}
 use Rattle.edits.specs.Change.{Setting, Between, Put-turn, Cancel-turn, Put-new, Cancel-held}
-use Rattle.edits.proofs.Laws.WayLevels.{same-part, levels-kept}
+use Rattle.edits.proofs.Laws.WayLevels.{same-part}
 use Rattle.edits.proofs.Laws.Settings.{all-up, less-up, key-pos, some-nodes, less-good, less-fit}
 use Rattle.edits.proofs.Laws.Ways.{way-start, way-end}
 
 -- ABOVE A KEY'S OWN LEVEL nothing changes by it
 module _ (s : Sizes) (xs : List Order) (o : Order) (zs : List Order) (w : Setting s xs o zs) where
-  same-above : (j : ℕ) → level s (o .key) ≤ j → suc j ≤ beta s →
-      ((g i : ℕ) → map-of (chunks s (xs ++ o ∷ zs)) (suc j) g i ≡ map-of (chunks s (xs ++ zs)) (suc j) g i) × (count s (suc j) (xs ++ o ∷ zs) ≡ count s (suc j) (xs ++ zs))
-  same-above j h low = (
-    λ g. same-part s (xs ++ o ∷ zs) (xs ++ zs) (some-nodes s xs o zs w) (all-up s xs o zs w) (less-up s xs o zs w) (suc j) g (omega arith) low
-        (part-above s (suc j) xs o zs (all-up s xs o zs w) g (omega arith)),
-    count-low s (suc j) xs o zs (key-pos s xs o zs w) (omega arith),
-  )
+  same-above : (l f i : ℕ) → level s (o .key) < l → l ≤ beta s → map-of (chunks s (xs ++ o ∷ zs)) l f i ≡ map-of (chunks s (xs ++ zs)) l f i
+  same-above l f i h low =
+      same-part s (xs ++ o ∷ zs) (xs ++ zs) (some-nodes s xs o zs w) (all-up s xs o zs w) (less-up s xs o zs w) l f (omega arith) low
+      (part-above s l xs o zs (all-up s xs o zs w) f h) i
 
-  top : level s (o .key) + (beta s - level s (o .key)) ≡ beta s
-  top = omega (arith, level-most s (o .key))
+  count-above : (l : ℕ) → level s (o .key) < l → count s l (xs ++ o ∷ zs) ≡ count s l (xs ++ zs)
+  count-above l h = count-low s l xs o zs (key-pos s xs o zs w) h
 
   put-above : Between s (xs ++ zs) (xs ++ o ∷ zs) (level s (o .key)) (image s (xs ++ zs))
   put-above =
-      levels-kept s (xs ++ zs) (xs ++ o ∷ zs) (image s (xs ++ zs)) (level s (o .key))
-      (λ j h low. let e = same-above j h low in ((λ g i. sym (e .0 g i)), sym (e .1))) (beta s - level s (o .key)) (omega (arith, top))
-      (rw top (way-start s (xs ++ zs) (xs ++ o ∷ zs) (less-good s xs o zs w) (w .good) (w .sizes) (less-fit s xs o zs w)))
+      way-start s (xs ++ zs) (xs ++ o ∷ zs) (less-good s xs o zs w) (w .good) (w .sizes) (less-fit s xs o zs w) (level s (o .key)) (level-most s (o .key))
+      (λ l f i h low. sym (same-above l f i h low)) (λ l h low. sym (count-above l h))
 
   cancel-above : Between s (xs ++ o ∷ zs) (xs ++ zs) (level s (o .key)) (image s (xs ++ o ∷ zs))
   cancel-above =
-      levels-kept s (xs ++ o ∷ zs) (xs ++ zs) (image s (xs ++ o ∷ zs)) (level s (o .key)) same-above (beta s - level s (o .key)) (omega (arith, top))
-      (rw top (way-start s (xs ++ o ∷ zs) (xs ++ zs) (w .good) (less-good s xs o zs w) (w .sizes) (w .fit)))
+      way-start s (xs ++ o ∷ zs) (xs ++ zs) (w .good) (less-good s xs o zs w) (w .sizes) (w .fit) (level s (o .key)) (level-most s (o .key)) same-above (λ l h low. count-above l h)
 
 -- a put under way from partition e of level l: level k is next, in the partition that f heads
 pub record Putting (s : Sizes) (e l : ℕ) (o : Order) (bs₀ : List ℕ) (k f : ℕ) (bs : List ℕ) : Type 0 where

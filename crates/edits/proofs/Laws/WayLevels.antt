@@ -42,6 +42,13 @@ counts-one k s os =
     let e : 1 + k ≡ suc k = omega arith in
     rw e at (counts-snoc k 1 s os)
 
+-- .. and where the levels above k are the same
+pub counts-kept : (s : Sizes) (old new : List Order) (k n : ℕ) → ((l : ℕ) → k < l → l ≤ k + n → count s l old ≡ count s l new) → counts (k + n) 1 s old + counts k 1 s new ≡ counts (k + n) 1 s new + counts k 1 s old
+counts-kept s old new k zero h = rw (add-zero k) (omega arith)
+counts-kept s old new k (suc n) h =
+    rw (add-suc k n)
+    (omega (arith, counts-one (k + n) s old, counts-one (k + n) s new, counts-kept s old new k n (λ l a b. h l a (omega arith)), h (suc (k + n)) (omega arith) (omega arith)))
+
 -- ONE LEVEL DONE: the map changed there only, and is there that of the new orders
 module _ (s : Sizes) (old new : List Order) (j : ℕ) (bs : List ℕ) (b : Between s old new (suc j) bs) where
   pub level-done : (G : Map) (n : ℕ) (bs′ : List ℕ) → Table s G n (header s (length old)) bs′ → ((l g i : ℕ) → (l ≡ suc j → ⊥) → G l g i ≡ b .map l g i) →
@@ -58,16 +65,3 @@ module _ (s : Sizes) (old new : List Order) (j : ℕ) (bs : List ℕ) (b : Betwe
       go : (l f i : ℕ) → j < l → (t : Bool) → eqb l (suc j) ≡ t → G l f i ≡ map-of (chunks s new) l f i
       go l f i q true z = rw (eqb-true l (suc j) z) (h f i)
       go l f i q false z = e l f i (eqb-false l (suc j) z) ∙ b .above l f i (omega (arith, eqb-false l (suc j) z))
-
-  -- nothing to do
-  level-kept : ((g i : ℕ) → map-of (chunks s old) (suc j) g i ≡ map-of (chunks s new) (suc j) g i) → count s (suc j) old ≡ count s (suc j) new → Between s old new j bs
-  level-kept h c = level-done (b .map) (b .full) bs (b .table) (λ l g i q. refl) (λ g i. b .upto (suc j) g i (omega arith) ∙ h g i) (omega (arith, c))
-
--- .. at each of some levels above level l
-pub levels-kept : (s : Sizes) (old new : List Order) (bs : List ℕ) (l : ℕ) →
-    ((j : ℕ) → l ≤ j → suc j ≤ beta s → ((g i : ℕ) → map-of (chunks s old) (suc j) g i ≡ map-of (chunks s new) (suc j) g i) × (count s (suc j) old ≡ count s (suc j) new)) →
-    (n : ℕ) → l + n ≤ beta s → Between s old new (l + n) bs → Between s old new l bs
-levels-kept s old new bs l h zero le b = rw (add-zero l) at b
-levels-kept s old new bs l h (suc n) le b =
-    let k = h (l + n) (omega arith) (omega arith) in
-    levels-kept s old new bs l h n (omega arith) (level-kept s old new (l + n) bs (rw (add-suc l n) at b) (k .0) (k .1))

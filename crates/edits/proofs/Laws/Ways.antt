@@ -2,7 +2,8 @@
 use mathlib.Core.Path.{_≡_, refl, sym, _∙_, subst}
 use mathlib.Core.Bool.{true}
 use mathlib.Core.List.{List, []}
-use Prim.Native.Nat.{ℕ, zero, suc, _<_}
+use Prim.Native.Nat.{ℕ, zero, suc, _+_, _-_, _≤_, _<_}
+use native.Mathlib.Decide.{decLt}
 use native.Mathlib.Omega.{arith}
 use lib.ListN.{length}
 use lib.Seq.{sets}
@@ -21,12 +22,13 @@ use Rattle.skiplist.proofs.Laws.Parts.{good-up}
 use Rattle.skiplist.proofs.Laws.Content.{content-outside, content-level-zero}
 use Rattle.skiplist.proofs.Laws.Rise.{chunks-rise}
 use Rattle.skiplist.proofs.Laws.Faithful.{map-content}
-use Rattle.skiplist.proofs.Laws.Count.{length-chunks}
+use Rattle.skiplist.proofs.Laws.Count.{count, length-chunks}
 use Rattle.skiplist.proofs.Laws.Image.{image-keeps, is-the-image}
 use Rattle.edits.specs.Change.{Between}
+use Rattle.edits.proofs.Laws.WayLevels.{counts-kept}
 
 -- no chunks above the top level, and none of level 0
-pub none-over : (s : Sizes) (os : List Order) → orders-good 1 os ≡ true → (l f i : ℕ) → beta s < l → map-of (chunks s os) l f i ≡ []
+none-over : (s : Sizes) (os : List Order) → orders-good 1 os ≡ true → (l f i : ℕ) → beta s < l → map-of (chunks s os) l f i ≡ []
 none-over s os g l f i h = map-content l f i (chunks s os) (label 0 0 0) (chunks-rise s os (good-up 1 os g)) ∙ content-outside s l f i os h
 
 none-under : (s : Sizes) (os : List Order) → orders-good 1 os ≡ true → (f i : ℕ) → map-of (chunks s os) 0 f i ≡ []
@@ -37,15 +39,24 @@ unfolding header big
 header-sets s n k = refl
 
 module _ (s : Sizes) (old new : List Order) (g : orders-good 1 old ≡ true) (h : orders-good 1 new ≡ true) where
-  pub way-start : made s ≡ true → fits s old ≡ true → Between s old new (beta s) (image s old)
-  way-start m f = record {
+  -- from level k down: the levels above are the same
+  pub way-start : made s ≡ true → fits s old ≡ true → (k : ℕ) → k ≤ beta s → ((l f i : ℕ) → k < l → l ≤ beta s → map-of (chunks s old) l f i ≡ map-of (chunks s new) l f i) →
+      ((l : ℕ) → k < l → l ≤ beta s → count s l old ≡ count s l new) → Between s old new k (image s old)
+  way-start m f k le same counted = record {
     map = map-of (chunks s old);
     full = length (chunks s old);
     table = image-keeps s old m g f;
-    above = λ l f i q. none-over s old g l f i q ∙ sym (none-over s new h l f i q);
+    above = λ l f i q. go l f i q (decLt (beta s) l);
     upto = λ l f i q. refl;
-    count = omega (arith, length-chunks s old (some-nodes s m), length-chunks s new (some-nodes s m));
+    count = omega (arith, length-chunks s old (some-nodes s m), length-chunks s new (some-nodes s m), rw top at (counts-kept s old new k (beta s - k) (λ l a b. counted l a (omega arith))));
   }
+    where
+      top : k + (beta s - k) ≡ beta s
+      top = omega arith
+
+      go : (l f i : ℕ) → k < l → Dec (beta s < l) → map-of (chunks s old) l f i ≡ map-of (chunks s new) l f i
+      go l f i q (yes z) = none-over s old g l f i z ∙ sym (none-over s new h l f i z)
+      go l f i q (no z) = same l f i q (omega (arith, z))
 
   module _ (f : fits s new ≡ true) (bs : List ℕ) (b : Between s old new 0 bs) where
     -- the map is that of the new orders
