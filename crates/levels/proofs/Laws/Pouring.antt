@@ -17,7 +17,7 @@ use Rattle.sizes.specs.declared.Sizes.{Sizes}
 use Rattle.placement.specs.declared.Order.{Order}
 use Rattle.skiplist.proofs.Laws.Count.{pieces}
 use Rattle.levels.specs.Edit.{Pieces}
-use Rattle.levels.specs.Pour.{at, Front, one, Taken, Takes, Writable, Flushed, waits, writes, Flushes, Pourable, Poured, Pours, Put, Puts, Kept}
+use Rattle.levels.specs.Pour.{at, Front, one, Takes, Writable, Flushed, waits, writes, Flushes, Pourable, Poured, Pours, Put, Puts, Kept}
 use Rattle.levels.proofs.Laws.Takes.{one-some}
 use Rattle.levels.proofs.Laws.Flushes.{not-none, fines-append, fines-there, fines-drop}
 use Rattle.levels.proofs.Laws.MapLabels.{with-other, with-number, cleared-other, cleared-number}
@@ -87,7 +87,7 @@ module _ (s : Sizes) (F : Map) (m : ℕ) (hd : List ℕ) (k f j count g q : ℕ)
         (record { level = pb .level; first = pb .first; number = omega (arith, to-write, pb .few, p .next) }, omega (arith, to-write, to-take h, pb .room, p .count))
 
     -- A CHUNK TAKEN
-    module _ (h : t < count) (short : left < s .nodes) (r : ℕ) (bs′ cs′ : List ℕ) (tk : Taken s (p .map) (p .full) hd (at k f (j + t)) (p .carry) bs′ cs′ r) where
+    module _ (h : t < count) where
       here : p .map k f (j + t) ≡ take (s .nodes) (drop (t * s .nodes) rest)
       here = p .source t (omega arith)
 
@@ -96,45 +96,48 @@ module _ (s : Sizes) (F : Map) (m : ℕ) (hd : List ℕ) (k f j count g q : ℕ)
           let some = pieces-under (s .nodes) (length rest) t (pb .some) (omega (arith, pb .chunks)) in
           one-some (p .map k f (j + t)) (not-none (p .map k f (j + t)) (rw here (simp (length-take, length-drop) (omega (arith, pb .some)))))
 
-      pub pouring-take : Pouring s F m hd k f j g q c rest (suc t) v r bs′ cs′
-      pouring-take = record {
-        map = cleared (at k f (j + t)) (p .map);
-        full = tk .full;
-        table = tk .table;
-        done = p .done;
-        next = p .next;
-        carry = p .carry ++ p .map k f (j + t);
-        front = tk .front;
-        size = tk .size;
-        most = rw (length-append, here, length-take) (omega (arith, p .size));
-        fine = fines-append (p .carry) (p .map k f (j + t)) (p .fine) (fines-there s (p .map) (p .full) hd bs k f (j + t) (p .table));
-        todo = chunk-behind (s .nodes) t rest (p .carry) (p .map k f (j + t)) _ here (p .todo);
-        filled = p .filled;
-        written = λ i a. cleared-other (p .map) (λ x y w. pb .apart (sym y)) ∙ p .written i a;
-        empty = λ i a. cleared-other (p .map) (λ x y w. pb .apart (sym y)) ∙ p .empty i a;
-        source = λ i a. cleared-other (p .map) (λ x y w. omega arith) ∙ p .source i (omega arith);
-        gone = λ i a. cleared-number (p .map) (λ z. refl) (λ z. p .gone i (omega (arith, z)));
-        elsewhere = λ l h i a e. cleared-other (p .map) (λ x y w. e x y (omega arith)) ∙ p .elsewhere l h i a e;
-        count = omega (arith, tk .count, more, p .count);
-      }
+      pub pouring-take : left < s .nodes → (bs′ cs′ : List ℕ) (r : ℕ) → Takes s (at k f (j + t)) left bs bs′ cs cs′ r → Pouring s F m hd k f j g q c rest (suc t) v r bs′ cs′
+      unfolding Takes
+      pouring-take short bs′ cs′ r takes =
+          let tk = takes (p .map) (p .full) hd (p .carry) (p .table) (pb .level) (p .front) (p .size) in
+          record {
+            map = cleared (at k f (j + t)) (p .map);
+            full = tk .full;
+            table = tk .table;
+            done = p .done;
+            next = p .next;
+            carry = p .carry ++ p .map k f (j + t);
+            front = tk .front;
+            size = tk .size;
+            most = rw (length-append, here, length-take) (omega (arith, p .size));
+            fine = fines-append (p .carry) (p .map k f (j + t)) (p .fine) (fines-there s (p .map) (p .full) hd bs k f (j + t) (p .table));
+            todo = chunk-behind (s .nodes) t rest (p .carry) (p .map k f (j + t)) _ here (p .todo);
+            filled = p .filled;
+            written = λ i a. cleared-other (p .map) (λ x y w. pb .apart (sym y)) ∙ p .written i a;
+            empty = λ i a. cleared-other (p .map) (λ x y w. pb .apart (sym y)) ∙ p .empty i a;
+            source = λ i a. cleared-other (p .map) (λ x y w. omega arith) ∙ p .source i (omega arith);
+            gone = λ i a. cleared-number (p .map) (λ z. refl) (λ z. p .gone i (omega (arith, z)));
+            elsewhere = λ l h i a e. cleared-other (p .map) (λ x y w. e x y (omega arith)) ∙ p .elsewhere l h i a e;
+            count = omega (arith, tk .count, more, p .count);
+          }
 
     -- A CHUNK WRITTEN, if the carry has one
     module _ (h : t ≤ count) where
       -- what a flush asks
-      pub pouring-can : s .nodes ≤ length (p .carry) → Writable (at k g v) × (p .map k g v ≡ []) × (p .full < s .blocks)
-      pouring-can e =
+      can : s .nodes ≤ length (p .carry) → Writable (at k g v) × (p .map k g v ≡ []) × (p .full < s .blocks)
+      can e =
           let a = length (p .carry) in
           let r = length (drop (t * s .nodes) rest) in
           let full = pieces-full (s .nodes) (a + r) (pb .some) (omega (arith, pb .some)) in
           let u = pouring-room h (omega (arith, pieces-up-to (s .nodes) r (a + r - s .nodes) (pb .some) (omega arith))) in
           (u .0, p .empty v (omega arith), u .1)
 
-      module _ (r : ℕ) (bs′ cs′ : List ℕ) where
+      module _ (bs′ cs′ : List ℕ) (r : ℕ) where
         chunk-now : s .nodes ≤ length (p .carry) → take (s .nodes) (p .carry) ≡ take (s .nodes) (drop (p .done * s .nodes) (c ++ rest))
         chunk-now e = sym (ap (take (s .nodes)) (sym (p .todo)) ∙ take-append-le (s .nodes) (p .carry) (drop (t * s .nodes) rest) e)
 
-        pub pouring-flush : Flushed s (p .map) (p .full) hd (at k g v) (p .carry) bs′ cs′ r → Pouring s F m hd k f j g q c rest t (v + left / s .nodes) r bs′ cs′
-        pouring-flush (waits a er tb fr) =
+        flushed : Flushed s (p .map) (p .full) hd (at k g v) (p .carry) bs′ cs′ r → Pouring s F m hd k f j g q c rest t (v + left / s .nodes) r bs′ cs′
+        flushed (waits a er tb fr) =
             let e : v + left / s .nodes ≡ v = rw (div-eq-of-lt {n = left} {m = s .nodes} (omega (arith, p .size))) (omega arith) in
             rw e (record {
               map = p .map;
@@ -156,7 +159,7 @@ module _ (s : Sizes) (F : Map) (m : ℕ) (hd : List ℕ) (k f j count g q : ℕ)
               elsewhere = p .elsewhere;
               count = p .count;
             })
-        pouring-flush (writes a er tb fr) =
+        flushed (writes a er tb fr) =
             let e : v + left / s .nodes ≡ suc v = rw (quotient-one (s .nodes) left (pb .some) (omega (arith, p .size)) (omega (arith, p .size, p .most))) (omega arith) in
             rw e (record {
               map = with-nodes (at k g v) (take (s .nodes) (p .carry)) (p .map);
@@ -180,6 +183,10 @@ module _ (s : Sizes) (F : Map) (m : ℕ) (hd : List ℕ) (k f j count g q : ℕ)
               elsewhere = λ l x i y z. with-other (p .map) (λ a b d. y a b (omega (arith, p .next))) _ ∙ p .elsewhere l x i y z;
               count = omega (arith, p .count);
             })
+
+        pub pouring-flush : Flushes s (at k g v) left bs bs′ cs cs′ r → Pouring s F m hd k f j g q c rest t (v + left / s .nodes) r bs′ cs′
+        unfolding Flushes
+        pouring-flush fl = flushed (fl (p .map) (p .full) hd (p .carry) (p .table) (p .front) (p .size) (p .fine) can)
 
     -- THE END: nothing is left to be taken, and the carry stands under the next label
     module _ (end : count ≤ t) where
@@ -227,38 +234,23 @@ module _ (s : Sizes) (F : Map) (m : ℕ) (hd : List ℕ) (k f j count g q : ℕ)
           count = omega (arith, w .count, p .count, pb .chunks, to-write, one-pieces (s .nodes) (p .carry) (omega (arith, p .size)), ap (pieces (s .nodes)) carry-long);
         }
 
--- AS `pour` ASKS: from where its loop begins, after the first flush
-unfoldable pub Pours-on : Sizes → (k f j count g q v₀ left₀ : ℕ) → (bs₀ cs₀ : List ℕ) → (t v left : ℕ) → (bs cs : List ℕ) → Type 0
-Pours-on s k f j count g q v₀ left₀ bs₀ cs₀ t v left bs cs =
-    (F : Map) (m : ℕ) (hd : List ℕ) (c rest : List Order) → Pourable s F m k f j count g q c rest → Pouring s F m hd k f j g q c rest 0 v₀ left₀ bs₀ cs₀
-    → Pouring s F m hd k f j g q c rest t v left bs cs
-
--- what its loop keeps
+-- AS `pour` ASKS: what its loop keeps, from where it begins, after the first flush
 pub record Turning (s : Sizes) (k f j count g q v₀ left₀ : ℕ) (bs₀ cs₀ : List ℕ) (t v left : ℕ) (bs cs : List ℕ) : Type 0 where
   pub shaped : Shaped s bs
   pub long : length cs ≡ 768
   pub within : t ≤ count
   pub short : left < s .nodes
   pub next : v ≤ q + 1 + t
-  pub on : Pours-on s k f j count g q v₀ left₀ bs₀ cs₀ t v left bs cs
+  pub on : (F : Map) (m : ℕ) (hd : List ℕ) (c rest : List Order) → Pourable s F m k f j count g q c rest → Pouring s F m hd k f j g q c rest 0 v₀ left₀ bs₀ cs₀
+      → Pouring s F m hd k f j g q c rest t v left bs cs
 
 -- the number of the next chunk fits
 pub first-fits : (q count b n : ℕ) → q + 1 + count < 4294967296 → 2 ≤ b → n < 2 * b → Fits w32 (q + n / b)
 first-fits q count b n room two most = fits-under w32 (q + n / b) 4294967296 (omega (arith, quotient-most b n (omega arith) most)) tt
 
 module _ (s : Sizes) (k f j count g q : ℕ) where
-  module _ (n : ℕ) (bs₀ cs₀ bs cs : List ℕ) (r : ℕ) where
-    pour-first : Flushes s (at k g q) n bs₀ bs cs₀ cs r → (F : Map) (m : ℕ) (hd : List ℕ) (c rest : List Order) → Table s F m hd bs₀ → Front cs₀ c → n ≡ length c → Pourable s F m k f j count g q c rest
-        → Pouring s F m hd k f j g q c rest 0 (q + n / s .nodes) r bs cs
-    unfolding Flushes
-    pour-first fl F m hd c rest t fr en pb =
-        let p = pouring-start s F m hd k f j count g q c rest pb n bs₀ cs₀ t fr en in
-        pouring-flush s F m hd k f j count g q c rest pb 0 q n bs₀ cs₀ p (omega arith) r bs cs
-        (fl (p .map) (p .full) hd (p .carry) (p .table) (p .front) (p .size) (p .fine) (pouring-can s F m hd k f j count g q c rest pb 0 q n bs₀ cs₀ p (omega arith)))
-
   pub turning-start : (n : ℕ) (cs₀ bs cs : List ℕ) (r : ℕ) → 2 ≤ s .nodes → n < 2 * s .nodes → length cs₀ ≡ 768 → Kept s bs cs₀ cs → (n < 2 * s .nodes → r < s .nodes)
       → Turning s k f j count g q (q + n / s .nodes) r bs cs 0 (q + n / s .nodes) r bs cs
-  unfolding Pours-on
   turning-start n cs₀ bs cs r two most long kept less = record {
     shaped = kept .shaped;
     long = kept .long ∙ long;
@@ -273,16 +265,6 @@ module _ (s : Sizes) (k f j count g q : ℕ) where
     next-fits r room two h most =
         fits-under w32 (v + r / s .nodes) 4294967296 (omega (arith, i .next, i .short, quotient-most (s .nodes) r (omega arith) (omega (arith, i .short)))) tt
 
-    pour-turn : t < count → (bs₁ cs₁ : List ℕ) (r : ℕ) → Takes s (at k f (j + t)) left bs bs₁ cs cs₁ r → (bs₂ cs₂ : List ℕ) (r₂ : ℕ) → Flushes s (at k g v) r bs₁ bs₂ cs₁ cs₂ r₂
-        → Pours-on s k f j count g q v₀ left₀ bs₀ cs₀ (t + 1) (v + r / s .nodes) r₂ bs₂ cs₂
-    unfolding Pours-on Takes Flushes
-    pour-turn h bs₁ cs₁ r tk bs₂ cs₂ r₂ fl F m hd c rest pb p₀ =
-        let p = i .on F m hd c rest pb p₀ in
-        let p₁ = pouring-take s F m hd k f j count g q c rest pb t v left bs cs p h (i .short) r bs₁ cs₁ (tk (p .map) (p .full) hd (p .carry) (p .table) (pb .level) (p .front) (p .size)) in
-        rw add-one
-        (pouring-flush s F m hd k f j count g q c rest pb (suc t) v r bs₁ cs₁ p₁ h r₂ bs₂ cs₂
-        (fl (p₁ .map) (p₁ .full) hd (p₁ .carry) (p₁ .table) (p₁ .front) (p₁ .size) (p₁ .fine) (pouring-can s F m hd k f j count g q c rest pb (suc t) v r bs₁ cs₁ p₁ h)))
-
     pub turning-more : 2 ≤ s .nodes → t < count → (bs₁ cs₁ : List ℕ) (r : ℕ) → Kept s bs₁ cs cs₁ → r ≤ left + s .nodes
         → Takes s (at k f (j + t)) left bs bs₁ cs cs₁ r → (bs₂ cs₂ : List ℕ) (r₂ : ℕ) → Kept s bs₂ cs₁ cs₂ → (r < 2 * s .nodes → r₂ < s .nodes) → Flushes s (at k g v) r bs₁ bs₂ cs₁ cs₂ r₂
         → Turning s k f j count g q v₀ left₀ bs₀ cs₀ (t + 1) (v + r / s .nodes) r₂ bs₂ cs₂
@@ -294,14 +276,17 @@ module _ (s : Sizes) (k f j count g q : ℕ) where
           within = omega arith;
           short = less e;
           next = omega (arith, i .next, quotient-most (s .nodes) r (omega arith) e);
-          on = pour-turn h bs₁ cs₁ r tk bs₂ cs₂ r₂ fl;
+          on = λ F m hd c rest pb p₀.
+              let p = pouring-take s F m hd k f j count g q c rest pb t v left bs cs (i .on F m hd c rest pb p₀) h (i .short) bs₁ cs₁ r tk in
+              rw add-one (pouring-flush s F m hd k f j count g q c rest pb (suc t) v r bs₁ cs₁ p h bs₂ cs₂ r₂ fl);
         }
 
   pub pour-made : (n : ℕ) (bs₀ cs₀ bs₁ cs₁ : List ℕ) (left₁ : ℕ) → Flushes s (at k g q) n bs₀ bs₁ cs₀ cs₁ left₁ → (t v left : ℕ) (bs cs : List ℕ)
       → Turning s k f j count g q (q + n / s .nodes) left₁ bs₁ cs₁ t v left bs cs → count ≤ t → (bs′ : List ℕ) → Puts s (at k g v) left bs bs′ cs → Pours s k f j count g q n bs₀ bs′ cs₀
-  unfolding Pours-on Pours Puts
+  unfolding Pours Puts
   pour-made n bs₀ cs₀ bs₁ cs₁ left₁ fl t v left bs cs i end bs′ pt F m hd c rest tb fr en pb =
-      let p = i .on F m hd c rest pb (pour-first n bs₀ cs₀ bs₁ cs₁ left₁ fl F m hd c rest tb fr en pb) in
+      let p₀ = pouring-start s F m hd k f j count g q c rest pb n bs₀ cs₀ tb fr en in
+      let p = i .on F m hd c rest pb (pouring-flush s F m hd k f j count g q c rest pb 0 q n bs₀ cs₀ p₀ (omega arith) bs₁ cs₁ left₁ fl) in
       let w = pt (p .map) (p .full) hd (p .carry) (p .table) (p .front) (omega (arith, p .size)) (p .fine) (p .empty v (omega arith))
       (last-can s F m hd k f j count g q c rest pb t v left bs cs p end (i .within)) in
       let all : take left (p .carry) ≡ p .carry = take-all left (p .carry) (omega (arith, p .size)) in
