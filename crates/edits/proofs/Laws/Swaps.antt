@@ -2,7 +2,8 @@
 use mathlib.Core.Path.{_≡_, refl, sym, ap, _∙_, subst}
 use mathlib.Core.Bool.{Bool, true, false, cond}
 use mathlib.Core.List.{List, _∷_, _++_, map, map-append}
-use Prim.Native.Nat.{ℕ, zero, suc, _*_, _≤_, _<_}
+use Prim.Native.Nat.{ℕ, _*_, _≤_, _<_}
+use native.Mathlib.Nat.{zero-add}
 use native.Mathlib.Omega.{arith}
 use borrow.Author.Tests.{ltb-true, ltb-false, eqb-true, eqb-false, ne-eqb}
 use lib.Dec.{ltb, eqb}
@@ -21,6 +22,7 @@ use Rattle.skiplist.proofs.Laws.Edits.{beta-least, head-part, tail-part, part-w
 use Rattle.levels.specs.Edit.{Replaces}
 use Rattle.edits.specs.Change.{Setting, Between}
 use Rattle.levels.proofs.Laws.Growing.{level-nodes, as-pieces}
+use Rattle.edits.proofs.Laws.WayLevels.{counts-kept}
 use Rattle.edits.proofs.Laws.Changed.{one-changed}
 use Rattle.edits.proofs.Laws.Settings.{all-up, key-pos, order-fine, some-nodes}
 use Rattle.edits.proofs.Laws.Ways.{way-start, way-even}
@@ -44,13 +46,11 @@ module _ (s : Sizes) (xs : List Order) (y o : Order) (zs : List Order) (e : y .k
           let h : level s (o .key) < l = omega (arith, ltb-false l (level s (o .key)) a, eqb-false l (level s (o .key)) b) in
           count-low s l xs y zs p (rw same-level h) ∙ sym (count-low s l xs o zs q h)
 
-  pub counts-swap : (k l : ℕ) → 0 < y .key → 0 < o .key → counts k l s (xs ++ y ∷ zs) ≡ counts k l s (xs ++ o ∷ zs)
-  unfolding counts
-  counts-swap zero l p q = refl
-  counts-swap (suc k) l p q = omega (arith, count-swap l p q, counts-swap k (suc l) p q)
-
   pub chunks-swap : 0 < y .key → 0 < o .key → 0 < s .nodes → length (chunks s (xs ++ y ∷ zs)) ≡ length (chunks s (xs ++ o ∷ zs))
-  chunks-swap p q b = length-chunks s (xs ++ y ∷ zs) b ∙ counts-swap (beta s) 1 p q ∙ sym (length-chunks s (xs ++ o ∷ zs) b)
+  unfolding counts
+  chunks-swap p q b =
+      let e = counts-kept s (xs ++ y ∷ zs) (xs ++ o ∷ zs) 0 (beta s) (λ l h low. count-swap l p q) in
+      omega (arith, length-chunks s (xs ++ y ∷ zs) b, length-chunks s (xs ++ o ∷ zs) b, rw (zero-add (beta s)) at e)
 
   -- above level 1 the nodes have the key only
   masked-swap : (l : ℕ) → 1 < l → masked l y ≡ masked l o
