@@ -3,7 +3,6 @@ use mathlib.Core.Path.{_≡_, sym, ap, _∙_, subst}
 use mathlib.Core.Bool.{true, false}
 use mathlib.Core.List.{List, _∷_, _++_}
 use Prim.Native.Nat.{ℕ, suc, _-_, _≤_}
-use native.Mathlib.Nat.{add-suc}
 use native.Mathlib.Omega.{arith}
 use lib.ListN.{length, length-append}
 use lib.Seq.{sets}
@@ -46,7 +45,7 @@ module _ (bs : List ℕ) (k : ℕ) where
         (without-here (at .before) (at .own) (at .behind) 1 (subst (Up 1) (at .is) (good-up 1 (orders-in bs) (known-image bs e .good))))
 
     out-length : suc (length (without k (orders-in bs))) ≡ length (orders-in bs)
-    out-length = rw (out-is, at .is, length-append (at .before) (at .behind), length-append (at .before) (at .own ∷ at .behind)) (sym (add-suc (length (at .before)) (length (at .behind))))
+    out-length = rw (out-is, at .is) (simp length-append (omega arith))
 
     -- there is an order to take out
     pub held-some : (m : ℕ) → m ≡ held-in bs → 1 ≤ m
@@ -59,7 +58,8 @@ module _ (bs : List ℕ) (k : ℕ) where
         let r : m - 1 ≡ length (without k (orders-in bs)) = omega (arith, image-held bs e, out-length) in
         let v : Setting s (at .before) (at .own) (at .behind) = record { sizes = w .sizes-made; good = rw (at .is) at (w .good); fit = rw (at .is) at (w .fit) } in
         let was : bs ≡ image s (at .before ++ at .own ∷ at .behind) = rw (at .is) at (sym (w .bytes)) in
-        let leads = ld (at .before) (at .own ∷ at .behind) (held-way s (at .before) (at .own) (at .behind) v bs k was (at .key)) (omega (arith, z .level-is, level-most s k)) in
+        let leads = ld (at .before) (at .own ∷ at .behind) (held-way s (at .before) (at .own) (at .behind) v bs k was (at .key))
+        (omega (arith, z .level-is, level-most s k)) in
         accepted (cancel k) bs bs′ (rw (e, q, h))
         (subst (λ (x : Sizes). bs′ ≡ image x (without k (orders-in bs))) (z .sizes-are)
         (i ∙ rw (r, out-is) (c (at .before) (at .own) (at .behind) v (at .key) leads (z .level-is) was)))

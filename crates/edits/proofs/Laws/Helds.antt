@@ -45,7 +45,8 @@ module _ (s : Sizes) (l : ℕ) (o : Order) (bs bs′ : List ℕ) where
   pub put-held-low : (f : ℕ) (x : Spot) → l ≤ 1 → Leads s bs 1 (o .key) f → Reaches s bs 1 f (o .key) x → Replaces s f (x .below) o bs bs′ → Put-held s l o bs bs′
   unfolding Put-held Leads
   put-held-low f x h b sc r xs y zs w v e le i =
-      swapped s xs y o zs e w v (first-key (head-part s 1 xs)) (x .below) (head-part s 1 xs) (tail-part s 1 zs) bs bs′ (rw fe at r) i (seen s bs (o .key) xs (y ∷ zs) way 1 (omega arith) top f fe x sc .0)
+      swapped s xs y o zs e w v (first-key (head-part s 1 xs)) (x .below) (head-part s 1 xs) (tail-part s 1 zs) bs bs′ (rw fe at r) i
+      (seen s bs (o .key) xs (y ∷ zs) way 1 (omega arith) top f fe x sc .0)
       (simp length-append (omega (arith, head-most s 1 xs, tail-most s 1 zs, few-orders s xs o zs v))) in-y (part-in s 1 xs o zs (all-up s xs o zs v) at-o)
       (λ g n. part-beside s xs y zs w 1 g at-y n ∙ sym (part-beside s xs o zs v 1 g at-o n))
     where

@@ -3,7 +3,6 @@ use mathlib.Core.Path.{_≡_, refl, sym, ap, _∙_, subst}
 use mathlib.Core.Bool.{true, false, and-false}
 use mathlib.Core.List.{List, _∷_, _++_}
 use Prim.Native.Nat.{ℕ, suc, _+_, _*_, _≤_, _<_}
-use native.Mathlib.Nat.{add-suc}
 use native.Mathlib.Omega.{arith}
 use borrow.Author.Tests.{lt-leb, lt-ltb, le-ltb}
 use borrow.Author.Needs.{fits-under}
@@ -79,7 +78,7 @@ module _ (bs : List ℕ) (s : Sizes) (k t d : ℕ) (p : Put-sure bs k t d) (l : 
     put-is = ap (with-order new) (a .is) ∙ put-new new (a .before) (a .behind) (a .low) (a .high)
 
     new-length : length (with-order new os) ≡ suc (length os)
-    new-length = rw (put-is, a .is, length-append (a .before) (new ∷ a .behind), length-append (a .before) (a .behind)) (add-suc (length (a .before)) (length (a .behind)))
+    new-length = rw (put-is, a .is) (simp length-append (omega arith))
 
     full-up : (m : ℕ) → m ≡ held-in bs → s .orders ≤ m → Put-says k t d 7 bs bs
     unfolding book-refusal asks first-no asks-put
@@ -106,7 +105,8 @@ module _ (bs : List ℕ) (s : Sizes) (k t d : ℕ) (p : Put-sure bs k t d) (l : 
 
     counted : full + g ≡ length (chunks s (with-order new os))
     unfolding Grows
-    counted = rw (put-is (f .absent-is)) (omega (arith, n, ap (λ (y : List Order). length (chunks s y)) (at .is), c (at .before) new (at .behind) way leads refl (z .level-is)))
+    counted =
+        rw (put-is (f .absent-is)) (omega (arith, n, ap (λ (y : List Order). length (chunks s y)) (at .is), c (at .before) new (at .behind) way leads refl (z .level-is)))
 
     more : length os < s .orders
     more = omega (arith, f .more, image-held bs (p .image))
@@ -129,9 +129,11 @@ module _ (bs : List ℕ) (s : Sizes) (k t d : ℕ) (p : Put-sure bs k t d) (l : 
     yes : full + g ≤ s .blocks → book-refusal s (put k t d) os ≡ 0
     unfolding book-refusal asks first-no asks-put
     yes h =
-        rw (p .key, p .quantities, f .absent-is, lt-ltb (length os) (s .orders) more, fits-make s (with-order new os) (rw (new-length (f .absent-is)) more) (omega (arith, counted)))
+        let fit = fits-make s (with-order new os) (rw (new-length (f .absent-is)) more) (omega (arith, counted)) in
+        rw (p .key, p .quantities, f .absent-is, lt-ltb (length os) (s .orders) more, fit)
 
-    pub put-done-new : (m : ℕ) (bs₁ bs′ : List ℕ) → full + g ≤ s .blocks → Put-new s first l new bs bs₁ → m ≡ held-in bs → bs′ ≡ sets bs₁ 11 (big 2 (m + 1)) → Put-says k t d 0 bs bs′
+    pub put-done-new : (m : ℕ) (bs₁ bs′ : List ℕ) → full + g ≤ s .blocks → Put-new s first l new bs bs₁ → m ≡ held-in bs → bs′ ≡ sets bs₁ 11 (big 2 (m + 1))
+        → Put-says k t d 0 bs bs′
     unfolding Put-new
     put-done-new m bs₁ bs′ h v e i =
         let q : m + 1 ≡ length (with-order new os) = omega (arith, new-length (f .absent-is), image-held bs (p .image)) in
@@ -163,10 +165,12 @@ module _ (bs : List ℕ) (s : Sizes) (k t d : ℕ) (p : Put-sure bs k t d) (l : 
     unfolding Put-held
     put-done-held bs′ c =
         let was : Setting s (b .before) (b .own) (b .behind) = record { sizes = w .sizes-made; good = rw (b .is) at (w .good); fit = rw (b .is) at (w .fit) } in
-        accepts bs′ over-yes (rw over-is (c (b .before) (b .own) (b .behind) was (setting (b .before) (b .behind) over-is over-yes) (b .key) (z .level-is) (rw (b .is) at (sym (w .bytes)))))
+        accepts bs′ over-yes
+        (rw over-is (c (b .before) (b .own) (b .behind) was (setting (b .before) (b .behind) over-is over-yes) (b .key) (z .level-is) (rw (b .is) at (sym (w .bytes)))))
 
 -- question 7
-pub put-no-7 : (bs : List ℕ) (s : Sizes) (k t d : ℕ) → Put-sure bs k t d → (m : ℕ) → s ≡ sizes-in bs → held k (orders-in bs) ≡ false → m ≡ held-in bs → s .orders ≤ m → Put-says k t d 7 bs bs
+pub put-no-7 : (bs : List ℕ) (s : Sizes) (k t d : ℕ) → Put-sure bs k t d → (m : ℕ) → s ≡ sizes-in bs → held k (orders-in bs) ≡ false → m ≡ held-in bs → s .orders ≤ m
+    → Put-says k t d 7 bs bs
 put-no-7 bs s k t d p m q free e h = full-up bs s k t d p (level s k) (record { sizes-are = q; level-is = refl }) free m e h
 
 -- the sum of question 8 is one that 32 bits hold

@@ -60,7 +60,8 @@ module _ (s : Sizes) (xs : List Order) (o : Order) (zs : List Order) (w : Settin
           let qs = tail-part s (suc j) zs in
           let same = count-same s (suc j) xs o zs (key-pos s xs o zs w) h in
           let c = p (b .map) (b .full) (header s (length (xs ++ zs))) (map (masked (suc j)) ps) (map (masked (suc j)) qs) (b .table)
-          (room s xs o zs w j low x qs spot o (order-fine s xs o zs w) few) (rw map-append at (nodes (first-key ps) (ps ++ qs) (part-at s (suc j) xs zs (less-up s xs o zs w))))
+          (room s xs o zs w j low x qs spot o (order-fine s xs o zs w) few)
+          (rw map-append at (nodes (first-key ps) (ps ++ qs) (part-at s (suc j) xs zs (less-up s xs o zs w))))
           (rw (length-both (suc j) ps qs) (omega (arith, spare))) in (
             next-first s xs o zs w j low x qs spot,
             one-changed s (xs ++ zs) (xs ++ o ∷ zs) (some-nodes s xs o zs w) (less-up s xs o zs w) (all-up s xs o zs w) j low bs b bs′ (first-key ps) (ps ++ qs) (ps ++ o ∷ qs)
@@ -78,8 +79,10 @@ module _ (s : Sizes) (xs : List Order) (o : Order) (zs : List Order) (w : Settin
           let qs = tail-part s (suc j) zs in
           let more = count-high s (suc j) xs o zs (key-pos s xs o zs w) h in
           let c = p (b .map) (b .full) (header s (length (xs ++ zs))) (map (masked (suc j)) ps) (map (masked (suc j)) qs) (b .table)
-          (room s xs o zs w j low x qs spot o (order-fine s xs o zs w) few) (rw map-append at (nodes (first-key ps) (ps ++ qs) (part-at s (suc j) xs zs (less-up s xs o zs w))))
-          (λ z. omega (arith, first-low s xs o zs w (suc j))) (nodes (o .key) [] (less-none s xs o zs w (suc j))) (rw (length-map ps (masked (suc j))) (head-part-long s (suc j) xs))
+          (room s xs o zs w j low x qs spot o (order-fine s xs o zs w) few)
+          (rw map-append at (nodes (first-key ps) (ps ++ qs) (part-at s (suc j) xs zs (less-up s xs o zs w))))
+          (λ z. omega (arith, first-low s xs o zs w (suc j))) (nodes (o .key) [] (less-none s xs o zs w (suc j)))
+          (rw (length-map ps (masked (suc j))) (head-part-long s (suc j) xs))
           (rw (length-both (suc j) ps qs, length-map ps (masked (suc j)), length-map qs (masked (suc j))) (omega (arith, spare))) in (
             next-first s xs o zs w j low x qs spot,
             two-changed s (xs ++ zs) (xs ++ o ∷ zs) (some-nodes s xs o zs w) (less-up s xs o zs w) (all-up s xs o zs w) j low bs b bs′ (first-key ps) (o .key) _ ps (o ∷ qs) c

@@ -37,7 +37,8 @@ module _ (s : Sizes) (xs : List Order) (o : Order) (zs : List Order) (w : Settin
 
   cancel-above : Between s (xs ++ o ∷ zs) (xs ++ zs) (level s (o .key)) (image s (xs ++ o ∷ zs))
   cancel-above =
-      way-start s (xs ++ o ∷ zs) (xs ++ zs) (w .good) (less-good s xs o zs w) (w .sizes) (w .fit) (level s (o .key)) (level-most s (o .key)) same-above (λ l h low. count-above l h)
+      way-start s (xs ++ o ∷ zs) (xs ++ zs) (w .good) (less-good s xs o zs w) (w .sizes) (w .fit) (level s (o .key)) (level-most s (o .key)) same-above
+      (λ l h low. count-above l h)
 
 -- a put under way from partition e of level l: level k is next, in the partition that f heads
 pub record Putting (s : Sizes) (e l : ℕ) (o : Order) (bs₀ : List ℕ) (k f : ℕ) (bs : List ℕ) : Type 0 where

@@ -24,7 +24,8 @@ use Rattle.edits.specs.Change.{Between}
 module _ (s : Sizes) (os : List Order) (b : 0 < s .nodes) (u : Up 1 os) (k : ℕ) (pos : 0 < k) (low : k ≤ beta s) where
   pub from-pieces : (F : Map) (f : ℕ) (ns : List Order) → part s os k f ≡ ns → Pieces F (s .nodes) k f 0 (map (masked k) ns) → (i : ℕ) → F k f i ≡ map-of (chunks s os) k f i
   unfolding Pieces
-  from-pieces F f ns e h i = rw (zero-add i) at (h i) ∙ ap (λ (z : List Order). take (s .nodes) (drop (i * s .nodes) (map (masked k) z))) (sym e) ∙ sym (level-nodes s os b u k pos low f i)
+  from-pieces F f ns e h i =
+      rw (zero-add i) at (h i) ∙ ap (λ (z : List Order). take (s .nodes) (drop (i * s .nodes) (map (masked k) z))) (sym e) ∙ sym (level-nodes s os b u k pos low f i)
 
 -- two sets of orders that have the same partition there
 pub same-part : (s : Sizes) (os qs : List Order) → 0 < s .nodes → Up 1 os → Up 1 qs → (k f : ℕ) → 0 < k → k ≤ beta s → part s os k f ≡ part s qs k f →
@@ -43,7 +44,8 @@ counts-one k s os =
     rw e at (counts-snoc k 1 s os)
 
 -- .. and where the levels above k are the same
-pub counts-kept : (s : Sizes) (old new : List Order) (k n : ℕ) → ((l : ℕ) → k < l → l ≤ k + n → count s l old ≡ count s l new) → counts (k + n) 1 s old + counts k 1 s new ≡ counts (k + n) 1 s new + counts k 1 s old
+pub counts-kept : (s : Sizes) (old new : List Order) (k n : ℕ) → ((l : ℕ) → k < l → l ≤ k + n → count s l old ≡ count s l new)
+    → counts (k + n) 1 s old + counts k 1 s new ≡ counts (k + n) 1 s new + counts k 1 s old
 counts-kept s old new k zero h = rw (add-zero k) (omega arith)
 counts-kept s old new k (suc n) h =
     rw (add-suc k n)

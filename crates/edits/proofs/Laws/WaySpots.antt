@@ -46,7 +46,8 @@ module _ (s : Sizes) (xs : List Order) (o : Order) (zs : List Order) (w : Settin
     unfolding Scans
     seen x qs e u sc =
         let ps = head-part s (suc j) xs in
-        let v = sc (b .map) (b .full) (header s (length old)) (map (masked (suc j)) ps) (map (masked (suc j)) qs) (b .table) (omega arith) (rw map-append at (there (first-key ps) (ps ++ qs) e))
+        let v = sc (b .map) (b .full) (header s (length old)) (map (masked (suc j)) ps) (map (masked (suc j)) qs) (b .table) (omega arith)
+        (rw map-append at (there (first-key ps) (ps ++ qs) e))
         (below-masked (suc j) (o .key) ps (head-below s (suc j) (o .key) xs (key-pos s xs o zs w) (front-below s xs o zs w))) (up-masked (suc j) (o .key) qs u) in
         record {
           below = ap (λ (z : Spot). z .below) v ∙ length-map ps (masked (suc j));

@@ -48,7 +48,9 @@ module _ (s : Sizes) (old new : List Order) (g : orders-good 1 old ≡ true) (h 
     table = image-keeps s old m g f;
     above = λ l f i q. go l f i q (decLt (beta s) l);
     upto = λ l f i q. refl;
-    count = omega (arith, length-chunks s old (some-nodes s m), length-chunks s new (some-nodes s m), rw top at (counts-kept s old new k (beta s - k) (λ l a b. counted l a (omega arith))));
+    count =
+        let kept = counts-kept s old new k (beta s - k) (λ l a b. counted l a (omega arith)) in
+        omega (arith, length-chunks s old (some-nodes s m), length-chunks s new (some-nodes s m), rw top at kept);
   }
     where
       top : k + (beta s - k) ≡ beta s
