@@ -3,7 +3,7 @@ use mathlib.Core.Path.{_≡_, refl, sym, ap, _∙_}
 use mathlib.Core.List.{List, [], _∷_, _++_, append-assoc}
 use Prim.Native.Nat.{ℕ, zero, suc, _+_, _*_, _-_, _/_, _%_, _≤_, _<_}
 use native.Mathlib.Decide.{decLt}
-use native.Mathlib.Nat.{zero-add, mod-lt, suc-mul, mul-le-mul-right}
+use native.Mathlib.Nat.{zero-add, suc-mul, mul-le-mul-right}
 use native.Mathlib.Omega.{arith}
 use lib.ListN.{length, take, drop, replicate, length-append, length-drop, take-append-drop}
 use lib.Seq.{sets, sets-eq, length-sets, take-at, drop-at, drop-drop, drop-append-le, length-take-le}
@@ -180,7 +180,3 @@ module _ (s : Sizes) (f m : ℕ) (o : Order) (bs : List ℕ) (two : 2 ≤ s .nod
     pub replace-made : Replaces s f m o bs bs₂
     unfolding Replaces
     replace-made F n hd ps y qs t fo key em few p = comes F n hd ps y qs t fo key p (place F ps y qs em p) (some-found s F n hd bs t (at 1 f i) (omega arith) x ex j e)
-
--- the place of the node
-pub rest-less : (b m : ℕ) → 2 ≤ b → m % b < b
-rest-less b m h = mod-lt m (omega arith)

@@ -21,9 +21,9 @@ use Rattle.levels.specs.Shift.{Stored, Stores}
 use Rattle.levels.proofs.Laws.CarryFronts.{front-rest, front-none, front-more}
 use Rattle.levels.proofs.Laws.Takes.{one-some}
 use Rattle.levels.proofs.Laws.Flushes.{fines-drop, fines-append, fines-there, not-none}
-use Rattle.levels.proofs.Laws.Chunking.{pieces-at, pieces-from, pieces-join, chunk-same, pieces-none, pieces-skip, number-half, pieces-half, pieces-full, one-pieces, drop-past, take-past}
+use Rattle.levels.proofs.Laws.Chunking.{pieces-next, pieces-at, pieces-from, pieces-join, chunk-same, pieces-none, pieces-skip, number-half, pieces-half, pieces-full, one-pieces, drop-past, take-past}
 use Rattle.levels.proofs.Laws.MapLabels.{with-other, with-number, cleared-other, cleared-number}
-use Rattle.levels.proofs.Laws.Replacing.{chunk-low, rest-chunks, pieces-three}
+use Rattle.levels.proofs.Laws.Replacing.{chunk-low, rest-chunks}
 use Rattle.levels.proofs.Laws.Levels.{fine-masked, carry-split, Chunk-read, chunk-read}
 
 -- the last chunk of a list: number i, of the r nodes past i whole chunks
@@ -49,7 +49,9 @@ module _ (s : Sizes) (F : Map) (m : ℕ) (hd bs : List ℕ) (k f g i r n : ℕ) 
   is = ap (λ (z : List Order). o ∷ z) (u .split .behind)
 
   old-pieces : pieces (s .nodes) (length (ps ++ qs)) ≡ i + one (F k f i) + pieces (s .nodes) (length (drop (suc i * s .nodes) (ps ++ qs)))
-  old-pieces = pieces-three (s .nodes) i (ps ++ qs) (omega arith) (omega (arith, length-append ps qs)) ∙ rw (← pieces-at F (s .nodes) k f (ps ++ qs) i p) refl
+  old-pieces =
+      let skip = pieces-skip (s .nodes) (length (ps ++ qs)) i (omega arith) (omega (arith, length-append ps qs)) in
+      rw (pieces-at F (s .nodes) k f (ps ++ qs) i p) (omega (arith, ap (pieces (s .nodes)) (length-drop (i * s .nodes) (ps ++ qs)), pieces-next (s .nodes) i (ps ++ qs) (omega arith)))
 
   kept-pieces : pieces (s .nodes) (length ps) ≡ i + one (take r (F k f i))
   kept-pieces = last-pieces (s .nodes) i r ps (u .split .sum) (u .split .less) ∙ rw (u .split .before) refl

@@ -13,9 +13,9 @@ use Rattle.sizes.specs.declared.Sizes.{Sizes}
 use Rattle.placement.specs.declared.Order.{Order}
 use Rattle.skiplist.proofs.Laws.Count.{pieces}
 use Rattle.levels.specs.Edit.{Pieces, Elsewhere, Comes-in}
-use Rattle.levels.specs.Pour.{one, Front}
+use Rattle.levels.specs.Pour.{Front}
 use Rattle.levels.specs.Shift.{Shifts}
-use Rattle.levels.proofs.Laws.Chunking.{pieces-next, chunk-rest, pieces-at, pieces-from, pieces-join, pieces-none, pieces-skip, pieces-pass, pieces-pos, pieces-half, drop-next}
+use Rattle.levels.proofs.Laws.Chunking.{chunk-rest, pieces-at, pieces-from, pieces-join, pieces-none, pieces-skip, pieces-pass, pieces-pos, pieces-half, drop-next}
 
 -- a chunk before the end of ps, whatever follows
 pub chunk-low : (b n i : ℕ) (ps x : List Order) → n < i → i * b ≤ length ps → take b (drop (n * b) (ps ++ x)) ≡ take b (drop (n * b) ps)
@@ -39,10 +39,6 @@ rest-chunks b i l h g = go (decLt (i * b) (length l))
         let z : length l - i * b ≡ 0 = omega (arith, d) in
         let y : length (drop (suc i * b) l) ≡ 0 = length-drop (suc i * b) l ∙ omega (arith, d, u) in
         omega (arith, pieces-skip b (length l) i h g, ap (pieces b) z, ap (pieces b) y, pieces-none b)
-
--- chunks up to number i, chunk i, and those after it
-pub pieces-three : (b i : ℕ) (l : List Order) → 0 < b → i * b ≤ length l → pieces b (length l) ≡ i + one (take b (drop (i * b) l)) + pieces b (length (drop (suc i * b) l))
-pieces-three b i l h g = omega (arith, pieces-skip b (length l) i h g, ap (pieces b) (length-drop (i * b) l), pieces-next b i l h)
 
 -- WHERE A KEY COMES in a partition of ps and qs: behind r nodes of chunk number i, which has the nodes c
 pub record Split (b i r : ℕ) (ps qs c : List Order) : Type 0 where

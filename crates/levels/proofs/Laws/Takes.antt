@@ -36,19 +36,16 @@ pub one-none : (ns : List Order) → ns ≡ [] → one ns ≡ 0
 unfolding one
 one-none ns e = ap one e
 
-block-nodes : (s : Sizes) (w : Label) (ns : List Order) → take (12 * length ns) (drop 8 (block-bytes s (holds (labelled w ns)))) ≡ nodes-bytes ns
-unfolding block-bytes big
-block-nodes s w ns = take-at (nodes-bytes ns) (replicate (12 * (s .nodes - length ns)) 0) (12 * length ns) (nodes-long ns)
-
 -- the bytes of the nodes in a block that was found
 nodes-read : (s : Sizes) (bs : List ℕ) (i : ℕ) (w : Label) (ns : List Order) → block-in (block-long s) bs i ≡ block-bytes s (holds (labelled w ns)) → length ns ≤ s .nodes
     → take (12 * length ns) (drop (53 + i * block-long s + 8) bs) ≡ nodes-bytes ns
-unfolding block-in block-long
+unfolding block-in block-long block-bytes big
 nodes-read s bs i w ns e h =
     let d = drop (53 + i * block-long s) bs in
     let few : 12 * length ns ≤ 12 * s .nodes = omega arith in
     rw (← drop-drop)
-    (sym (take-take (12 * length ns) (12 * s .nodes) (drop 8 d) few) ∙ ap (take (12 * length ns)) (sym (drop-take 8 (12 * s .nodes) d) ∙ ap (drop 8) e) ∙ block-nodes s w ns)
+    (sym (take-take (12 * length ns) (12 * s .nodes) (drop 8 d) few) ∙ ap (take (12 * length ns)) (sym (drop-take 8 (12 * s .nodes) d) ∙ ap (drop 8) e)
+    ∙ take-at (nodes-bytes ns) (replicate (12 * (s .nodes - length ns)) 0) (12 * length ns) (nodes-long ns))
 
 -- WHAT A SEARCH FOUND: nothing where the map has nothing, or the block with the label and its nodes
 pub record Stood (s : Sizes) (F : Map) (w : Label) (bs : List ℕ) (b : ℕ) : Type 0 where

@@ -2,10 +2,11 @@
 use borrow.Author.Needs.{needs}
 use mathlib.Core.Path.{refl}
 use Prim.Native.Nat.{_+_, _*_, _%_, _≤_, _<_}
+use native.Mathlib.Nat.{mod-lt}
 use native.Mathlib.Omega.{arith}
 use lib.ListN.{length}
 use Rattle.placement.proofs.Laws.Loops.{search-below}
-use Rattle.levels.proofs.Laws.Changing.{replace-none, replace-made, rest-less}
+use Rattle.levels.proofs.Laws.Changing.{replace-none, replace-made}
 use Rattle.levels.proofs.edit.replace.Statement.{statement}
 use Rattle.levels.proofs.edit.replace.Tie as tie
 
@@ -21,7 +22,7 @@ inside : (d : tie.After-offset) →
     (a .args .below % a .args .s .nodes < 32) × (d .offset .result + 12 * (a .args .below % a .args .s .nodes) + 20 ≤ length (a .args .table .now))
 inside d =
     let a = d .before .before .before .before .before .before .before .before in
-    let less = rest-less (a .args .s .nodes) (a .args .below) (a .pre .1) in
+    let less = mod-lt (a .args .below) {m = a .args .s .nodes} (omega (arith, a .pre .1)) in
     (omega (arith, a .pre .0 .few), omega (arith, d .offset .ensures .1, a .pre .0 .long, a .pre .0 .width))
 
 returns-2 : tie.Need-returns-2
