@@ -3,7 +3,7 @@ use mathlib.Core.Path.{_≡_, refl, sym, ap, _∙_}
 use mathlib.Core.List.{List, [], _∷_, _++_, append-assoc}
 use Prim.Native.Nat.{ℕ, zero, suc, _+_, _*_, _-_, _/_, _≤_, _<_}
 use native.Mathlib.Decide.{decLt}
-use native.Mathlib.Nat.{le-div-iff-mul-le, suc-mul, add-mul, zero-add, zero-mul, sub-zero, div-eq-of-lt, div-eq-sub-div, div-lt-iff-lt-mul, div-mul-le-self}
+use native.Mathlib.Nat.{le-of-mul-le-mul-right, le-div-iff-mul-le, suc-mul, add-mul, zero-add, zero-mul, sub-zero, div-eq-of-lt, div-eq-sub-div, div-lt-iff-lt-mul, div-mul-le-self}
 use native.Mathlib.Omega.{arith}
 use lib.ListN.{length, take, drop, length-drop, take-append-drop, drop-of-length-le}
 use lib.Seq.{drop-drop, take-nil}
@@ -22,24 +22,6 @@ pub pieces-full : (b n : ℕ) → 0 < b → 0 < n → pieces b n ≡ suc (pieces
 pieces-full b zero h g = absurd (omega arith)
 pieces-full b (suc n) h g = pieces-less b n h
 
-pub pieces-skip : (b n i : ℕ) → 0 < b → i * b ≤ n → pieces b n ≡ i + pieces b (n - i * b)
-pieces-skip b n zero h g = rw (zero-mul, sub-zero) (omega arith)
-pieces-skip b n (suc i) h g =
-    let e = suc-mul i b in
-    let f : n - b - i * b ≡ n - suc i * b = omega arith in
-    pieces-full b n h (omega arith) ∙ ap suc (pieces-skip b (n - b) i h (omega arith)) ∙ rw f (omega arith)
-
--- .. of those that there are
-pub pieces-pass : (b n i : ℕ) → 0 < b → i ≤ pieces b n → pieces b n ≡ i + pieces b (n - i * b)
-unfolding pieces
-pieces-pass b n zero h g = rw (zero-mul, sub-zero) (omega arith)
-pieces-pass b zero (suc i) h g = absurd (omega arith)
-pieces-pass b (suc n) (suc i) h g =
-    let e = suc-mul i b in
-    let f : suc n - b - i * b ≡ suc n - suc i * b = omega arith in
-    let z = pieces-full b (suc n) h (omega arith) in
-    z ∙ ap suc (pieces-pass b (suc n - b) i h (omega arith)) ∙ rw f (omega arith)
-
 pub pieces-under : (b n i : ℕ) → 0 < b → i < pieces b n → i * b < n
 unfolding pieces
 pieces-under b zero i h g = absurd (omega arith)
@@ -54,6 +36,18 @@ pub pieces-most : (b n i : ℕ) → 0 < b → n ≤ i * b → pieces b n ≤ i
 unfolding pieces
 pieces-most b zero i h g = omega arith
 pieces-most b (suc n) i h g = omega (arith, div-lt-iff-lt-mul {x = n} {y = i} h .1 (omega arith))
+
+-- i chunks, of those that there are, and the others
+pub pieces-pass : (b n i : ℕ) → 0 < b → i ≤ pieces b n → pieces b n ≡ i + pieces b (n - i * b)
+pieces-pass b n zero h g = rw (zero-mul, sub-zero) (omega arith)
+pieces-pass b n (suc i) h g =
+    let e = suc-mul i b in
+    let f : n - b - i * b ≡ n - suc i * b = omega arith in
+    let z = pieces-full b n h (omega (arith, pieces-under b n i h g)) in
+    z ∙ ap suc (pieces-pass b (n - b) i h (omega arith)) ∙ rw f (omega arith)
+
+pub pieces-skip : (b n i : ℕ) → 0 < b → i * b ≤ n → pieces b n ≡ i + pieces b (n - i * b)
+pieces-skip b n i h g = pieces-pass b n i h (le-of-mul-le-mul-right {k = b} (omega (arith, pieces-over b n (pieces b n) h (omega arith))) h)
 
 pub pieces-up-to : (b n m : ℕ) → 0 < b → n ≤ m → pieces b n ≤ pieces b m
 pieces-up-to b n m h g = pieces-most b n (pieces b m) h (omega (arith, pieces-over b m (pieces b m) h (omega arith)))

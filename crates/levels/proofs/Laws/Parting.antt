@@ -71,7 +71,7 @@ module _ (s : Sizes) (F : Map) (m : ℕ) (hd bs : List ℕ) (k f g i r n : ℕ) 
         few = omega (arith, new-pieces, pieces-half (s .nodes) (suc (length qs)) two, length-append ps qs);
         some = omega arith;
         short = omega (arith, length-drop r (F k f i));
-        chunks = ec ∙ rest-chunks (s .nodes) i (ps ++ qs) (omega arith) (omega (arith, length-append ps qs));
+        chunks = ec ∙ rest-chunks (s .nodes) i (ps ++ qs) (omega arith);
         source = λ j. with-other F (λ a b d. omega arith) _ ∙ ap (λ (z : ℕ). F k f (z + j)) (add-one i) ∙ pieces-from F (s .nodes) k f (ps ++ qs) (suc i) p j;
         apart = ne;
         target = λ j a. with-other F (λ a b d. ne (sym b)) _ ∙ pieces-at F (s .nodes) k g [] j p′ ∙ rw (drop-nil, take-nil);
@@ -161,7 +161,7 @@ module _ (s : Sizes) (F : Map) (m : ℕ) (hd bs : List ℕ) (k f g i r : ℕ) (p
         few = omega (arith, joined-pieces, pieces-half (s .nodes) (length (ps ++ qs)) two, length-append ps qs, length-append ps (y ∷ qs));
         some = some;
         short = omega arith;
-        chunks = ec ∙ rest-chunks (s .nodes) 0 (y ∷ qs) some (omega arith);
+        chunks = ec ∙ rest-chunks (s .nodes) 0 (y ∷ qs) some;
         source = λ j.
             cleared-other (cleared (at k f i) F) (λ a b d. omega arith) ∙ cleared-other F (λ a b d. ne (sym b)) ∙ pieces-from F (s .nodes) k g (y ∷ qs) (suc 0) p′ j;
         apart = λ z. ne (sym z);

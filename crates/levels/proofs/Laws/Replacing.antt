@@ -15,7 +15,7 @@ use Rattle.skiplist.proofs.Laws.Count.{pieces}
 use Rattle.levels.specs.Edit.{Pieces, Elsewhere, Comes-in}
 use Rattle.levels.specs.Pour.{Front}
 use Rattle.levels.specs.Shift.{Shifts}
-use Rattle.levels.proofs.Laws.Chunking.{chunk-rest, pieces-at, pieces-from, pieces-join, pieces-none, pieces-skip, pieces-pass, pieces-pos, pieces-half, drop-next}
+use Rattle.levels.proofs.Laws.Chunking.{pieces-over, chunk-rest, pieces-at, pieces-from, pieces-join, pieces-none, pieces-skip, pieces-pass, pieces-half, drop-next}
 
 -- a chunk before the end of ps, whatever follows
 pub chunk-low : (b n i : ℕ) (ps x : List Order) → n < i → i * b ≤ length ps → take b (drop (n * b) (ps ++ x)) ≡ take b (drop (n * b) ps)
@@ -25,20 +25,14 @@ chunk-low b n i ps x h g =
     ap (take b) (drop-append-le (n * b) ps x (omega arith)) ∙ take-append-le b (drop (n * b) ps) x (simp length-drop (omega arith))
 
 -- how many chunks come after number i
-pub rest-chunks : (b i : ℕ) (l : List Order) → 0 < b → i * b ≤ length l → pieces b (length l) - (i + 1) ≡ pieces b (length (drop (suc i * b) l))
-rest-chunks b i l h g = go (decLt (i * b) (length l))
+pub rest-chunks : (b i : ℕ) (l : List Order) → 0 < b → pieces b (length l) - (i + 1) ≡ pieces b (length (drop (suc i * b) l))
+rest-chunks b i l h = go (decLt i (pieces b (length l)))
   where
-    u : suc i * b ≡ i * b + b
-    u = suc-mul i b
-
-    go : Dec (i * b < length l) → pieces b (length l) - (i + 1) ≡ pieces b (length (drop (suc i * b) l))
-    go (yes d) =
-        let p : i < pieces b (length l) = omega (arith, pieces-skip b (length l) i h g, pieces-pos b (length l - i * b) h (omega arith)) in
-        omega (arith, pieces-pass b (length l) (suc i) h p, ap (pieces b) (length-drop (suc i * b) l))
-    go (no d) =
-        let z : length l - i * b ≡ 0 = omega (arith, d) in
-        let y : length (drop (suc i * b) l) ≡ 0 = length-drop (suc i * b) l ∙ omega (arith, d, u) in
-        omega (arith, pieces-skip b (length l) i h g, ap (pieces b) z, ap (pieces b) y, pieces-none b)
+    go : Dec (i < pieces b (length l)) → pieces b (length l) - (i + 1) ≡ pieces b (length (drop (suc i * b) l))
+    go (yes p) = omega (arith, pieces-pass b (length l) (suc i) h p, ap (pieces b) (length-drop (suc i * b) l))
+    go (no p) =
+        let z : length (drop (suc i * b) l) ≡ 0 = length-drop (suc i * b) l ∙ omega (arith, suc-mul i b, pieces-over b (length l) i h (omega (arith, p))) in
+        omega (arith, p, ap (pieces b) z, pieces-none b)
 
 -- WHERE A KEY COMES in a partition of ps and qs: behind r nodes of chunk number i, which has the nodes c
 pub record Split (b i r : ℕ) (ps qs c : List Order) : Type 0 where
@@ -93,7 +87,7 @@ module _ (s : Sizes) (F : Map) (n : ℕ) (hd bs : List ℕ) (k f i : ℕ) (ps x 
         short = short;
         two = two;
         few = omega (arith, from-number y, pieces-half (s .nodes) (length (ps ++ y)) two);
-        chunks = ec ∙ rest-chunks (s .nodes) i (ps ++ x) some (omega (arith, length-append ps x)) ∙ rw (← drop-next (s .nodes) i (ps ++ x)) refl;
+        chunks = ec ∙ rest-chunks (s .nodes) i (ps ++ x) some ∙ rw (← drop-next (s .nodes) i (ps ++ x)) refl;
         source = pieces-from F (s .nodes) k f (ps ++ x) i p;
         is = rw (drop-next (s .nodes) i (ps ++ x)) is;
         room = omega (arith, from-number x, from-number y, room);

@@ -6,7 +6,6 @@ use mathlib.Core.List.{List, [], _∷_, _++_}
 use Prim.Native.Nat.{ℕ, zero, suc, _+_, _*_, _-_, _≤_, _<_}
 use native.Mathlib.Nat.{zero-mul, add-zero, sub-zero, suc-mul, mul-le-mul-right}
 use native.Mathlib.Numerals.{add-one}
-use native.Mathlib.Decide.{decLt}
 use native.Mathlib.Omega.{arith}
 use borrow.Author.Tests.{ltb-true, lt-ltb, le-ltb}
 use lib.Dec.{ltb}
@@ -24,6 +23,7 @@ use Rattle.sizes.proofs.Laws.Sizes.{some-nodes}
 use Rattle.placement.proofs.Laws.Tables.{count-most, count-some, remove-keeps}
 use Rattle.placement.proofs.Laws.Reading.{node-at, key-read}
 use Rattle.skiplist.proofs.Laws.Parts.{Up, below, up-front, and-left, and-right}
+use Rattle.skiplist.proofs.Laws.Count.{pieces}
 use Rattle.skiplist.proofs.Laws.Descent.{last-from}
 use Rattle.levels.specs.declared.Spot.{Spot}
 use Rattle.levels.specs.Edit.{Pieces, Scans, Reaches, Spots}
@@ -31,7 +31,7 @@ use Rattle.levels.specs.Pour.{at}
 use Rattle.levels.specs.Scan.{passed, passes}
 use Rattle.levels.proofs.Laws.MapLabels.{cleared-other}
 use Rattle.levels.proofs.Laws.Takes.{none-found, some-found, counted}
-use Rattle.levels.proofs.Laws.Chunking.{pieces-at}
+use Rattle.levels.proofs.Laws.Chunking.{pieces-at, pieces-under, pieces-over}
 
 -- A NODE
 module _ (key y : ℕ) (x : Spot) where
@@ -165,14 +165,10 @@ module _ (s : Sizes) (k f : ℕ) (pos : 0 < k) where
     piece-gone i e = omega (arith, some-nodes s (t .good), simp (length-take, length-drop) at (ap length (sym (pieces-at F (s .nodes) k f ns i p) ∙ e)))
 
     chunks-most : length ns ≤ s .blocks * s .nodes
-    chunks-most = go (decLt (s .blocks * s .nodes) (length ns))
-      where
-        there : s .blocks * s .nodes < length ns → (i : ℕ) → 0 ≤ i → i < 0 + suc (s .blocks) → F k f i ≢ []
-        there h i l g e = let m : i ≤ s .blocks = omega arith in omega (arith, piece-gone i e, mul-le-mul-right (s .nodes) m)
-
-        go : Dec (s .blocks * s .nodes < length ns) → length ns ≤ s .blocks * s .nodes
-        go (no h) = omega arith
-        go (yes h) = absurd (omega (arith, count-most s F n hd bs t, crowd (suc (s .blocks)) F n hd bs 0 t (there h)))
+    chunks-most =
+        let some = some-nodes s (t .good) in
+        let there = crowd (pieces (s .nodes) (length ns)) F n hd bs 0 t (λ i l g e. omega (arith, piece-gone i e, pieces-under (s .nodes) (length ns) i some (omega arith))) in
+        pieces-over (s .nodes) (length ns) (s .blocks) some (omega (arith, count-most s F n hd bs t))
 
 -- THE CHUNKS of a partition
 pub record Scanning (s : Sizes) (bs : List ℕ) (k f y i : ℕ) (z : Spot) : Type 0 where
