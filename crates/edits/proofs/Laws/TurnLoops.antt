@@ -14,7 +14,7 @@ use Rattle.placement.proofs.Laws.Loops.{shaped-same}
 use Rattle.skiplist.specs.Lists.{first-key, chunks}
 use Rattle.skiplist.specs.Image.{image}
 use Rattle.skiplist.proofs.Laws.Edits.{head-part, level-most, part-above}
-use Rattle.skiplist.proofs.Laws.Count.{count, count-low}
+use Rattle.skiplist.proofs.Laws.Count.{count-low}
 use Rattle.edits.specs.Change.{Setting, Between, Put-turn, Cancel-turn, Put-new, Cancel-held}
 use Rattle.edits.proofs.Laws.WayLevels.{same-part}
 use Rattle.edits.proofs.Laws.Settings.{all-up, less-up, key-pos, some-nodes, less-good, less-fit}
@@ -27,18 +27,15 @@ module _ (s : Sizes) (xs : List Order) (o : Order) (zs : List Order) (w : Settin
       same-part s (xs ++ o ∷ zs) (xs ++ zs) (some-nodes s xs o zs w) (all-up s xs o zs w) (less-up s xs o zs w) l f (omega arith) low
       (part-above s l xs o zs (all-up s xs o zs w) f h) i
 
-  count-above : (l : ℕ) → level s (o .key) < l → count s l (xs ++ o ∷ zs) ≡ count s l (xs ++ zs)
-  count-above l h = count-low s l xs o zs (key-pos s xs o zs w) h
-
   put-above : Between s (xs ++ zs) (xs ++ o ∷ zs) (level s (o .key)) (image s (xs ++ zs))
   put-above =
       way-start s (xs ++ zs) (xs ++ o ∷ zs) (less-good s xs o zs w) (w .good) (w .sizes) (less-fit s xs o zs w) (level s (o .key)) (level-most s (o .key))
-      (λ l f i h low. sym (same-above l f i h low)) (λ l h low. sym (count-above l h))
+      (λ l f i h low. sym (same-above l f i h low)) (λ l h low. sym (count-low s l xs o zs (key-pos s xs o zs w) h))
 
   cancel-above : Between s (xs ++ o ∷ zs) (xs ++ zs) (level s (o .key)) (image s (xs ++ o ∷ zs))
   cancel-above =
       way-start s (xs ++ o ∷ zs) (xs ++ zs) (w .good) (less-good s xs o zs w) (w .sizes) (w .fit) (level s (o .key)) (level-most s (o .key)) same-above
-      (λ l h low. count-above l h)
+      (λ l h low. count-low s l xs o zs (key-pos s xs o zs w) h)
 
 -- a put under way from partition e of level l: level k is next, in the partition that f heads
 pub record Putting (s : Sizes) (e l : ℕ) (o : Order) (bs₀ : List ℕ) (k f : ℕ) (bs : List ℕ) : Type 0 where
