@@ -45,9 +45,10 @@ run: program
 	@$(PROGRAM) < examples/full-run.txt | tee build/full-run.out
 	@diff examples/full-run.out build/full-run.out && echo "as document 01 has it"
 
-# The proofs from nothing and every wrong program first, then every test, on what was proved. The last line is rt ci's own, and comes only if all passed.
+# What takes a second, then the proofs from nothing and every wrong program, then every test, on what was proved. The last line is rt ci's own, and comes only if all passed.
 test: bench-need
 	rt fmt --check
+	@$(MAKE) --no-print-directory auditor
 	@mkdir -p build
 	@bash -o pipefail -c 'rt ci 2>&1 | tee build/ci.log'
 	@$(MAKE) --no-print-directory tests
