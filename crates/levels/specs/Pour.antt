@@ -30,9 +30,6 @@ pub record Kept (s : Sizes) (bs′ cs cs′ : List ℕ) : Type 0 where
   pub shaped : Shaped s bs′
   pub long : length cs′ ≡ length cs
 
-abbrev pub at : (k f i : ℕ) → Label
-at k f i = record { level = k; first = f; number = i }
-
 -- the nodes of a chunk are read behind those of the carry
 pub record Read (F : Map) (w : Label) (c : List Order) (cs : List ℕ) (r : ℕ) : Type 0 where
   pub front : Front cs (c ++ nodes-of F w)

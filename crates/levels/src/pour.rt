@@ -3,8 +3,9 @@
 ghost use mathlib.Core.Path.{_≡_};
 ghost use Prim.Native.Nat.{_+_, _*_, _≤_, _<_};
 ghost use lib.ListN.{length};
+ghost use Rattle.placement.specs.Labels.{label};
 ghost use Rattle.placement.specs.Place.{Shaped};
-ghost use Rattle.levels.specs.Pour.{at, poured, Kept, Reads, Takes, Flushes, Puts, Pours};
+ghost use Rattle.levels.specs.Pour.{poured, Kept, Reads, Takes, Flushes, Puts, Pours};
 use placement::Found;
 use placement::Label;
 use placement::edits::insert;
@@ -27,7 +28,7 @@ pub fn read(
     n: u32,
 ) -> u32
     requires { ⌜ Shaped s (now table) × (12 * (n + s .nodes) ≤ length (now carry)) × (length (now carry) ≤ 1024) ⌝ }
-    ensures { λ r. ⌜ (length (now (carry .exit)) ≡ length (now (carry .entry))) × (r ≤ n + s .nodes) × Reads s (at level first number) n (now (table .entry)) (now (carry .entry)) (now (carry .exit)) r ⌝ }
+    ensures { λ r. ⌜ (length (now (carry .exit)) ≡ length (now (carry .entry))) × (r ≤ n + s .nodes) × Reads s (label level first number) n (now (table .entry)) (now (carry .entry)) (now (carry .exit)) r ⌝ }
 {
     let Found::At(i) = find(
         table,
@@ -60,7 +61,7 @@ pub fn take(
     n: u32,
 ) -> u32
     requires { ⌜ Shaped s (now table) × (12 * (n + s .nodes) ≤ length (now carry)) × (length (now carry) ≤ 1024) ⌝ }
-    ensures { λ r. ⌜ Kept s (now (table .exit)) (now (carry .entry)) (now (carry .exit)) × (r ≤ n + s .nodes) × Takes s (at level first number) n (now (table .entry)) (now (table .exit)) (now (carry .entry)) (now (carry .exit)) r ⌝ }
+    ensures { λ r. ⌜ Kept s (now (table .exit)) (now (carry .entry)) (now (carry .exit)) × (r ≤ n + s .nodes) × Takes s (label level first number) n (now (table .entry)) (now (table .exit)) (now (carry .entry)) (now (carry .exit)) r ⌝ }
 {
     let now = read(table, s, level, first, number, carry, n);
     remove(
@@ -86,7 +87,7 @@ pub fn write_some(
     row: &[u8],
 )
     requires { ⌜ Shaped s (now table) × (level < 256) × (n ≤ s .nodes) × (12 * n ≤ length (now row)) ⌝ }
-    ensures { λ r. ⌜ Shaped s (now (table .exit)) × Puts s (at level first number) n (now (table .entry)) (now (table .exit)) (now (row .entry)) ⌝ }
+    ensures { λ r. ⌜ Shaped s (now (table .exit)) × Puts s (label level first number) n (now (table .entry)) (now (table .exit)) (now (row .entry)) ⌝ }
 {
     if 0 < n {
         insert(
@@ -115,7 +116,7 @@ fn flush(
     n: u32,
 ) -> u32
     requires { ⌜ Shaped s (now table) × (level < 256) × (12 * n ≤ length (now carry)) ⌝ }
-    ensures { λ r. ⌜ Kept s (now (table .exit)) (now (carry .entry)) (now (carry .exit)) × (n < 2 * s .nodes → r < s .nodes) × Flushes s (at level first number) n (now (table .entry)) (now (table .exit)) (now (carry .entry)) (now (carry .exit)) r ⌝ }
+    ensures { λ r. ⌜ Kept s (now (table .exit)) (now (carry .entry)) (now (carry .exit)) × (n < 2 * s .nodes → r < s .nodes) × Flushes s (label level first number) n (now (table .entry)) (now (table .exit)) (now (carry .entry)) (now (carry .exit)) r ⌝ }
 {
     if n < s.nodes {
         return n;

@@ -2,8 +2,9 @@
 ghost use mathlib.Core.Path.{_≡_};
 ghost use Prim.Native.Nat.{_+_, _*_, _-_, _≤_, _<_};
 ghost use lib.ListN.{length};
+ghost use Rattle.placement.specs.Labels.{label};
 ghost use Rattle.placement.specs.Place.{Shaped};
-ghost use Rattle.levels.specs.Pour.{at, Kept};
+ghost use Rattle.levels.specs.Pour.{Kept};
 ghost use Rattle.levels.specs.Shift.{shifted, Stores, Renews, Shifts};
 use crate::pour::read;
 use crate::pour::write_some;
@@ -18,7 +19,7 @@ use sizes::numbers::copy;
 // The first n nodes of a row are a chunk: over the one that is there, or in its place among the others; none where n is 0.
 pub fn store(table: &mut [u8], s: Sizes, level: u32, first: u32, number: u32, n: u32, row: &[u8])
     requires { ⌜ Shaped s (now table) × (level < 256) × (n ≤ s .nodes) × (12 * n ≤ length (now row)) ⌝ }
-    ensures { λ r. ⌜ Shaped s (now (table .exit)) × Stores s (at level first number) n (now (table .entry)) (now (table .exit)) (now (row .entry)) ⌝ }
+    ensures { λ r. ⌜ Shaped s (now (table .exit)) × Stores s (label level first number) n (now (table .entry)) (now (table .exit)) (now (row .entry)) ⌝ }
 {
     let label = Label {
         level: level,
@@ -47,7 +48,7 @@ fn renew(
     n: u32,
 ) -> u32
     requires { ⌜ Shaped s (now table) × (level < 256) × (12 * n ≤ length (now carry)) × (length (now carry) ≤ 1024) ⌝ }
-    ensures { λ r. ⌜ Kept s (now (table .exit)) (now (carry .entry)) (now (carry .exit)) × (r ≤ n - s .nodes) × Renews s (at level first number) n (now (table .entry)) (now (table .exit)) (now (carry .entry)) (now (carry .exit)) r ⌝ }
+    ensures { λ r. ⌜ Kept s (now (table .exit)) (now (carry .entry)) (now (carry .exit)) × (r ≤ n - s .nodes) × Renews s (label level first number) n (now (table .entry)) (now (table .exit)) (now (carry .entry)) (now (carry .exit)) r ⌝ }
 {
     if n <= s.nodes {
         store(table, s, level, first, number, n, carry);

@@ -4,10 +4,10 @@ ghost use Prim.Native.Nat.{_+_, _*_, _-_, _≤_, _<_};
 ghost use lib.ListN.{length};
 ghost use Rattle.sizes.specs.Geometry.{Reckoned};
 ghost use Rattle.sizes.specs.Hash.{hash-from};
+ghost use Rattle.placement.specs.Labels.{label};
 ghost use Rattle.placement.specs.Place.{Shaped, search-in};
 ghost use Rattle.skiplist.specs.Parts.{pieces};
 ghost use Rattle.levels.specs.Edit.{most-nodes, Scans, Reaches, Spots};
-ghost use Rattle.levels.specs.Pour.{at};
 ghost use Rattle.levels.specs.Scan.{passed, passes};
 use crate::Spot;
 use placement::Found;
@@ -56,7 +56,7 @@ fn pass_nodes(table: &[u8], at: usize, n: u32, y: u32, x: Spot) -> Spot
 // A chunk's block, by the hash g of the first key.
 fn chunk(table: &[u8], q: Geometry, g: u32, level: u32, first: u32, number: u32) -> Found
     requires { ⌜ Shaped (q .sizes) (now table) × Reckoned q × (g ≡ hash-from 5 5 (q .sizes .seed) first) × (level ≤ q .top) × (number ≤ 65535) ⌝ }
-    ensures { λ r. ⌜ r ≡ search-in (q .sizes) (now (table .entry)) (at level first number) ⌝ }
+    ensures { λ r. ⌜ r ≡ search-in (q .sizes) (now (table .entry)) (label level first number) ⌝ }
 {
     find_high(
         table,

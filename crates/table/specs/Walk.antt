@@ -1,6 +1,5 @@
 -- What the walk of a check gives, over the bytes of a table. These are the steps that the code takes; that they decide whether the bytes are
 -- an image is proved in proofs/.
-use mathlib.Core.Path.{_≡_}
 use mathlib.Core.Bool.{Bool, true, false, _&&_, not, cond}
 use mathlib.Core.List.{List}
 use Prim.Native.Nat.{ℕ, zero, suc, _+_, _*_, _-_, _≤_}

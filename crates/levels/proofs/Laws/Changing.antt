@@ -10,6 +10,7 @@ use lib.Seq.{sets, sets-eq, length-sets, take-at, drop-at, drop-drop, drop-appen
 use Rattle.sizes.specs.Numbers.{big, rows}
 use Rattle.sizes.specs.Header.{block-long}
 use Rattle.sizes.specs.Parts.{block-in, put-block}
+use Rattle.placement.specs.Labels.{label}
 use Rattle.placement.specs.Chunks.{node-bytes, nodes-bytes}
 use Rattle.placement.specs.Place.{search-in, block-with, head-bytes}
 use Rattle.placement.specs.Maps.{Map, Table, Fine, with-nodes}
@@ -28,7 +29,6 @@ use Rattle.placement.proofs.Laws.Loops.{length-head}
 use Rattle.levels.specs.Edit.{Pieces, Elsewhere, Comes-in, Replaces}
 use Rattle.levels.proofs.Laws.CarryFronts.{nodes-append}
 use Rattle.levels.proofs.Laws.Flushes.{fines-take, fines-drop, fines-append, not-none}
-use Rattle.levels.specs.Pour.{at}
 use Rattle.levels.proofs.Laws.MapLabels.{with-other, with-number}
 use Rattle.levels.proofs.Laws.Replacing.{chunk-low, Split, split-at}
 use Rattle.levels.proofs.Laws.Takes.{Stood, none-found, some-found}
@@ -89,7 +89,7 @@ module _ (H Z : List ℕ) (A B : List Order) (y o : Order) (same : y .key ≡ o 
       ap (λ (u : List ℕ). sets u a (big 4 (o .total) ++ big 4 (o .displayed))) e ∙ sets-middle (H ++ nodes-bytes A ++ big 4 (o .key)) (big 4 (y .total) ++ big 4 (y .displayed)) (nodes-bytes B ++ Z) (big 4 (o .total) ++ big 4 (o .displayed)) a lp lm ∙ sym e′
 
 -- AS `replace` ASKS
-module _ (s : Sizes) (f m : ℕ) (o : Order) (bs : List ℕ) (two : 2 ≤ s .nodes) (i r : ℕ) (ei : i ≡ m / s .nodes) (er : r ≡ m % s .nodes) (x : Found) (ex : x ≡ search-in s bs (at 1 f i)) where
+module _ (s : Sizes) (f m : ℕ) (o : Order) (bs : List ℕ) (two : 2 ≤ s .nodes) (i r : ℕ) (ei : i ≡ m / s .nodes) (er : r ≡ m % s .nodes) (x : Found) (ex : x ≡ search-in s bs (label 1 f i)) where
   place : (F : Map) (ps : List Order) (y : Order) (qs : List Order) → m ≡ length ps → Pieces F (s .nodes) 1 f 0 (ps ++ y ∷ qs) → Split (s .nodes) i r ps (y ∷ qs) (F 1 f i)
   place F ps y qs em p = split-at (s .nodes) m i r ps (y ∷ qs) (F 1 f i) two ei er em (pieces-at F (s .nodes) 1 f (ps ++ y ∷ qs) i p)
 
@@ -97,7 +97,7 @@ module _ (s : Sizes) (f m : ℕ) (o : Order) (bs : List ℕ) (two : 2 ≤ s .nod
   unfolding Replaces
   replace-none e F n hd ps y qs t fo key em few p =
       let u = place F ps y qs em p in
-      absurd (omega (arith, ap length (none-found s F n hd bs t (at 1 f i) (omega arith) x ex e)))
+      absurd (omega (arith, ap length (none-found s F n hd bs t (label 1 f i) (omega arith) x ex e)))
 
   module _ (j : ℕ) (e : x ≡ At j) (a : ℕ) (ea : a ≡ 53 + j * block-long s) (bs₁ bs₂ : List ℕ) (e₁ : bs₁ ≡ sets bs (a + (8 + 12 * r) + 4) (big 4 (o .total)))
       (e₂ : bs₂ ≡ sets bs₁ (a + (8 + 12 * r) + 8) (big 4 (o .displayed))) where
@@ -112,7 +112,7 @@ module _ (s : Sizes) (f m : ℕ) (o : Order) (bs : List ℕ) (two : 2 ≤ s .nod
         e₂ ∙ rw (e₁, u) (sym (sets-append bs (a + (8 + 12 * r) + 4) (big 4 (o .total)) (big 4 (o .displayed))) ∙ rw z refl)
 
     module _ (F : Map) (n : ℕ) (hd : List ℕ) (ps : List Order) (y : Order) (qs : List Order) (t : Table s F n hd bs) (fo : Fine o) (key : y .key ≡ o .key)
-        (p : Pieces F (s .nodes) 1 f 0 (ps ++ y ∷ qs)) (u : Split (s .nodes) i r ps (y ∷ qs) (F 1 f i)) (v : Stood s F (at 1 f i) bs j) where
+        (p : Pieces F (s .nodes) 1 f 0 (ps ++ y ∷ qs)) (u : Split (s .nodes) i r ps (y ∷ qs) (F 1 f i)) (v : Stood s F (label 1 f i) bs j) where
       -- the nodes of the chunk
       abbrev now : List Order
       now = take r (F 1 f i) ++ o ∷ drop (suc r) (F 1 f i)
@@ -126,17 +126,17 @@ module _ (s : Sizes) (f m : ℕ) (o : Order) (bs : List ℕ) (two : 2 ≤ s .nod
       long : length now ≡ length (F 1 f i)
       long = length-append (take r (F 1 f i)) (o ∷ drop (suc r) (F 1 f i)) ∙ sym (ap length as-was ∙ length-append (take r (F 1 f i)) (y ∷ drop (suc r) (F 1 f i)))
 
-      block-is : sets (block-in (block-long s) bs j) (8 + 12 * r + 4) quantities ≡ block-with (block-long s) (at 1 f i) (length (F 1 f i)) (nodes-bytes now)
+      block-is : sets (block-in (block-long s) bs j) (8 + 12 * r + 4) quantities ≡ block-with (block-long s) (label 1 f i) (length (F 1 f i)) (nodes-bytes now)
       unfolding block-with
       block-is =
           let la : length (take r (F 1 f i)) ≡ r = length-take-le r (F 1 f i) (omega arith) in
-          let hb = head-bytes (at 1 f i) (length (F 1 f i)) in
+          let hb = head-bytes (label 1 f i) (length (F 1 f i)) in
           let zs : List ℕ = replicate (block-long s - 8 - 12 * length (F 1 f i)) 0 in
           ap (λ (z : List ℕ). sets z (8 + 12 * r + 4) quantities)
-          (v .is ∙ sym (block-written s (at 1 f i) (F 1 f i) (v .held .nodes)) ∙ ap (λ (z : List Order). hb ++ nodes-bytes z ++ zs) as-was)
-          ∙ node-changed hb zs (take r (F 1 f i)) (drop (suc r) (F 1 f i)) y o key (8 + 12 * r + 4) (omega (arith, length-head (at 1 f i) (length (F 1 f i))))
+          (v .is ∙ sym (block-written s (label 1 f i) (F 1 f i) (v .held .nodes)) ∙ ap (λ (z : List Order). hb ++ nodes-bytes z ++ zs) as-was)
+          ∙ node-changed hb zs (take r (F 1 f i)) (drop (suc r) (F 1 f i)) y o key (8 + 12 * r + 4) (omega (arith, length-head (label 1 f i) (length (F 1 f i))))
 
-      bytes-are : bs₂ ≡ put-block (block-long s) bs j (block-with (block-long s) (at 1 f i) (length now) (nodes-bytes now))
+      bytes-are : bs₂ ≡ put-block (block-long s) bs j (block-with (block-long s) (label 1 f i) (length now) (nodes-bytes now))
       unfolding put-block block-in
       bytes-are =
           let h = shaped s F n hd bs t in
@@ -145,10 +145,10 @@ module _ (s : Sizes) (f m : ℕ) (o : Order) (bs : List ℕ) (two : 2 ≤ s .nod
           ∙ sets-inside bs (53 + j * block-long s) (8 + 12 * r + 4) (block-long s) quantities (omega (arith, block-end j (s .blocks) (block-long s) (v .below))) (omega arith)
           ∙ rw (block-is, long) refl
 
-      replaced : Table s (with-nodes (at 1 f i) now F) n hd bs₂
+      replaced : Table s (with-nodes (label 1 f i) now F) n hd bs₂
       replaced =
           rw bytes-are
-          (write-keeps s F n hd bs t (at 1 f i) j now (omega arith) (sym ex ∙ e)
+          (write-keeps s F n hd bs t (label 1 f i) j now (omega arith) (sym ex ∙ e)
           (record {
             level = v .held .level;
             first = v .held .first;
@@ -167,7 +167,7 @@ module _ (s : Sizes) (f m : ℕ) (o : Order) (bs : List ℕ) (two : 2 ≤ s .nod
       comes : Comes-in s F n hd bs₂ 1 f (ps ++ y ∷ qs) (ps ++ o ∷ qs)
       unfolding Pieces Elsewhere
       comes = record {
-        map = with-nodes (at 1 f i) now F;
+        map = with-nodes (label 1 f i) now F;
         full = n;
         table = replaced;
         there = λ h.
@@ -179,4 +179,4 @@ module _ (s : Sizes) (f m : ℕ) (o : Order) (bs : List ℕ) (two : 2 ≤ s .nod
 
     pub replace-made : Replaces s f m o bs bs₂
     unfolding Replaces
-    replace-made F n hd ps y qs t fo key em few p = comes F n hd ps y qs t fo key p (place F ps y qs em p) (some-found s F n hd bs t (at 1 f i) (omega arith) x ex j e)
+    replace-made F n hd ps y qs t fo key em few p = comes F n hd ps y qs t fo key p (place F ps y qs em p) (some-found s F n hd bs t (label 1 f i) (omega arith) x ex j e)

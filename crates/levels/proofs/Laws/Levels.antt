@@ -8,6 +8,7 @@ use native.Mathlib.Omega.{arith}
 use lib.Dec.{eqb}
 use lib.ListN.{length, take, drop, length-append, length-take, length-drop}
 use lib.Seq.{drop-append-le, sets, length-sets, append-snoc, length-take-le}
+use Rattle.placement.specs.Labels.{label}
 use Rattle.placement.specs.Chunks.{node-bytes}
 use Rattle.placement.specs.Maps.{Map, Table, Fine, Fines}
 use Rattle.sizes.specs.declared.Sizes.{Sizes}
@@ -17,7 +18,7 @@ use Rattle.skiplist.specs.Lists.{masked}
 use Rattle.skiplist.proofs.Laws.Count.{pieces}
 use Rattle.levels.specs.declared.Spot.{Spot}
 use Rattle.levels.specs.Edit.{Pieces, Room, Puts-in, Cancels-in}
-use Rattle.levels.specs.Pour.{at, Front, Reads}
+use Rattle.levels.specs.Pour.{Front, Reads}
 use Rattle.levels.specs.Shift.{Shifts}
 use Rattle.levels.proofs.Laws.CarryFronts.{front-rest, front-none, front-first, front-more, nodes-one}
 use Rattle.levels.proofs.Laws.Flushes.{fines-take, fines-drop, fines-append, fines-there}
@@ -84,7 +85,7 @@ pub record Chunk-read (s : Sizes) (F : Map) (k f i r n : ℕ) (ch : List ℕ) (p
   pub fine : Fines (F k f i)
 
 module _ (s : Sizes) (k f : ℕ) (x : Spot) (bs : List ℕ) (two : 2 ≤ s .nodes) (i r n : ℕ) (ei : i ≡ x .below / s .nodes) (er : r ≡ x .below % s .nodes)
-    (ch₀ ch : List ℕ) (rd : Reads s (at k f i) 0 bs ch₀ ch n) where
+    (ch₀ ch : List ℕ) (rd : Reads s (label k f i) 0 bs ch₀ ch n) where
   pub chunk-read : (F : Map) (m : ℕ) (hd : List ℕ) (ps qs : List Order) (o : Order) → Table s F m hd bs → Room s k f ps qs x o → Pieces F (s .nodes) k f 0 (ps ++ qs)
       → Chunk-read s F k f i r n ch ps qs
   unfolding Reads

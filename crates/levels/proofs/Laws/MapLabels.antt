@@ -7,7 +7,6 @@ use Rattle.placement.specs.Maps.{Map, nodes-of, with-nodes, cleared, with-chunk
 use Rattle.placement.specs.declared.Order.{Order}
 use Rattle.placement.specs.declared.Label.{Label}
 use Rattle.placement.proofs.Laws.Labels.{Label-is, is, isnt, label-is}
-use Rattle.levels.specs.Pour.{at}
 
 -- by cases: the label itself, or another
 with-each : (w : Label) (ns : List Order) (F : Map) (l h i : ℕ) (x : List Order) → (label l h i ≡ w → ns ≡ x) → ((label l h i ≡ w → ⊥) → F l h i ≡ x)
@@ -21,19 +20,19 @@ with-each w ns F l h i x a b = go (label-is w (label l h i))
 
 -- under another label
 module _ (F : Map) {k f n l h i : ℕ} (other : l ≡ k → h ≡ f → i ≡ n → ⊥) where
-  pub with-other : (ns : List Order) → with-nodes (at k f n) ns F l h i ≡ F l h i
-  with-other ns = with-each (at k f n) ns F l h i (F l h i) (λ p. absurd (other (λ j. p j .level) (λ j. p j .first) (λ j. p j .number))) (λ p. refl)
+  pub with-other : (ns : List Order) → with-nodes (label k f n) ns F l h i ≡ F l h i
+  with-other ns = with-each (label k f n) ns F l h i (F l h i) (λ p. absurd (other (λ j. p j .level) (λ j. p j .first) (λ j. p j .number))) (λ p. refl)
 
-  pub cleared-other : cleared (at k f n) F l h i ≡ F l h i
+  pub cleared-other : cleared (label k f n) F l h i ≡ F l h i
   unfolding with-chunk without-label
   cleared-other = with-other []
 
 -- under some number of its partition
 module _ (F : Map) {k f n i : ℕ} {x : List Order} where
-  pub with-number : (ns : List Order) → (i ≡ n → ns ≡ x) → ((i ≡ n → ⊥) → F k f i ≡ x) → with-nodes (at k f n) ns F k f i ≡ x
-  with-number ns a b = with-each (at k f n) ns F k f i x (λ p. a (λ j. p j .number)) (λ p. b (λ e. p (ap (at k f) e)))
+  pub with-number : (ns : List Order) → (i ≡ n → ns ≡ x) → ((i ≡ n → ⊥) → F k f i ≡ x) → with-nodes (label k f n) ns F k f i ≡ x
+  with-number ns a b = with-each (label k f n) ns F k f i x (λ p. a (λ j. p j .number)) (λ p. b (λ e. p (ap (label k f) e)))
 
-  pub cleared-number : (i ≡ n → [] ≡ x) → ((i ≡ n → ⊥) → F k f i ≡ x) → cleared (at k f n) F k f i ≡ x
+  pub cleared-number : (i ≡ n → [] ≡ x) → ((i ≡ n → ⊥) → F k f i ≡ x) → cleared (label k f n) F k f i ≡ x
   unfolding with-chunk without-label
   cleared-number = with-number []
 

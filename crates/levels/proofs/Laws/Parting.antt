@@ -7,6 +7,7 @@ use native.Mathlib.Numerals.{add-one}
 use native.Mathlib.Omega.{arith}
 use lib.ListN.{length, take, drop, length-append, length-drop, length-take, take-append-drop}
 use lib.Seq.{sets, take-all, take-nil, drop-nil, drop-append-le}
+use Rattle.placement.specs.Labels.{label}
 use Rattle.placement.specs.Chunks.{node-bytes}
 use Rattle.placement.specs.Maps.{Map, Table, Fines, with-nodes, cleared}
 use Rattle.sizes.specs.declared.Sizes.{Sizes}
@@ -16,7 +17,7 @@ use Rattle.skiplist.specs.Lists.{masked}
 use Rattle.skiplist.proofs.Laws.Count.{pieces, pieces-cut}
 use Rattle.levels.specs.declared.Spot.{Spot}
 use Rattle.levels.specs.Edit.{Pieces, Elsewhere-both, Splits, Puts-below, Cancels-below}
-use Rattle.levels.specs.Pour.{at, Front, one, Reads, Taken, Takes, Pours}
+use Rattle.levels.specs.Pour.{Front, one, Reads, Taken, Takes, Pours}
 use Rattle.levels.specs.Shift.{Stored, Stores}
 use Rattle.levels.proofs.Laws.CarryFronts.{front-rest, front-none, front-more}
 use Rattle.levels.proofs.Laws.Takes.{one-some}
@@ -44,7 +45,7 @@ module _ (s : Sizes) (F : Map) (m : ℕ) (hd bs : List ℕ) (k f g i r n : ℕ) 
     (first : g < 4294967296) (ne : f ≡ g → ⊥) (p : Pieces F (s .nodes) k f 0 (ps ++ qs)) (p′ : Pieces F (s .nodes) k g 0 []) (few : length (ps ++ qs) ≤ 65536)
     (u : Chunk-read s F k f i r n ch ps qs) (fine : Fines (o ∷ drop r (F k f i)))
     (room : m + pieces (s .nodes) (length ps) + pieces (s .nodes) (suc (length qs)) ≤ s .blocks + pieces (s .nodes) (length (ps ++ qs)))
-    (bs₁ : List ℕ) (st : Stored s F m hd (at k f i) (take r (F k f i)) bs₁) where
+    (bs₁ : List ℕ) (st : Stored s F m hd (label k f i) (take r (F k f i)) bs₁) where
   is : (o ∷ drop r (F k f i)) ++ drop (suc i * s .nodes) (ps ++ qs) ≡ o ∷ qs
   is = ap (λ (z : List Order). o ∷ z) (u .split .behind)
 
@@ -63,7 +64,7 @@ module _ (s : Sizes) (F : Map) (m : ℕ) (hd bs : List ℕ) (k f g i r n : ℕ) 
       → Pours s k f (i + 1) count g 0 (n - r + 1) bs₁ bs₂ cs → Splits s F m hd bs₂ k f g ps (o ∷ qs) (pieces (s .nodes) (length (ps ++ qs)))
   unfolding Pieces Pours Elsewhere-both
   split-made count ec cs fr bs₂ pr =
-      let q = pr (with-nodes (at k f i) (take r (F k f i)) F) (st .full) hd (o ∷ drop r (F k f i)) (drop (suc i * s .nodes) (ps ++ qs)) (st .table) fr
+      let q = pr (with-nodes (label k f i) (take r (F k f i)) F) (st .full) hd (o ∷ drop r (F k f i)) (drop (suc i * s .nodes) (ps ++ qs)) (st .table) fr
       (omega (arith, length-drop r (F k f i))) (record {
         level = pos;
         first = first;
@@ -94,13 +95,13 @@ module _ (s : Sizes) (F : Map) (m : ℕ) (hd bs : List ℕ) (k f g i r n : ℕ) 
       }
 
 -- JOIN: partition g, y ∷ qs, comes behind ps; the last chunk of ps and the first of y ∷ qs are taken out before
-second-is : (s : Sizes) (F : Map) (k f g i : ℕ) (ns : List Order) → (f ≡ g → ⊥) → Pieces F (s .nodes) k g 0 ns → cleared (at k f i) F k g 0 ≡ take (s .nodes) ns
+second-is : (s : Sizes) (F : Map) (k f g i : ℕ) (ns : List Order) → (f ≡ g → ⊥) → Pieces F (s .nodes) k g 0 ns → cleared (label k f i) F k g 0 ≡ take (s .nodes) ns
 second-is s F k f g i ns ne p = cleared-other F (λ a b d. ne (sym b)) ∙ pieces-at F (s .nodes) k g ns 0 p ∙ rw zero-mul refl
 
 module _ (s : Sizes) (F : Map) (m : ℕ) (hd bs : List ℕ) (k f g i r : ℕ) (ps : List Order) (y : Order) (qs : List Order) (t : Table s F m hd bs) (two : 2 ≤ s .nodes) (pos : 0 < k)
     (first : f < 4294967296) (ne : f ≡ g → ⊥) (p : Pieces F (s .nodes) k f 0 ps) (p′ : Pieces F (s .nodes) k g 0 (y ∷ qs)) (few : length (ps ++ y ∷ qs) ≤ 65536) (filled : 0 < length ps)
-    (e : i * s .nodes + r ≡ length ps) (less : r < s .nodes) (bs₁ ca : List ℕ) (m₁ : ℕ) (tk₁ : Taken s F m hd (at k f i) [] bs₁ ca m₁)
-    (bs₂ ch : List ℕ) (m₂ : ℕ) (tk₂ : Taken s (cleared (at k f i) F) (tk₁ .full) hd (at k g 0) [] bs₂ ch m₂) where
+    (e : i * s .nodes + r ≡ length ps) (less : r < s .nodes) (bs₁ ca : List ℕ) (m₁ : ℕ) (tk₁ : Taken s F m hd (label k f i) [] bs₁ ca m₁)
+    (bs₂ ch : List ℕ) (m₂ : ℕ) (tk₂ : Taken s (cleared (label k f i) F) (tk₁ .full) hd (label k g 0) [] bs₂ ch m₂) where
   some : 0 < s .nodes
   some = omega arith
 
@@ -108,7 +109,7 @@ module _ (s : Sizes) (F : Map) (m : ℕ) (hd bs : List ℕ) (k f g i r : ℕ) (p
   first-is = pieces-at F (s .nodes) k f ps i p ∙ last-chunk (s .nodes) i r ps e less
 
   abbrev second : List Order
-  second = cleared (at k f i) F k g 0
+  second = cleared (label k f i) F k g 0
 
   abbrev rest : List Order
   rest = drop (suc 0 * s .nodes) (y ∷ qs)
@@ -152,21 +153,21 @@ module _ (s : Sizes) (F : Map) (m : ℕ) (hd bs : List ℕ) (k f g i r : ℕ) (p
       let lc = length-append (F k f i) (drop 1 second) in
       let fr = front-more ca cs (F k f i) (drop 1 second) (12 * m₁) _ (tk₁ .front) (omega (arith, tk₁ .size))
       (front-rest ch second 1 (m₂ - 1) (tk₂ .front) (omega (arith, tk₂ .size))) ecs (omega (arith, tk₁ .size)) in
-      let q = pr (cleared (at k g 0) (cleared (at k f i) F)) (tk₂ .full) hd carry rest (tk₂ .table) fr (omega (arith, tk₁ .size, tk₂ .size)) (record {
+      let q = pr (cleared (label k g 0) (cleared (label k f i) F)) (tk₂ .full) hd carry rest (tk₂ .table) fr (omega (arith, tk₁ .size, tk₂ .size)) (record {
         level = pos;
         first = first;
         fine =
             fines-append (F k f i) (drop 1 second) (fines-there s F m hd bs k f i t)
-            (fines-drop 1 second (fines-there s (cleared (at k f i) F) (tk₁ .full) hd bs₁ k g 0 (tk₁ .table)));
+            (fines-drop 1 second (fines-there s (cleared (label k f i) F) (tk₁ .full) hd bs₁ k g 0 (tk₁ .table)));
         few = omega (arith, joined-pieces, pieces-half (s .nodes) (length (ps ++ qs)) two, length-append ps qs, length-append ps (y ∷ qs));
         some = some;
         short = omega arith;
         chunks = ec ∙ rest-chunks (s .nodes) 0 (y ∷ qs) some;
         source = λ j.
-            cleared-other (cleared (at k f i) F) (λ a b d. omega arith) ∙ cleared-other F (λ a b d. ne (sym b)) ∙ pieces-from F (s .nodes) k g (y ∷ qs) (suc 0) p′ j;
+            cleared-other (cleared (label k f i) F) (λ a b d. omega arith) ∙ cleared-other F (λ a b d. ne (sym b)) ∙ pieces-from F (s .nodes) k g (y ∷ qs) (suc 0) p′ j;
         apart = λ z. ne (sym z);
         target = λ j a.
-            cleared-other (cleared (at k f i) F) (λ u v w. ne v)
+            cleared-other (cleared (label k f i) F) (λ u v w. ne v)
             ∙ cleared-number F (λ z. refl)
             (λ z. pieces-at F (s .nodes) k f ps j p ∙ take-past (s .nodes) (j * s .nodes) ps (past-last (s .nodes) i r ps e less j (omega (arith, z))));
         room =
@@ -179,27 +180,27 @@ module _ (s : Sizes) (F : Map) (m : ℕ) (hd bs : List ℕ) (k f g i r : ℕ) (p
         table = q .table;
         left-there =
             pieces-join (q .map) (s .nodes) k f (ps ++ qs) i
-            (λ j h. q .elsewhere k f j (λ a b d. omega arith) (λ a b d. ne b) ∙ cleared-other (cleared (at k f i) F) (λ a b d. ne b) ∙ cleared-other F (λ a b d. omega arith)
+            (λ j h. q .elsewhere k f j (λ a b d. omega arith) (λ a b d. ne b) ∙ cleared-other (cleared (label k f i) F) (λ a b d. ne b) ∙ cleared-other F (λ a b d. omega arith)
             ∙ pieces-at F (s .nodes) k f ps j p ∙ sym (chunk-low (s .nodes) j i ps qs h (omega arith)))
             (subst (Pieces (q .map) (s .nodes) k f i) joined (q .there));
         right-there =
             pieces-join (q .map) (s .nodes) k g [] 1
-            (λ j h. q .elsewhere k g j (λ a b d. ne (sym b)) (λ a b d. omega arith) ∙ cleared-number (cleared (at k f i) F) (λ z. refl) (λ z. absurd (z (omega arith)))
+            (λ j h. q .elsewhere k g j (λ a b d. ne (sym b)) (λ a b d. omega arith) ∙ cleared-number (cleared (label k f i) F) (λ z. refl) (λ z. absurd (z (omega arith)))
             ∙ sym (rw (drop-nil, take-nil)))
             (rw (drop-nil {A = Order} (1 * s .nodes)) (q .gone));
         elsewhere = λ l h j a b.
-            q .elsewhere l h j (λ u v w. a u v) (λ u v w. b u v) ∙ cleared-other (cleared (at k f i) F) (λ u v w. b u v) ∙ cleared-other F (λ u v w. a u v);
+            q .elsewhere l h j (λ u v w. a u v) (λ u v w. b u v) ∙ cleared-other (cleared (label k f i) F) (λ u v w. b u v) ∙ cleared-other F (λ u v w. a u v);
         count = omega (arith, q .count, joined-pieces, first-pieces, second-pieces, tk₁ .count, tk₂ .count, pieces-none (s .nodes));
       }
 
 -- AS `put_below` ASKS
 module _ (s : Sizes) (k f : ℕ) (x : Spot) (bs : List ℕ) (two : 2 ≤ s .nodes) (i r n : ℕ) (ei : i ≡ x .below / s .nodes) (er : r ≡ x .below % s .nodes)
-    (ch₀ ch : List ℕ) (rd : Reads s (at k f i) 0 bs ch₀ ch n) (max : s .nodes ≤ 32) (o : Order) where
+    (ch₀ ch : List ℕ) (rd : Reads s (label k f i) 0 bs ch₀ ch n) (max : s .nodes ≤ 32) (o : Order) where
   pub put-below-short : n < r → Puts-below s k f x o bs bs
   unfolding Puts-below
   put-below-short h F m hd ps qs t rm p ne p′ some room = let u = chunk-read s k f x bs two i r n ei er ch₀ ch rd F m hd ps qs o t rm p in absurd (omega arith)
 
-  pub put-below-made : (count : ℕ) → count ≡ pieces (s .nodes) (x .size) - (i + 1) → r ≤ n → (bs₁ : List ℕ) → Stores s (at k f i) r bs bs₁ ch → (ca₀ ca₁ ca₂ : List ℕ)
+  pub put-below-made : (count : ℕ) → count ≡ pieces (s .nodes) (x .size) - (i + 1) → r ≤ n → (bs₁ : List ℕ) → Stores s (label k f i) r bs bs₁ ch → (ca₀ ca₁ ca₂ : List ℕ)
       → ca₁ ≡ sets ca₀ (12 * 0) (node-bytes (masked k o)) → ca₂ ≡ sets ca₁ 12 (take (12 * (n - r)) (drop (12 * r) ch)) → length ca₀ ≡ 768 → (bs₂ : List ℕ)
       → Pours s k f (i + 1) count (o .key) 0 (n - r + 1) bs₁ bs₂ ca₂ → Puts-below s k f x o bs bs₂
   unfolding Puts-below Stores
@@ -217,12 +218,12 @@ module _ (s : Sizes) (k f : ℕ) (x : Spot) (bs : List ℕ) (two : 2 ≤ s .node
 
 -- AS `cancel_below` ASKS
 module _ (s : Sizes) (k f g m w : ℕ) (bs : List ℕ) (two : 2 ≤ s .nodes) (max : s .nodes ≤ 32) (i count r n : ℕ) (ei : i ≡ m / s .nodes)
-    (bs₁ ca₀ ca₁ : List ℕ) (tk₁ : Takes s (at k f i) 0 bs bs₁ ca₀ ca₁ r) (bs₂ ch₀ ch : List ℕ) (tk₂ : Takes s (at k g 0) 0 bs₁ bs₂ ch₀ ch n) where
+    (bs₁ ca₀ ca₁ : List ℕ) (tk₁ : Takes s (label k f i) 0 bs bs₁ ca₀ ca₁ r) (bs₂ ch₀ ch : List ℕ) (tk₂ : Takes s (label k g 0) 0 bs₁ bs₂ ch₀ ch n) where
   pub cancel-below-none : n ≡ 0 → Cancels-below s k f g m w bs bs₂
   unfolding Cancels-below Takes
   cancel-below-none z F a hd ps y qs t pos first ne few em ew some p p′ =
       let u₁ = tk₁ F a hd [] t pos (front-none ca₀) refl in
-      let u₂ = tk₂ (cleared (at k f i) F) (u₁ .full) hd [] (u₁ .table) pos (front-none ch₀) refl in
+      let u₂ = tk₂ (cleared (label k f i) F) (u₁ .full) hd [] (u₁ .table) pos (front-none ch₀) refl in
       absurd (omega (arith, u₂ .size, ap length (second-is s F k f g i (y ∷ qs) ne p′), length-take (s .nodes) (y ∷ qs)))
 
   pub cancel-below-made : count ≡ pieces (s .nodes) w - (0 + 1) → length ca₁ ≡ 768 → (ca₂ : List ℕ) → ca₂ ≡ sets ca₁ (12 * r) (take (12 * (n - 1)) (drop 12 ch))
@@ -230,7 +231,7 @@ module _ (s : Sizes) (k f g m w : ℕ) (bs : List ℕ) (two : 2 ≤ s .nodes) (m
   unfolding Cancels-below Takes
   cancel-below-made ec long ca₂ e₂ bs₃ pr F a hd ps y qs t pos first ne few em ew some p p′ =
       let u₁ = tk₁ F a hd [] t pos (front-none ca₀) refl in
-      let u₂ = tk₂ (cleared (at k f i) F) (u₁ .full) hd [] (u₁ .table) pos (front-none ch₀) refl in
+      let u₂ = tk₂ (cleared (label k f i) F) (u₁ .full) hd [] (u₁ .table) pos (front-none ch₀) refl in
       join-made s F a hd bs k f g i (m % s .nodes) ps y qs t two pos first ne p p′ few some (rw (ei, ← em) (div-add-mod' m (s .nodes)))
       (mod-lt m (omega arith)) bs₁ ca₁ r u₁ bs₂ ch n u₂
       max count (ec ∙ rw ew refl) long ca₂ e₂ bs₃ pr

@@ -11,13 +11,14 @@ use mir.Syntax.{w32}
 use mir.Val.{Fits}
 use lib.ListN.{length, take, drop, length-append, length-drop, length-take}
 use lib.Seq.{take-append-le, drop-append-le, take-all, take-nil, drop-nil}
+use Rattle.placement.specs.Labels.{label}
 use Rattle.placement.specs.Maps.{Map, Table, Fines, with-nodes, cleared}
 use Rattle.placement.specs.Place.{Shaped}
 use Rattle.sizes.specs.declared.Sizes.{Sizes}
 use Rattle.placement.specs.declared.Order.{Order}
 use Rattle.skiplist.proofs.Laws.Count.{pieces}
 use Rattle.levels.specs.Edit.{Pieces}
-use Rattle.levels.specs.Pour.{at, Front, one, Takes, Writable, Flushed, waits, writes, Flushes, Pourable, Poured, Pours, Put, Puts, Kept}
+use Rattle.levels.specs.Pour.{Front, one, Takes, Writable, Flushed, waits, writes, Flushes, Pourable, Poured, Pours, Put, Puts, Kept}
 use Rattle.levels.proofs.Laws.Takes.{one-some}
 use Rattle.levels.proofs.Laws.Flushes.{not-none, fines-append, fines-there, fines-drop}
 use Rattle.levels.proofs.Laws.MapLabels.{with-other, with-number, cleared-other, cleared-number}
@@ -82,7 +83,7 @@ module _ (s : Sizes) (F : Map) (m : ℕ) (hd : List ℕ) (k f j count g q : ℕ)
 
     -- what a chunk's insertion asks
     pub pouring-room : t ≤ count → pieces (s .nodes) (length (drop (t * s .nodes) rest)) < pieces (s .nodes) (length (p .carry) + length (drop (t * s .nodes) rest))
-        → Writable (at k g v) × (p .full < s .blocks)
+        → Writable (label k g v) × (p .full < s .blocks)
     pouring-room h more =
         (record { level = pb .level; first = pb .first; number = omega (arith, to-write, pb .few, p .next) }, omega (arith, to-write, to-take h, pb .room, p .count))
 
@@ -96,12 +97,12 @@ module _ (s : Sizes) (F : Map) (m : ℕ) (hd : List ℕ) (k f j count g q : ℕ)
           let some = pieces-under (s .nodes) (length rest) t (pb .some) (omega (arith, pb .chunks)) in
           one-some (p .map k f (j + t)) (not-none (p .map k f (j + t)) (rw here (simp (length-take, length-drop) (omega (arith, pb .some)))))
 
-      pub pouring-take : left < s .nodes → (bs′ cs′ : List ℕ) (r : ℕ) → Takes s (at k f (j + t)) left bs bs′ cs cs′ r → Pouring s F m hd k f j g q c rest (suc t) v r bs′ cs′
+      pub pouring-take : left < s .nodes → (bs′ cs′ : List ℕ) (r : ℕ) → Takes s (label k f (j + t)) left bs bs′ cs cs′ r → Pouring s F m hd k f j g q c rest (suc t) v r bs′ cs′
       unfolding Takes
       pouring-take short bs′ cs′ r takes =
           let tk = takes (p .map) (p .full) hd (p .carry) (p .table) (pb .level) (p .front) (p .size) in
           record {
-            map = cleared (at k f (j + t)) (p .map);
+            map = cleared (label k f (j + t)) (p .map);
             full = tk .full;
             table = tk .table;
             done = p .done;
@@ -124,7 +125,7 @@ module _ (s : Sizes) (F : Map) (m : ℕ) (hd : List ℕ) (k f j count g q : ℕ)
     -- A CHUNK WRITTEN, if the carry has one
     module _ (h : t ≤ count) where
       -- what a flush asks
-      can : s .nodes ≤ length (p .carry) → Writable (at k g v) × (p .map k g v ≡ []) × (p .full < s .blocks)
+      can : s .nodes ≤ length (p .carry) → Writable (label k g v) × (p .map k g v ≡ []) × (p .full < s .blocks)
       can e =
           let a = length (p .carry) in
           let r = length (drop (t * s .nodes) rest) in
@@ -136,7 +137,7 @@ module _ (s : Sizes) (F : Map) (m : ℕ) (hd : List ℕ) (k f j count g q : ℕ)
         chunk-now : s .nodes ≤ length (p .carry) → take (s .nodes) (p .carry) ≡ take (s .nodes) (drop (p .done * s .nodes) (c ++ rest))
         chunk-now e = sym (ap (take (s .nodes)) (sym (p .todo)) ∙ take-append-le (s .nodes) (p .carry) (drop (t * s .nodes) rest) e)
 
-        flushed : Flushed s (p .map) (p .full) hd (at k g v) (p .carry) bs′ cs′ r → Pouring s F m hd k f j g q c rest t (v + left / s .nodes) r bs′ cs′
+        flushed : Flushed s (p .map) (p .full) hd (label k g v) (p .carry) bs′ cs′ r → Pouring s F m hd k f j g q c rest t (v + left / s .nodes) r bs′ cs′
         flushed (waits a er tb fr) =
             let e : v + left / s .nodes ≡ v = rw (div-eq-of-lt {n = left} {m = s .nodes} (omega (arith, p .size))) (omega arith) in
             rw e (record {
@@ -162,7 +163,7 @@ module _ (s : Sizes) (F : Map) (m : ℕ) (hd : List ℕ) (k f j count g q : ℕ)
         flushed (writes a er tb fr) =
             let e : v + left / s .nodes ≡ suc v = rw (quotient-one (s .nodes) left (pb .some) (omega (arith, p .size)) (omega (arith, p .size, p .most))) (omega arith) in
             rw e (record {
-              map = with-nodes (at k g v) (take (s .nodes) (p .carry)) (p .map);
+              map = with-nodes (label k g v) (take (s .nodes) (p .carry)) (p .map);
               full = suc (p .full);
               table = tb;
               done = suc (p .done);
@@ -184,7 +185,7 @@ module _ (s : Sizes) (F : Map) (m : ℕ) (hd : List ℕ) (k f j count g q : ℕ)
               count = omega (arith, p .count);
             })
 
-        pub pouring-flush : Flushes s (at k g v) left bs bs′ cs cs′ r → Pouring s F m hd k f j g q c rest t (v + left / s .nodes) r bs′ cs′
+        pub pouring-flush : Flushes s (label k g v) left bs bs′ cs cs′ r → Pouring s F m hd k f j g q c rest t (v + left / s .nodes) r bs′ cs′
         unfolding Flushes
         pouring-flush fl = flushed (fl (p .map) (p .full) hd (p .carry) (p .table) (p .front) (p .size) (p .fine) can)
 
@@ -199,12 +200,12 @@ module _ (s : Sizes) (F : Map) (m : ℕ) (hd : List ℕ) (k f j count g q : ℕ)
       carry-long : length (p .carry) + length (drop (t * s .nodes) rest) ≡ length (p .carry)
       carry-long = rw none-left (omega arith)
 
-      pub last-can : t ≤ count → 0 < left → Writable (at k g v) × (p .full < s .blocks)
+      pub last-can : t ≤ count → 0 < left → Writable (label k g v) × (p .full < s .blocks)
       last-can h pos =
           let some = pieces-pos (s .nodes) (length (p .carry)) (pb .some) (omega (arith, p .size)) in
           pouring-room h (rw (carry-long, none-left) (omega (arith, pieces-none (s .nodes))))
 
-      module _ (inside : t ≤ count) (short : left < s .nodes) (bs′ : List ℕ) (w : Put s (p .map) (p .full) hd (at k g v) (p .carry) bs′) where
+      module _ (inside : t ≤ count) (short : left < s .nodes) (bs′ : List ℕ) (w : Put s (p .map) (p .full) hd (label k g v) (p .carry) bs′) where
         carried : p .carry ≡ drop (p .done * s .nodes) (c ++ rest)
         carried = sym (append-nil (p .carry)) ∙ ap (λ (z : List Order). p .carry ++ z) (sym none-left) ∙ p .todo
 
@@ -222,7 +223,7 @@ module _ (s : Sizes) (F : Map) (m : ℕ) (hd : List ℕ) (k f j count g q : ℕ)
         pub pouring-end : Poured s F m hd k f j g q c rest bs′
         unfolding Pieces
         pouring-end = record {
-          map = with-nodes (at k g v) (p .carry) (p .map);
+          map = with-nodes (label k g v) (p .carry) (p .map);
           full = w .full;
           table = w .table;
           there = λ n.
@@ -266,7 +267,7 @@ module _ (s : Sizes) (k f j count g q : ℕ) where
         fits-under w32 (v + r / s .nodes) 4294967296 (omega (arith, i .next, i .short, quotient-most (s .nodes) r (omega arith) (omega (arith, i .short)))) tt
 
     pub turning-more : 2 ≤ s .nodes → t < count → (bs₁ cs₁ : List ℕ) (r : ℕ) → Kept s bs₁ cs cs₁ → r ≤ left + s .nodes
-        → Takes s (at k f (j + t)) left bs bs₁ cs cs₁ r → (bs₂ cs₂ : List ℕ) (r₂ : ℕ) → Kept s bs₂ cs₁ cs₂ → (r < 2 * s .nodes → r₂ < s .nodes) → Flushes s (at k g v) r bs₁ bs₂ cs₁ cs₂ r₂
+        → Takes s (label k f (j + t)) left bs bs₁ cs cs₁ r → (bs₂ cs₂ : List ℕ) (r₂ : ℕ) → Kept s bs₂ cs₁ cs₂ → (r < 2 * s .nodes → r₂ < s .nodes) → Flushes s (label k g v) r bs₁ bs₂ cs₁ cs₂ r₂
         → Turning s k f j count g q v₀ left₀ bs₀ cs₀ (t + 1) (v + r / s .nodes) r₂ bs₂ cs₂
     turning-more two h bs₁ cs₁ r kept₁ most tk bs₂ cs₂ r₂ kept₂ less fl =
         let e : r < 2 * s .nodes = omega (arith, i .short) in
@@ -281,8 +282,8 @@ module _ (s : Sizes) (k f j count g q : ℕ) where
               rw add-one (pouring-flush s F m hd k f j count g q c rest pb (suc t) v r bs₁ cs₁ p h bs₂ cs₂ r₂ fl);
         }
 
-  pub pour-made : (n : ℕ) (bs₀ cs₀ bs₁ cs₁ : List ℕ) (left₁ : ℕ) → Flushes s (at k g q) n bs₀ bs₁ cs₀ cs₁ left₁ → (t v left : ℕ) (bs cs : List ℕ)
-      → Turning s k f j count g q (q + n / s .nodes) left₁ bs₁ cs₁ t v left bs cs → count ≤ t → (bs′ : List ℕ) → Puts s (at k g v) left bs bs′ cs → Pours s k f j count g q n bs₀ bs′ cs₀
+  pub pour-made : (n : ℕ) (bs₀ cs₀ bs₁ cs₁ : List ℕ) (left₁ : ℕ) → Flushes s (label k g q) n bs₀ bs₁ cs₀ cs₁ left₁ → (t v left : ℕ) (bs cs : List ℕ)
+      → Turning s k f j count g q (q + n / s .nodes) left₁ bs₁ cs₁ t v left bs cs → count ≤ t → (bs′ : List ℕ) → Puts s (label k g v) left bs bs′ cs → Pours s k f j count g q n bs₀ bs′ cs₀
   unfolding Pours Puts
   pour-made n bs₀ cs₀ bs₁ cs₁ left₁ fl t v left bs cs i end bs′ pt F m hd c rest tb fr en pb =
       let p₀ = pouring-start s F m hd k f j count g q c rest pb n bs₀ cs₀ tb fr en in
@@ -291,4 +292,4 @@ module _ (s : Sizes) (k f j count g q : ℕ) where
       (last-can s F m hd k f j count g q c rest pb t v left bs cs p end (i .within)) in
       let all : take left (p .carry) ≡ p .carry = take-all left (p .carry) (omega (arith, p .size)) in
       pouring-end s F m hd k f j count g q c rest pb t v left bs cs p end (i .within) (i .short) bs′
-      (subst (λ (z : List Order). Put s (p .map) (p .full) hd (at k g v) z bs′) all w)
+      (subst (λ (z : List Order). Put s (p .map) (p .full) hd (label k g v) z bs′) all w)

@@ -13,6 +13,7 @@ use lib.ListN.{length, getD, take, drop, length-append, length-take, length-drop
 use lib.Seq.{take-all, take-add}
 use Rattle.sizes.specs.Numbers.{field}
 use Rattle.sizes.specs.Header.{block-long}
+use Rattle.placement.specs.Labels.{label}
 use Rattle.placement.specs.Place.{search-in, taken-out}
 use Rattle.placement.specs.Maps.{Map, Table, cleared}
 use Rattle.sizes.specs.declared.Sizes.{Sizes}
@@ -27,7 +28,6 @@ use Rattle.skiplist.proofs.Laws.Count.{pieces}
 use Rattle.skiplist.proofs.Laws.Descent.{last-from}
 use Rattle.levels.specs.declared.Spot.{Spot}
 use Rattle.levels.specs.Edit.{Pieces, Scans, Reaches, Spots}
-use Rattle.levels.specs.Pour.{at}
 use Rattle.levels.specs.Scan.{passed, passes}
 use Rattle.levels.proofs.Laws.MapLabels.{cleared-other}
 use Rattle.levels.proofs.Laws.Takes.{none-found, some-found, counted}
@@ -155,8 +155,8 @@ module _ (s : Sizes) (k f : ℕ) (pos : 0 < k) where
       let full : F k f a ≢ [] = h a (omega arith) (omega arith) in
       omega (
         arith,
-        count-some s F n hd bs t (at k f a) full,
-        crowd j (cleared (at k f a) F) (n - 1) hd (taken-out s (search-in s bs (at k f a)) bs) (suc a) (remove-keeps s F n hd bs t (at k f a) pos full .1)
+        count-some s F n hd bs t (label k f a) full,
+        crowd j (cleared (label k f a) F) (n - 1) hd (taken-out s (search-in s bs (label k f a)) bs) (suc a) (remove-keeps s F n hd bs t (label k f a) pos full .1)
             (λ i g l e. h i (omega arith) (omega arith) (sym (cleared-other F (λ u v w. omega arith)) ∙ e)),
       )
 
@@ -218,16 +218,16 @@ module _ (s : Sizes) (bs : List ℕ) (k f y i : ℕ) (z : Spot) (p : Scanning s 
   pub spot-past : s .blocks ≤ 65535 → (whole : Bool) → whole ≡ false → z .below < z .size → Spots s bs k f y whole z
   spot-past b whole n h = record { reaches = past h; scans = λ e. absurd (true≢false (sym e ∙ n)); few = p .few; most = omega (arith, p .most, p .within) }
 
-  module _ (r : Found) (er : r ≡ search-in s bs (at k f i)) where
+  module _ (r : Found) (er : r ≡ search-in s bs (label k f i)) where
     pub scanning-none : r ≡ Nothing → Scans s bs k f y z
-    scanning-none e = all-came s bs k f y i z p (λ F n hd ns t pos c. piece-gone s k f pos F n hd bs ns t c i (none-found s F n hd bs t (at k f i) pos r er e))
+    scanning-none e = all-came s bs k f y i z p (λ F n hd ns t pos c. piece-gone s k f pos F n hd bs ns t c i (none-found s F n hd bs t (label k f i) pos r er e))
 
     module _ (b : ℕ) (eb : r ≡ At b) (n : ℕ) (en : n ≡ getD bs (53 + b * block-long s + 1) 0) where
       came : (F : Map) (m : ℕ) (hd : List ℕ) → Table s F m hd bs → 0 < k → passes bs n (53 + b * block-long s + 8) y z ≡ passed-all y (F k f i) z
       came F m hd t pos =
-          let v = some-found s F m hd bs t (at k f i) pos r er b eb in
-          ap (λ (j : ℕ). passes bs j (53 + b * block-long s + 8) y z) (counted s F m hd bs t (at k f i) pos r er b eb n en)
-          ∙ keys-read bs y (F k f i) (53 + b * block-long s + 8) z (λ j g. moved j (key-read s bs b (at k f i) (F k f i) (v .is) (v .held .nodes) (v .held .fine) j g))
+          let v = some-found s F m hd bs t (label k f i) pos r er b eb in
+          ap (λ (j : ℕ). passes bs j (53 + b * block-long s + 8) y z) (counted s F m hd bs t (label k f i) pos r er b eb n en)
+          ∙ keys-read bs y (F k f i) (53 + b * block-long s + 8) z (λ j g. moved j (key-read s bs b (label k f i) (F k f i) (v .is) (v .held .nodes) (v .held .fine) j g))
         where
           moved : (j : ℕ) {x : ℕ} → field (53 + b * block-long s + (8 + (12 * j + 0))) 4 bs ≡ x → field (53 + b * block-long s + 8 + 12 * j) 4 bs ≡ x
           moved j g = let e : 53 + b * block-long s + 8 + 12 * j ≡ 53 + b * block-long s + (8 + (12 * j + 0)) = omega arith in ap (λ (q : ℕ). field q 4 bs) e ∙ g
@@ -236,14 +236,14 @@ module _ (s : Sizes) (bs : List ℕ) (k f y i : ℕ) (z : Spot) (p : Scanning s 
       pub scanning-wide : s .nodes < n → Scans s bs k f y z
       unfolding Scans
       scanning-wide h F m hd ps qs t pos c low high =
-          absurd (omega (arith, some-found s F m hd bs t (at k f i) pos r er b eb .held .nodes, counted s F m hd bs t (at k f i) pos r er b eb n en))
+          absurd (omega (arith, some-found s F m hd bs t (label k f i) pos r er b eb .held .nodes, counted s F m hd bs t (label k f i) pos r er b eb n en))
 
       pub scanning-more : i < s .blocks → n ≤ s .nodes → s .nodes ≤ 32 → (a : ℕ) (w : Spot) → a ≡ 53 + b * block-long s → w ≡ passes bs n (a + 8) y z → w .below ≤ w .size →
           w .size ≡ z .size + n → Came s bs k f y i n w
       scanning-more lt le few a w ea ew short long = record {
         next = next;
         stop = λ h. all-came s bs k f y (i + 1) w next (λ F m hd ns t pos c.
-            omega (arith, h, step, simp (length-take, length-drop) at (counted s F m hd bs t (at k f i) pos r er b eb n en ∙ ap length (pieces-at F (s .nodes) k f ns i c))));
+            omega (arith, h, step, simp (length-take, length-drop) at (counted s F m hd bs t (label k f i) pos r er b eb n en ∙ ap length (pieces-at F (s .nodes) k f ns i c))));
       }
         where
           step : i * s .nodes + s .nodes ≡ (i + 1) * s .nodes

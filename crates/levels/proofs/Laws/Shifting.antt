@@ -7,13 +7,14 @@ use native.Mathlib.Nat.{suc-mul, zero-mul, mul-le-mul-right}
 use native.Mathlib.Numerals.{add-one}
 use native.Mathlib.Omega.{arith}
 use lib.ListN.{length, take, drop, length-append, length-drop, length-take}
+use Rattle.placement.specs.Labels.{label}
 use Rattle.placement.specs.Maps.{Map, Table, Fines, with-nodes}
 use Rattle.placement.specs.Place.{Shaped}
 use Rattle.sizes.specs.declared.Sizes.{Sizes}
 use Rattle.placement.specs.declared.Order.{Order}
 use Rattle.skiplist.proofs.Laws.Count.{pieces}
 use Rattle.levels.specs.Edit.{Pieces}
-use Rattle.levels.specs.Pour.{at, Front, one, Reads, Kept}
+use Rattle.levels.specs.Pour.{Front, one, Reads, Kept}
 use Rattle.levels.specs.Shift.{Settable, Renews, Shiftable, Shifted, Shifts}
 use Rattle.levels.proofs.Laws.Flushes.{fines-append, fines-drop, fines-there}
 use Rattle.levels.proofs.Laws.Chunking.{pieces-next, chunk-behind, chunk-same, pieces-none, pieces-skip, pieces-pos, pieces-over, drop-next, drop-past, take-past}
@@ -88,7 +89,7 @@ module _ (s : Sizes) (F : Map) (m : ℕ) (hd : List ℕ) (k f q count : ℕ) (c 
     fine-now = fines-append (p .carry) (p .map k f (q + t + 1)) (p .fine) (fines-there s (p .map) (p .full) hd bs k f (q + t + 1) (p .table))
 
     -- what writing chunk t asks
-    can : (r : ℕ) → r ≡ length now → Settable s (p .map) (p .full) (at k f (q + t)) r
+    can : (r : ℕ) → r ≡ length now → Settable s (p .map) (p .full) (label k f (q + t)) r
     can r er = record {
       level = sh .level;
       label = λ pos. record {
@@ -115,15 +116,15 @@ module _ (s : Sizes) (F : Map) (m : ℕ) (hd : List ℕ) (k f q count : ℕ) (c 
         more pos = pieces-pos (s .nodes) (length (drop (t * s .nodes) new)) some (long pos)
 
     -- CHUNK t WRITTEN
-    pub shifting-more : (cs₁ : List ℕ) (r₁ : ℕ) → Reads s (at k f (q + t + 1)) left bs cs cs₁ r₁ → (bs₂ cs₂ : List ℕ) (r₂ : ℕ)
-        → Renews s (at k f (q + t)) r₁ bs bs₂ cs₁ cs₂ r₂
+    pub shifting-more : (cs₁ : List ℕ) (r₁ : ℕ) → Reads s (label k f (q + t + 1)) left bs cs cs₁ r₁ → (bs₂ cs₂ : List ℕ) (r₂ : ℕ)
+        → Renews s (label k f (q + t)) r₁ bs bs₂ cs₁ cs₂ r₂
         → Shifting s F m hd k f q old new (suc t) r₂ bs₂ cs₂
     unfolding Reads Renews
     shifting-more cs₁ r₁ rd bs₂ cs₂ r₂ rn =
         let u = rd (p .map) (p .full) hd (p .carry) (p .table) (sh .level) (p .front) (p .size) in
         let x = rn (p .map) (p .full) hd now (p .table) (u .front) (u .size) fine-now (can r₁ (u .size)) in
         record {
-          map = with-nodes (at k f (q + t)) (take (s .nodes) now) (p .map);
+          map = with-nodes (label k f (q + t)) (take (s .nodes) now) (p .map);
           full = x .stored .full;
           table = x .stored .table;
           carry = drop (s .nodes) now;
@@ -201,8 +202,8 @@ module _ (s : Sizes) (k f q count n : ℕ) (bs₀ cs₀ : List ℕ) where
   }
 
   module _ (t left : ℕ) (bs cs : List ℕ) (i : Moving s k f q count n bs₀ cs₀ t left bs cs) where
-    pub moving-more : t < count + 2 → (cs₁ : List ℕ) (r : ℕ) → length cs₁ ≡ length cs → r ≤ left + s .nodes → Reads s (at k f (q + t + 1)) left bs cs cs₁ r
-        → (bs₂ cs₂ : List ℕ) (r₂ : ℕ) → Kept s bs₂ cs₁ cs₂ → r₂ ≤ r - s .nodes → Renews s (at k f (q + t)) r bs bs₂ cs₁ cs₂ r₂
+    pub moving-more : t < count + 2 → (cs₁ : List ℕ) (r : ℕ) → length cs₁ ≡ length cs → r ≤ left + s .nodes → Reads s (label k f (q + t + 1)) left bs cs cs₁ r
+        → (bs₂ cs₂ : List ℕ) (r₂ : ℕ) → Kept s bs₂ cs₁ cs₂ → r₂ ≤ r - s .nodes → Renews s (label k f (q + t)) r bs bs₂ cs₁ cs₂ r₂
         → Moving s k f q count n bs₀ cs₀ (t + 1) r₂ bs₂ cs₂
     moving-more h cs₁ r long most rd bs₂ cs₂ r₂ kept less rn = record {
       shaped = kept .shaped;
