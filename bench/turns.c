@@ -33,7 +33,8 @@ enum { CALLS = sizeof now_calls / sizeof *now_calls };
 static const configuration configurations[] = {
     {"load 0.80", 16, 16, 1000, 80, RANDOM, 0, 0},    {"load 0.80", 16, 16, 10000, 80, RANDOM, 0, 0},    {"load 0.80", 16, 16, 60000, 80, RANDOM, 0, 0},
     {"large blocks", 64, 32, 1000, 80, RANDOM, 0, 0}, {"large blocks", 64, 32, 10000, 80, RANDOM, 0, 0}, {"large blocks", 64, 32, 60000, 80, RANDOM, 0, 0},
-    {"small blocks", 2, 2, 10000, 80, RANDOM, 0, 0},  {"small blocks", 2, 2, 30000, 80, RANDOM, 0, 0},   {"one partition", 16, 16, 60000, 80, FLAT, 0, 0},
+    {"small blocks", 2, 2, 1000, 80, RANDOM, 0, 0},   {"small blocks", 2, 2, 10000, 80, RANDOM, 0, 0},   {"small blocks", 2, 2, 30000, 80, RANDOM, 0, 0},
+    {"one partition", 16, 16, 60000, 80, FLAT, 0, 0},
 };
 
 /* The two sides of a call, in turns of their own: so many calls in a batch where nothing surrounds them, else so many batches. */
