@@ -4,24 +4,24 @@
  * buffers that it is lent. A pointer may be NULL where its length is 0. A buffer that a call writes must not overlap another buffer of the
  * same call, and nobody else may write a buffer while a call runs. Keys are order numbers.
  *
- * Every call but make first reads the whole table, for question 4. Under a random seed that those who choose keys do not know, and with blocks to
+ * Every call but make and descent first reads the whole table, for question 4. Under a random seed that those who choose keys do not know, and with blocks to
  * spare, that takes time in proportion to the table's length. Whoever sends a table can choose seed and keys to make it slow: M blocks are then
  * looked at up to about M * M times, which is seconds for 65,535. balluchaw(3), NOTES, says what a receiver can do.
  *
  * Each call answers the number of the first question that turns it down, or 0. On a refusal no lent byte changes and all other parts of the
- * answer are 0.
+ * answer are 0; only a descent that answers 9 has written its path and says how many blocks that has.
  *
  *    1  is the seed 40 bytes, each of its ten big-endian numbers below 2,147,483,647?
  *    2  are the sizes allowed?
  *    3  is the table exactly of the length that the sizes ask for?
- *    4  are the bytes an image: a table that some make, puts and cancels give?
+ *    4  are the bytes an image: a table that some make, puts and cancels give? A descent asks this of the header and the length alone
  *    5  is each key 1 to 2,147,483,646?
  *    6  is total at least 1 and displayed at most total?
  *    7  is the key held, or are there fewer orders than the table may hold?
  *    8  do the resulting orders have at most as many chunks as the table has blocks?
  *    9  is the key held?
  *   10  is lo at most hi?
- *   11  has the output 12 bytes for each held key in lo..hi?
+ *   11  has the output 12 bytes for each held key in lo..hi? For a descent: two bytes for each block of its path?
  *   12  is there an order in lo..hi with total - displayed at least the reserve?
  */
 #ifndef BALLUCHAW_H
@@ -37,9 +37,10 @@ extern "C" {
 /* The answer of a reading. The caller owns it. */
 typedef struct {
     uint32_t number;    /* 0, or the number of the question that turned the call down */
-    uint32_t key;       /* lookup, seek: the order's number */
-    uint32_t total;     /* lookup, seek: its total quantity; span: how many orders were written */
-    uint32_t displayed; /* lookup, seek: its displayed quantity */
+    uint32_t key;       /* lookup, descent, seek: the order's number */
+    uint32_t total;     /* lookup, descent, seek: its total quantity */
+    uint32_t displayed; /* lookup, descent, seek: its displayed quantity */
+    uint32_t count;     /* span: how many orders were written; descent: how many blocks its path has */
 } balluchaw_reply;
 
 /* The bytes of a table of these sizes: the length that make asks for. */
@@ -63,8 +64,18 @@ uint32_t balluchaw_cancel(uint8_t *table, size_t length, uint32_t key);
 /* The quantities of an order. Asks 4, 5, 9. */
 balluchaw_reply balluchaw_lookup(const uint8_t *table, size_t length, uint32_t key);
 
-/* The orders with keys in lo..hi, by rising key: key, total, displayed, four bytes each, big-endian, from the output's front on. Bytes of
- * the output beyond them keep their values. Asks 4, 5, 10, 11. */
+/* The quantities of an order, by the way down to it: no more of the table is read than that takes, so a table that was damaged behind its
+ * header is not found out. Asks 4 of the header and the length alone, 5, 11, 9.
+ * It writes the path, the numbers of the blocks on the way, two bytes each, big-endian, from the path's front on, and their number in count;
+ * bytes of the path beyond them keep their values. From the highest level down to level 1 these are the blocks of chunks 0, 1, .. of one
+ * partition, as far as the chunk with the greatest key not above the one sought; that key's partition one level down comes next. The path is
+ * written for a key that is not held too; 9 is the one refusal that writes. A path has at most as many blocks as the table.
+ * On an image the quantities are those of lookup. On other bytes that pass 4 and 5 here the call ends, the table stays as it is, and of the
+ * path no more than its first count numbers are written; what else it answers there means nothing. */
+balluchaw_reply balluchaw_descent(const uint8_t *table, size_t length, uint32_t key, uint8_t *path, size_t path_length);
+
+/* The orders with keys in lo..hi, by rising key: key, total, displayed, four bytes each, big-endian, from the output's front on, and
+ * their number in count. Bytes of the output beyond them keep their values. Asks 4, 5, 10, 11. */
 balluchaw_reply balluchaw_span(const uint8_t *table, size_t length, uint32_t lo, uint32_t hi, uint8_t *output, size_t output_length);
 
 /* Some order in lo..hi whose total less its displayed quantity is at least the reserve. Asks 4, 5, 10, 12. */
