@@ -220,9 +220,9 @@ fn answer_span(
     if r.number != 0 {
         return say_number(out, d.used, r.number);
     }
-    let count = [r.total];
+    let count = [r.count];
     let used = say(out, d.used, 0, &count);
-    say_orders(out, used, found, r.total)
+    say_orders(out, used, found, r.count)
 }
 
 // A make whose table is too long is no call. A refused make keeps the older table.

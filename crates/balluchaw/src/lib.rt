@@ -46,6 +46,11 @@ pub extern "C" fn balluchaw_lookup(table: &[u8], key: u32) -> Reply
 }
 
 #[no_mangle]
+pub extern "C" fn balluchaw_descent(table: &[u8], key: u32, path: &mut [u8]) -> Reply {
+    readings::descent::descent(table, key, path)
+}
+
+#[no_mangle]
 pub extern "C" fn balluchaw_span(table: &[u8], lo: u32, hi: u32, output: &mut [u8]) -> Reply
     ensures { λ r. ⌜ Span-says (now (table .entry)) lo hi r (now (output .entry)) (now (output .exit)) × (now (table .exit) ≡ now (table .entry)) ⌝ }
 {

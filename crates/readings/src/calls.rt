@@ -18,7 +18,7 @@ use table::Reply;
 use table::checking::check;
 
 // A refusal: all other parts are 0.
-fn refused(number: u32) -> Reply
+pub fn refused(number: u32) -> Reply
     ensures { λ r. ⌜ says number 0 0 0 r ⌝ }
 {
     Reply {
@@ -26,6 +26,7 @@ fn refused(number: u32) -> Reply
         key: 0,
         total: 0,
         displayed: 0,
+        count: 0,
     }
 }
 
@@ -38,6 +39,7 @@ fn answered(o: Order) -> Reply
         key: o.key,
         total: o.total,
         displayed: o.displayed,
+        count: 0,
     }
 }
 
@@ -166,8 +168,9 @@ pub fn span(table: &[u8], lo: u32, hi: u32, output: &mut [u8]) -> Reply
     Reply {
         number: 0,
         key: 0,
-        total: v.found,
+        total: 0,
         displayed: 0,
+        count: v.found,
     }
 }
 

@@ -10,18 +10,15 @@ ghost use Rattle.skiplist.specs.Questions.{between};
 ghost use Rattle.skiplist.specs.Parts.{part};
 ghost use Rattle.readings.specs.Visit.{Known, first-enough, with-key};
 use crate::calls::Sought;
-use levels::growth::lead;
-use levels::spots::reach;
-use placement::Found;
-use placement::Label;
-use placement::labels::offset;
-use placement::search::count_at;
-use placement::search::find;
+use crate::calls::is_key;
+use crate::calls::refused;
+use levels::ways::descend;
 use sizes::Geometry;
-use sizes::Sizes;
-use sizes::hash::is_lowest;
 use sizes::hash::reckon;
 use sizes::header::Header;
+use sizes::header::rule_one;
+use sizes::numbers::bring;
+use table::Reply;
 use table::walk::node_of;
 
 // The sizes of an image, with what follows from them.
@@ -33,27 +30,15 @@ pub fn geometry_of(table: &[u8]) -> Geometry
     reckon(h.sizes)
 }
 
-// Node `below` of the partition of level 1 that `first` heads, if it has the key.
-fn node_there(table: &[u8], s: Sizes, first: u32, below: u32, key: u32) -> Sought
-    requires { ⌜ Known s (now table) × (0 < s .nodes) ⌝ }
-    ensures { λ r. ⌜ r ≡ with-key key (drop below (part s (orders-in (now (table .entry))) 1 first)) ⌝ }
+// The order at a place that the way down to a key has come to, if it has the key.
+fn order_at(table: &[u8], at: usize, key: u32) -> Sought
+    requires { ⌜ at + 12 ≤ length (now table) ⌝ }
+    ensures { λ r. ⌜ r ≡ landed (now (table .entry)) at key ⌝ }
 {
-    let Found::At(i) = find(
-        table,
-        s,
-        Label {
-            level: 1,
-            first: first,
-            number: below / s.nodes,
-        },
-    ) else {
-        return Sought::Nothing;
-    };
-    let j = below % s.nodes;
-    if count_at(table, s, i) <= j {
+    if at == 0 {
         return Sought::Nothing;
     }
-    let o = node_of(table, offset(s, i) + (8 + 12 * (j as usize)));
+    let o = node_of(table, at);
     if o.key != key {
         return Sought::Nothing;
     }
@@ -65,10 +50,50 @@ pub fn order_of(table: &[u8], q: Geometry, key: u32) -> Sought
     requires { ⌜ Known (q .sizes) (now table) × Reckoned q × (1 ≤ key) ⌝ }
     ensures { λ r. ⌜ r ≡ first-enough 0 (between key key (orders-in (now (table .entry)))) ⌝ }
 {
-    if is_lowest(q.sizes, q.ratio, key) {
-        let first = lead(table, q, 1, key);
-        let x = reach(table, q, 1, first, key);
-        return node_there(table, q.sizes, first, x.below, key);
+    let mut none = [0u8; 1];
+    let t = descend(table, q, 0, key, &mut none);
+    order_at(table, t.at, key)
+}
+
+// The path that was found, to the output: a short one stands in `short`, a longer one is gone once more.
+fn write_path(table: &[u8], q: Geometry, key: u32, count: u32, short: &[u8], path: &mut [u8]) {
+    let long = 2 * (count as usize);
+    if long <= short.len() {
+        bring(path, 0, short, 0, long);
+    } else {
+        descend(table, q, 0, key, path);
     }
-    node_there(table, q.sizes, key, 0, key)
+}
+
+// Descent: 4 of the header and the length alone, 5, 11, 9.
+pub fn descent(table: &[u8], key: u32, path: &mut [u8]) -> Reply {
+    if !rule_one(table) {
+        return refused(4);
+    }
+    if !is_key(key) {
+        return refused(5);
+    }
+    let q = geometry_of(table);
+    let mut short = [0u8; 128];
+    let t = descend(table, q, 0, key, &mut short);
+    if path.len() < 2 * (t.count as usize) {
+        return refused(11);
+    }
+    write_path(table, q, key, t.count, &short, path);
+    let Sought::Is(o) = order_at(table, t.at, key) else {
+        return Reply {
+            number: 9,
+            key: 0,
+            total: 0,
+            displayed: 0,
+            count: t.count,
+        };
+    };
+    Reply {
+        number: 0,
+        key: o.key,
+        total: o.total,
+        displayed: o.displayed,
+        count: t.count,
+    }
 }

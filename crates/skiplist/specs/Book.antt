@@ -9,16 +9,18 @@ use Rattle.sizes.specs.declared.Sizes.{Sizes}
 use Rattle.placement.specs.declared.Order.{Order}
 use Rattle.skiplist.specs.Image.{image, orders-in}
 use Rattle.skiplist.specs.Questions.{Question, first-no, Parameters, asks-make, asks-image, asks-put, asks-key, asks-span, asks-seek, order, with-order, without}
+use Rattle.skiplist.specs.Paths.{asks-descent}
 
 -- the number of a make
 unfoldable pub make-refusal : Parameters → (long : ℕ) → ℕ
 make-refusal q l = first-no (asks-make q l)
 
--- EVERY OTHER CALL, with all its arguments; an output is lent with a span
+-- EVERY OTHER CALL, with all its arguments; an output is lent with a descent and with a span
 pub data Call : Type 0 where
   put : (key total displayed : ℕ) → Call
   cancel : (key : ℕ) → Call
   lookup : (key : ℕ) → Call
+  descent : (key : ℕ) → (output : List ℕ) → Call
   span : (lo hi : ℕ) → (output : List ℕ) → Call
   seek : (lo hi reserve : ℕ) → Call
   check : Call
@@ -28,6 +30,7 @@ unfoldable pub asks : Sizes → Call → List Order → List Question
 asks s (put k t d) os = asks-put s k t d os
 asks s (cancel k) os = asks-key k os
 asks s (lookup k) os = asks-key k os
+asks s (descent k o) os = asks-descent s k (length o) os
 asks s (span lo hi o) os = asks-span lo hi (length o) os
 asks s (seek lo hi r) os = asks-seek lo hi r os
 asks s check os = []
@@ -37,6 +40,7 @@ unfoldable pub changed : Call → List Order → List Order
 changed (put k t d) os = with-order (order k t d) os
 changed (cancel k) os = without k os
 changed (lookup k) os = os
+changed (descent k o) os = os
 changed (span lo hi o) os = os
 changed (seek lo hi r) os = os
 changed check os = os
@@ -52,7 +56,7 @@ unfoldable pub book : Sizes → List Call → List Order → List Order
 book s [] os = os
 book s (c ∷ cs) os = book s cs (booked s c os)
 
--- A CALL ON A TABLE: 4, and then its questions, asked of the orders there
+-- A CALL ON A TABLE: 4, and then its questions, asked of the orders there. A descent has this number on images alone
 unfoldable pub refusal : Call → (table : List ℕ) → ℕ
 refusal c bs = first-no (asks-image bs ++ asks (sizes-in bs) c (orders-in bs))
 

@@ -2,6 +2,7 @@ pub mod Lists
 pub mod Parts
 pub mod Image
 pub mod Questions
+pub mod Paths
 pub mod Book
 pub mod Rules
 pub mod Promise

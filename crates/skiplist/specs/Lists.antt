@@ -1,7 +1,7 @@
 -- Lists, partitions, chunks. Document 01, "Lists, partitions, chunks".
 use mathlib.Core.Bool.{Bool, _&&_, _||_, cond}
 use mathlib.Core.List.{List, [], _∷_, _++_, map}
-use Prim.Native.Nat.{ℕ, zero, suc}
+use Prim.Native.Nat.{ℕ, zero, suc, _/_}
 use lib.Dec.{ltb, leb, eqb}
 use lib.ListN.{length, take, drop, replicate}
 use Rattle.sizes.specs.Sizes.{beta}
@@ -44,6 +44,19 @@ unfoldable pub first-key : List Order → ℕ
 first-key [] = 0
 first-key (o ∷ os) = o .key
 
+-- the one of level l that key f heads, nothing where it heads none
+unfoldable pub pick : (f : ℕ) → List (List Order) → List Order
+pick f [] = []
+pick f (p ∷ ps) = cond (eqb (first-key p) f) p [] ++ pick f ps
+
+unfoldable pub part : Sizes → (orders : List Order) → (l f : ℕ) → List Order
+part s os l f = pick f (partitions s l (list-at s l os))
+
+-- the last key of some, k where there is none
+unfoldable pub last-from : (k : ℕ) → List Order → ℕ
+last-from k [] = k
+last-from k (x ∷ xs) = last-from (x .key) xs
+
 -- both quantities are 0 at levels above 1
 unfoldable pub masked : (level : ℕ) → Order → Order
 masked l o = record { key = o .key; total = cond (eqb l 1) (o .total) 0; displayed = cond (eqb l 1) (o .displayed) 0 }
@@ -54,6 +67,11 @@ chunks-of zero b l f i ns = []
 chunks-of (suc k) b l f i [] = []
 chunks-of (suc k) b l f i (n ∷ ns) =
     record { label = label l f i; nodes = take b (n ∷ ns) } ∷ chunks-of k b l f (suc i) (drop b (n ∷ ns))
+
+-- how many they are: the number of nodes over B, rounded up
+unfoldable pub pieces : (b n : ℕ) → ℕ
+pieces b zero = 0
+pieces b (suc n) = suc (n / b)
 
 -- the chunks of some partitions of a level
 unfoldable pub all-chunks : Sizes → (l : ℕ) → List (List Order) → List Chunk

@@ -6,7 +6,8 @@ use lib.Dec.{ltb, eqb}
 use lib.ListN.{length}
 use Rattle.sizes.specs.declared.Sizes.{Sizes}
 use Rattle.placement.specs.declared.Order.{Order}
-use Rattle.skiplist.specs.Lists.{front, at-least, list-at, starts-one, partitions, first-key}
+use Rattle.skiplist.specs.Lists.{front, at-least, list-at, starts-one, partitions}
+unfoldable pub use Rattle.skiplist.specs.Lists.{last-from, pick, part, pieces}
 
 -- KEYS: they rise, from a on
 abbrev pub Up : (a : ℕ) → List Order → Type 0
@@ -18,11 +19,6 @@ unfoldable pub below : (k : ℕ) → List Order → Bool
 below k [] = true
 below k (x ∷ xs) = ltb (x .key) k && below k xs
 
--- the last key of a list, k where there is none
-unfoldable pub last-from : (k : ℕ) → List Order → ℕ
-last-from k [] = k
-last-from k (x ∷ xs) = last-from (x .key) xs
-
 -- PARTITIONS: p is open; the one that is open after a list
 unfoldable pub opened : (starts : Order → Bool) → (p xs : List Order) → List Order
 opened st p [] = p
@@ -31,14 +27,6 @@ opened st p (x ∷ xs) = cond (st x) (opened st (x ∷ []) xs) (opened st (p ++ 
 -- the partition of level l that is open after some orders
 unfoldable pub head-part : Sizes → (l : ℕ) → List Order → List Order
 head-part s l xs = opened (starts-one s l) (front ∷ []) (at-least s l xs)
-
--- the partition of level l that key f heads, nothing where it heads none
-unfoldable pub pick : (f : ℕ) → List (List Order) → List Order
-pick f [] = []
-pick f (p ∷ ps) = cond (eqb (first-key p) f) p [] ++ pick f ps
-
-unfoldable pub part : Sizes → (orders : List Order) → (l f : ℕ) → List Order
-part s os l f = pick f (partitions s l (list-at s l os))
 
 -- THE WALK DOWN: what a node opens at level l and below; at level 0 itself
 unfoldable pub each : (Order → List Order) → List Order → List Order
@@ -49,11 +37,7 @@ unfoldable pub spread : Sizes → (orders : List Order) → (l : ℕ) → Order 
 spread s os zero x = x ∷ []
 spread s os (suc l) x = each (spread s os l) (part s os (suc l) (x .key))
 
--- HOW MANY CHUNKS: a partition of n nodes has n / B, rounded up
-unfoldable pub pieces : (b n : ℕ) → ℕ
-pieces b zero = 0
-pieces b (suc n) = suc (n / b)
-
+-- HOW MANY CHUNKS
 unfoldable pub pieces-all : (b : ℕ) → List (List Order) → ℕ
 pieces-all b [] = 0
 pieces-all b (p ∷ ps) = pieces b (length p) + pieces-all b ps

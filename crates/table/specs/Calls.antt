@@ -1,22 +1,24 @@
 -- What each call answers and leaves behind. Document 01, "Calls and their questions" and "Contracts".
 use mathlib.Core.Path.{_≡_}
-use mathlib.Core.Bool.{true, cond}
+use mathlib.Core.Bool.{true, _||_, cond}
 use mathlib.Core.List.{List, [], _∷_, _++_}
 use Prim.Native.Nat.{ℕ, zero, suc, _*_, _≤_}
 use lib.Dec.{eqb}
 use lib.ListN.{length, drop}
+use Rattle.sizes.specs.Header.{sizes-in, rule-1}
 use Rattle.placement.specs.Chunks.{nodes-bytes}
 use Rattle.placement.specs.declared.Order.{Order}
-use Rattle.skiplist.specs.Image.{image, orders-in}
-use Rattle.skiplist.specs.Questions.{Parameters, sizes, held, between, reserve, order}
+use Rattle.skiplist.specs.Image.{image, is-image, orders-in}
+use Rattle.skiplist.specs.Questions.{Question, ask, first-no, is-key, Parameters, sizes, held, between, reserve, order}
+use Rattle.skiplist.specs.Paths.{descent-path, path-bytes}
 -- passed on: a contract of make builds what it is asked from its arguments
 pub use Rattle.skiplist.specs.Questions.{parameters}
-use Rattle.skiplist.specs.Book.{Call, put, cancel, lookup, span, seek, check, make-refusal, refusal, done}
+use Rattle.skiplist.specs.Book.{Call, put, cancel, lookup, descent, span, seek, check, make-refusal, refusal, done}
 use Rattle.table.specs.declared.Reply.{Reply}
 
 -- every part of an answer; on a refusal all other parts are 0
-unfoldable pub says : (number key total displayed : ℕ) → Reply → Type 0
-says n k t d r = (r .number ≡ n) × (r .key ≡ k) × (r .total ≡ t) × (r .displayed ≡ d)
+unfoldable pub says : (number key total displayed count : ℕ) → Reply → Type 0
+says n k t d c r = (r .number ≡ n) × (r .key ≡ k) × (r .total ≡ t) × (r .displayed ≡ d) × (r .count ≡ c)
 
 -- MAKE: 1, 2, 3; then every byte is that of the image of no orders
 unfoldable pub Make-says : Parameters → (r : ℕ) → (table table-now : List ℕ) → Type 0
@@ -45,17 +47,43 @@ unfoldable pub displayed-of : (key : ℕ) → List Order → ℕ
 displayed-of k [] = 0
 displayed-of k (o ∷ os) = cond (eqb (o .key) k) (o .displayed) (displayed-of k os)
 
-unfoldable pub Look-as : (number : ℕ) → (key : ℕ) → List Order → Reply → Type 0
-Look-as zero k os r = says 0 k (total-of k os) (displayed-of k os) r
-Look-as (suc n) k os r = says (suc n) 0 0 0 r
+unfoldable pub Look-as : (number count : ℕ) → (key : ℕ) → List Order → Reply → Type 0
+Look-as zero c k os r = says 0 k (total-of k os) (displayed-of k os) c r
+Look-as (suc n) c k os r = says (suc n) 0 0 0 c r
 
 unfoldable pub Look-says : (table : List ℕ) → (key : ℕ) → Reply → Type 0
-Look-says x k r = Look-as (refusal (lookup k) x) k (orders-in x) r
+Look-says x k r = Look-as (refusal (lookup k) x) 0 k (orders-in x) r
 
--- SPAN: 4, 5, 10, 11; key, total, displayed of each order in lo..hi, rising, at the front of the output, and their number in `total`
+-- DESCENT. Document 02, A.1. "Its first question is only whether rule 1 of an image holds, else 4; then come 5, 11 and 9"
+unfoldable pub asks-first : (table : List ℕ) → (key : ℕ) → List Question
+asks-first x k = ask 4 (rule-1 x) ∷ ask 5 (is-key k) ∷ []
+
+-- what it writes of its path: "it is written for a key that is not held too, before 9, which is the one refusal that writes"
+unfoldable pub shown : (number : ℕ) → (path : List ℕ) → List ℕ
+shown n path = cond (eqb n 0 || eqb n 9) path []
+
+-- on an image: the quantities as a lookup has them, the blocks of the path at the front of the output, and how many they are
+unfoldable pub Descent-as : (number : ℕ) → (key : ℕ) → List Order → (path : List ℕ) → Reply → (output output-now : List ℕ) → Type 0
+Descent-as n k os path r o z =
+    Look-as n (length (shown n path)) k os r × (z ≡ path-bytes (shown n path) ++ drop (2 * length (shown n path)) o)
+
+-- on any bytes: it stays within its output, and "output bytes beyond them keep their values"
+pub record Within (r : Reply) (output output-now : List ℕ) : Type 0 where
+  pub long : length output-now ≡ length output
+  pub room : 2 * r .count ≤ length output
+  pub behind : drop (2 * r .count) output-now ≡ drop (2 * r .count) output
+
+-- 4 and 5 on any bytes; then all that an image decides. "On bytes that pass 4 and 5 here but are no image it ends and stays within its output"
+pub record Descent-says (table : List ℕ) (key : ℕ) (r : Reply) (output output-now : List ℕ) : Type 0 where
+  pub turned-down : (first-no (asks-first table key) ≡ 0 → ⊥) → says (first-no (asks-first table key)) 0 0 0 0 r × (output-now ≡ output)
+  pub on-image : is-image table ≡ true →
+      Descent-as (refusal (descent key output) table) key (orders-in table) (descent-path (sizes-in table) (orders-in table) key) r output output-now
+  pub within : Within r output output-now
+
+-- SPAN: 4, 5, 10, 11; key, total, displayed of each order in lo..hi, rising, at the front of the output, and their number
 unfoldable pub Span-as : (number : ℕ) → List Order → Reply → (output output-now : List ℕ) → Type 0
-Span-as zero os r o z = says 0 0 (length os) 0 r × (z ≡ nodes-bytes os ++ drop (12 * length os) o)
-Span-as (suc n) os r o z = says (suc n) 0 0 0 r × (z ≡ o)
+Span-as zero os r o z = says 0 0 0 0 (length os) r × (z ≡ nodes-bytes os ++ drop (12 * length os) o)
+Span-as (suc n) os r o z = says (suc n) 0 0 0 0 r × (z ≡ o)
 
 unfoldable pub Span-says : (table : List ℕ) → (lo hi : ℕ) → Reply → (output output-now : List ℕ) → Type 0
 Span-says x lo hi r o z = Span-as (refusal (span lo hi o) x) (between lo hi (orders-in x)) r o z
@@ -66,11 +94,12 @@ pub record Seek-gives (os : List Order) (lo hi least : ℕ) (r : Reply) : Type 0
   pub held-there : held (r .key) (between lo hi os) ≡ true
   pub own-total : r .total ≡ total-of (r .key) os
   pub own-displayed : r .displayed ≡ displayed-of (r .key) os
+  pub none-counted : r .count ≡ 0
   pub enough : least ≤ reserve (order (r .key) (r .total) (r .displayed))
 
 unfoldable pub Seek-as : (number : ℕ) → List Order → (lo hi least : ℕ) → Reply → Type 0
 Seek-as zero os lo hi l r = Seek-gives os lo hi l r
-Seek-as (suc n) os lo hi l r = says (suc n) 0 0 0 r
+Seek-as (suc n) os lo hi l r = says (suc n) 0 0 0 0 r
 
 unfoldable pub Seek-says : (table : List ℕ) → (lo hi least : ℕ) → Reply → Type 0
 Seek-says x lo hi l r = Seek-as (refusal (seek lo hi l) x) (orders-in x) lo hi l r

@@ -10,12 +10,13 @@ use Rattle.sizes.specs.Sizes.{made}
 use Rattle.sizes.specs.Header.{table-long}
 use Rattle.sizes.specs.declared.Sizes.{Sizes}
 use Rattle.placement.specs.declared.Order.{Order}
-use Rattle.skiplist.specs.Image.{image}
+use Rattle.skiplist.specs.Image.{image, is-image}
 use Rattle.skiplist.specs.Questions.{Parameters, sizes, held, between}
-use Rattle.skiplist.specs.Book.{Call, put, cancel, lookup, span, seek, check, make-refusal, book-refusal, book}
+use Rattle.skiplist.specs.Paths.{descent-path}
+use Rattle.skiplist.specs.Book.{Call, put, cancel, lookup, descent, span, seek, check, make-refusal, book-refusal, book}
 use Rattle.skiplist.specs.Rules.{Rules}
 use Rattle.skiplist.specs.Promise.{byte-list}
-use Rattle.table.specs.Calls.{Make-says, check-number, Put-says, Cancel-says, total-of, displayed-of, Look-says, Look-as, Span-says, Span-as, Seek-says, Seek-as}
+use Rattle.table.specs.Calls.{Make-says, check-number, Put-says, Cancel-says, total-of, displayed-of, Look-says, Look-as, Descent-says, Descent-as, Span-says, Span-as, Seek-says, Seek-as}
 use Rattle.table.specs.declared.Reply.{Reply}
 
 -- WHAT A CALL DOES TO A TABLE, by its contract alone. A reading leaves the table
@@ -23,6 +24,7 @@ unfoldable pub Does : Call → (table table-now : List ℕ) → Type 0
 Does (put k t d) x z = (r : ℕ) × Put-says k t d r x z
 Does (cancel k) x z = (r : ℕ) × Cancel-says k r x z
 Does (lookup k) x z = (r : Reply) × Look-says x k r × (z ≡ x)
+Does (descent k o) x z = (r : Reply) × (now : List ℕ) × Descent-says x k r o now × (z ≡ x)
 Does (span lo hi o) x z = (r : Reply) × (now : List ℕ) × Span-says x lo hi r o now × (z ≡ x)
 Does (seek lo hi l) x z = (r : Reply) × Seek-says x lo hi l r × (z ≡ x)
 Does check x z = (r : ℕ) × (r ≡ check-number x) × (z ≡ x)
@@ -59,6 +61,7 @@ unfoldable pub in-range : Call → Bool
 in-range (put k t d) = word k && (word t && word d)
 in-range (cancel k) = word k
 in-range (lookup k) = word k
+in-range (descent k o) = word k && byte-list o
 in-range (span lo hi o) = word lo && (word hi && byte-list o)
 in-range (seek lo hi l) = word lo && (word hi && word l)
 in-range check = true
@@ -111,7 +114,20 @@ Demand-2-rules = After-any Rules
 
 -- read back, it gives those orders and quantities: by number, by span, by seek
 unfoldable pub Demand-2-lookup : Type 0
-Demand-2-lookup = After-any (λ s os z. (k : ℕ) (r : Reply) → Look-says z k r → Look-as (book-refusal s (lookup k) os) k os r)
+Demand-2-lookup = After-any (λ s os z. (k : ℕ) (r : Reply) → Look-says z k r → Look-as (book-refusal s (lookup k) os) 0 k os r)
+
+-- .. by descent, with its path
+unfoldable pub Demand-2-descent : Type 0
+Demand-2-descent =
+    After-any
+    (λ s os z.
+    (k : ℕ) (r : Reply) (o now : List ℕ) → Descent-says z k r o now → Descent-as (book-refusal s (descent k o) os) k os (descent-path s os k) r o now)
+
+-- "On an image, unless 11 turns it down, its quantities equal those of the plain lookup"
+unfoldable pub Descent-looks-up : Type 0
+Descent-looks-up =
+    (x : List ℕ) (k : ℕ) (r q : Reply) (o now : List ℕ) → is-image x ≡ true → Descent-says x k r o now → (r .number ≡ 11 → ⊥) → Look-says x k q →
+    (r .number ≡ q .number) × (r .key ≡ q .key) × (r .total ≡ q .total) × (r .displayed ≡ q .displayed)
 
 unfoldable pub Demand-2-span : Type 0
 Demand-2-span =

@@ -18,11 +18,12 @@ pub struct Tally {
     pub full: u32,
 }
 
-// The answer of a reading: its number, and an order. A span's number of orders stands in `total`.
+// The answer of a reading: its number, an order, and how many orders a span or blocks a descent wrote.
 #[repr(C)]
 pub struct Reply {
     pub number: u32,
     pub key: u32,
     pub total: u32,
     pub displayed: u32,
+    pub count: u32,
 }

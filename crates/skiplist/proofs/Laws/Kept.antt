@@ -15,7 +15,7 @@ use Rattle.sizes.proofs.Laws.Sizes.{and-parts}
 use Rattle.skiplist.specs.Lists.{chunks}
 use Rattle.skiplist.specs.Image.{into, quantities-good, orders-good, fits}
 use Rattle.skiplist.specs.Questions.{first-no, is-key, held, without, with-order, order, asks-put, asks-key}
-use Rattle.skiplist.specs.Book.{Call, put, cancel, lookup, span, seek, check, asks, changed, book-refusal, booked, book}
+use Rattle.skiplist.specs.Book.{Call, put, cancel, lookup, descent, span, seek, check, asks, changed, book-refusal, booked, book}
 use Rattle.skiplist.proofs.Laws.Questions.{passes}
 use Rattle.skiplist.proofs.Laws.Parts.{Up, up-from, and-left, and-right, or-left, or-right, up-past, Good, good-parts, good-up, without-here, up-out, below}
 use Rattle.skiplist.proofs.Laws.Shapes.{Place, there, absent, place, held-absent}
@@ -135,6 +135,7 @@ unfolding changed
 kept-changed s m (put k t d) os w e = kept-put s k t d os w e
 kept-changed s m (cancel k) os w e = kept-cancel s m k os w e
 kept-changed s m (lookup k) os w e = w
+kept-changed s m (descent k o) os w e = w
 kept-changed s m (span lo hi o) os w e = w
 kept-changed s m (seek lo hi r) os w e = w
 kept-changed s m check os w e = w

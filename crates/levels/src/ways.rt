@@ -1,0 +1,119 @@
+// The way down to a key: from the highest level on through one partition of each, as far as the greatest key not above the one sought, which heads the
+// partition one level down.
+ghost use mathlib.Core.Path.{_≡_};
+ghost use Prim.Native.Nat.{_+_, _*_, _-_, _≤_, _<_};
+ghost use lib.ListN.{length};
+ghost use Rattle.sizes.specs.Geometry.{Reckoned};
+ghost use Rattle.sizes.specs.Header.{block-long};
+ghost use Rattle.placement.specs.Place.{Shaped};
+ghost use Rattle.levels.specs.Ways.{starting, trek, number-in, upto-in, reached-in, trod, along-in, down-in};
+use crate::Trail;
+use crate::spots::chunk;
+use placement::Found;
+use placement::labels::offset;
+use placement::search::count_at;
+use sizes::Geometry;
+use sizes::Sizes;
+use sizes::hash::hash;
+use sizes::numbers::be4;
+use sizes::numbers::put2;
+
+// How many nodes at the front of a chunk are not above a key.
+fn upto(table: &[u8], at: usize, n: u32, y: u32) -> u32
+    requires { ⌜ at + 12 * n ≤ length (now table) ⌝ }
+    ensures { λ r. ⌜ (r ≡ upto-in (now (table .entry)) n at y) × (r ≤ n) ⌝ }
+{
+    let mut i: u32 = 0;
+    while i < n {
+        if y < be4(table, at + 12 * (i as usize)) {
+            return i;
+        }
+        i += 1;
+    }
+    i
+}
+
+// The same of the chunk in a block. No block of a table has more nodes than fit.
+fn reached(table: &[u8], s: Sizes, i: u32, y: u32) -> u32
+    requires { ⌜ Shaped s (now table) × (i < s .blocks) ⌝ }
+    ensures { λ r. ⌜ (r ≡ reached-in s (now (table .entry)) i y) × (r ≤ s .nodes) ⌝ }
+{
+    let n = count_at(table, s, i);
+    if s.nodes < n {
+        return 0;
+    }
+    upto(table, offset(s, i) + 8, n, y)
+}
+
+// The number of a block comes to the path, where it has room.
+fn write_number(path: &mut [u8], count: u32, i: u32)
+    ensures { λ r. ⌜ now (path .exit) ≡ number-in (now (path .entry)) count i ⌝ }
+{
+    let at = 2 * (count as usize);
+    if at + 2 <= path.len() {
+        put2(path, at, i);
+    }
+}
+
+// A block comes on the way; n nodes of its chunk are not above the key.
+fn tread(table: &[u8], s: Sizes, i: u32, n: u32, t: Trail, path: &mut [u8]) -> Trail
+    requires { ⌜ Shaped s (now table) × (i < s .blocks) × (0 < n) × (n ≤ s .nodes) × (t .count < 4294967295) ⌝ }
+    ensures { λ r. ⌜ (trek r (now (path .exit)) ≡ trod s (now (table .entry)) i n (trek t (now (path .entry)))) × (r .count ≡ t .count + 1) × (r .at + 12 ≤ length (now (table .entry))) ⌝ }
+{
+    let at = offset(s, i) + (8 + 12 * ((n - 1) as usize));
+    write_number(path, t.count, i);
+    Trail {
+        count: t.count + 1,
+        first: be4(table, at),
+        at: at,
+    }
+}
+
+// One level: chunk after chunk of the partition that is to be gone through. A chunk that is looked at only to see that its first key is larger is not on
+// the way.
+fn along(table: &[u8], q: Geometry, level: u32, y: u32, t: Trail, path: &mut [u8]) -> Trail
+    requires { ⌜ Shaped (q .sizes) (now table) × Reckoned q × (level ≤ q .top) × (t .count + 65535 ≤ 4294967295) ⌝ }
+    ensures { λ r. ⌜ (trek r (now (path .exit)) ≡ along-in (q .sizes) (now (table .entry)) level y (trek t (now (path .entry)))) × (r .count ≤ t .count + 65535) × (r .at + 12 ≤ length (now (table .entry))) ⌝ }
+{
+    let s = q.sizes;
+    let g = hash(s, 5, t.first);
+    let mut w = Trail {
+        count: t.count,
+        first: t.first,
+        at: 0,
+    };
+    let mut number: u32 = 0;
+    while number < s.blocks {
+        let Found::At(i) = chunk(table, q, g, level, t.first, number) else {
+            return w;
+        };
+        let n = reached(table, s, i, y);
+        if n == 0 {
+            return w;
+        }
+        w = tread(table, s, i, n, w, path);
+        if n < s.nodes {
+            return w;
+        }
+        number += 1;
+    }
+    w
+}
+
+// The levels above l.
+pub fn descend(table: &[u8], q: Geometry, l: u32, y: u32, path: &mut [u8]) -> Trail
+    requires { ⌜ Shaped (q .sizes) (now table) × Reckoned q ⌝ }
+    ensures { λ r. ⌜ (trek r (now (path .exit)) ≡ down-in (q .sizes) (now (table .entry)) l y (q .top - l) (trek starting (now (path .entry)))) × (r .at + 12 ≤ length (now (table .entry))) ⌝ }
+{
+    let mut t = Trail {
+        count: 0,
+        first: 0,
+        at: 0,
+    };
+    let mut level = q.top;
+    while l < level {
+        t = along(table, q, level, y, t, path);
+        level -= 1;
+    }
+    t
+}
