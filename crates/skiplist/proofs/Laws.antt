@@ -21,6 +21,7 @@ pub mod Pieces
 pub mod Rising
 pub mod Sound
 pub mod Image
+pub mod Paths
 pub mod Decode
 pub mod Gather
 pub mod Third

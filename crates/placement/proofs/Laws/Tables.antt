@@ -120,7 +120,7 @@ module _ (s : Sizes) (F : Map) (n : ℕ) (hd bs : List ℕ) (t : Table s F n hd 
       omega (arith, store-count (s .blocks) (t .blocks) (z .at) (holds (labelled w (nodes-of F w))) empty (t .keeps .long) some (z .is), t .keeps .count)
 
   -- a block that is found has the label's chunk
-  found-there : (w : Label) (i : ℕ) → 0 < w .level → search-in s bs w ≡ At i
+  pub found-there : (w : Label) (i : ℕ) → 0 < w .level → search-in s bs w ≡ At i
       → (i < s .blocks) × (around (s .blocks) (t .blocks) i ≡ holds (labelled w (nodes-of F w))) × (nodes-of F w ≢ [])
   found-there w i pos e =
       go (subst (Told s F w (t .blocks))

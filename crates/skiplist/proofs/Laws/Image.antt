@@ -24,7 +24,7 @@ module _ (s : Sizes) (os : List Order) where
   unfolding blocks
   blocks-keep m g f = placed-keeps s (chunks s os) (some-blocks s m) (chunks-rising s os g) (fits-parts s os f .room) (chunks-full s os m)
 
-  pub image-keeps : made s ≡ true → orders-good 1 os ≡ true → fits s os ≡ true → Table s (map-of (chunks s os)) (length (chunks s os)) (header s (length os)) (image s os)
+  unfoldable pub image-keeps : made s ≡ true → orders-good 1 os ≡ true → fits s os ≡ true → Table s (map-of (chunks s os)) (length (chunks s os)) (header s (length os)) (image s os)
   unfolding image
   image-keeps m g f = record {
     good = m;

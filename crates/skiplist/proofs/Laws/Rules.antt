@@ -3,7 +3,7 @@ use mathlib.Core.Path.{_≡_, refl, sym, ap, _∙_, subst}
 use mathlib.Core.Bool.{true, true≢false}
 use mathlib.Core.List.{List, [], _∷_, _++_}
 use mathlib.Core.Logic.{_⊎_, inl, inr}
-use Prim.Native.Nat.{ℕ, zero, suc, _+_, _%_, _≤_, _<_}
+use Prim.Native.Nat.{ℕ, zero, _+_, _%_, _≤_, _<_}
 use native.Mathlib.Nat.{mod-lt, mod-eq-of-lt}
 use native.Mathlib.Decide.{decLt}
 use native.Mathlib.Omega.{arith}
@@ -29,14 +29,10 @@ use Rattle.skiplist.specs.Rules.{Rules, Image-exactly}
 use Rattle.skiplist.specs.Promise.{Image-reads-back}
 use Rattle.skiplist.proofs.Laws.Kept.{fits-parts, fits-make}
 use Rattle.skiplist.proofs.Laws.Rising.{chunks-rising}
+use Rattle.skiplist.proofs.Laws.Paths.{inside}
 use Rattle.skiplist.proofs.Laws.Third.{image-parts}
 use Rattle.skiplist.proofs.Laws.Readback.{reads-back}
 use Rattle.skiplist.proofs.Laws.Arranged.{blocks-placing}
-
-inside : (bs : List (Block Chunk)) (j : ℕ) (c : Chunk) → getD bs j empty ≡ holds c → j < length bs
-inside [] j c e = absurd (true≢false cc)
-inside (b ∷ bs) zero c e = omega arith
-inside (b ∷ bs) (suc j) c e = omega (arith, inside bs j c e)
 
 -- chunks by rising labels that all stand are no more than the full blocks
 pub fewer : (m : ℕ) → zero < m → (cs : List Chunk) (bs : List (Block Chunk)) → length bs ≡ m → Rising chunk-before cs → ((c : Chunk) → Among c cs → Stands m bs c) → length cs ≤ how-many bs
