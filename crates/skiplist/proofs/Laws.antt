@@ -27,6 +27,7 @@ pub mod Gather
 pub mod Third
 pub mod Readback
 pub mod Arranged
+pub mod PathsKept
 pub mod Rules
 pub mod Questions
 pub mod Examples

@@ -2,6 +2,7 @@
 use Rattle.skiplist.specs.Questions.{First-no-means}
 use Rattle.skiplist.specs.Rules.{Image-exactly, Paper-partitions, Paper-top, Beta-is, Level-is, Hash-is, Lists-are, Chunks-are}
 use Rattle.skiplist.specs.Promise.{Image-reads-back, Labels-rise, Rule-three, One-arrangement, Lists-image, Equal-exactly, Checks-exactly}
+use Rattle.skiplist.specs.Paths.{Path-fits, Path-one-way}
 use Rattle.skiplist.specs.Examples.{One-to-nine, Examples-hold}
 use Rattle.skiplist.proofs.Laws.Questions.{first-no-means}
 use Rattle.skiplist.proofs.Laws.Examples.{examples-hold}
@@ -13,6 +14,7 @@ use Rattle.skiplist.proofs.Laws.Rise.{labels-do-rise}
 use Rattle.skiplist.proofs.Laws.Readback.{reads-back, lists-image-holds}
 use Rattle.skiplist.proofs.Laws.Third.{equal-exactly, checks-exactly}
 use Rattle.skiplist.proofs.Laws.Arranged.{rule-three, one-arrangement}
+use Rattle.skiplist.proofs.Laws.PathsKept.{path-fits, path-one-way}
 use Rattle.skiplist.proofs.Laws.Rules.{image-exactly}
 
 pub record Proved : Type 0 where
@@ -32,6 +34,9 @@ pub record Proved : Type 0 where
   pub partitions : Paper-partitions
   pub top : Paper-top
   pub pieces : Chunks-are
+  -- the way down to a key: no more blocks than the table has, and one partition of each level
+  pub paths-fit : Path-fits
+  pub one-way : Path-one-way
   -- DEMAND 3 over the definitions alone
   pub book : Lists-image
   pub equal : Equal-exactly
@@ -55,6 +60,8 @@ proved = record {
   partitions = paper-partitions;
   top = paper-top;
   pieces = chunks-are;
+  paths-fit = path-fits;
+  one-way = path-one-way;
   book = lists-image-holds;
   equal = equal-exactly reads-back;
   checks = checks-exactly reads-back;

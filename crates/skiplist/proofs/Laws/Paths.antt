@@ -47,6 +47,12 @@ cut-at y os u = go (place (suc y) 1 os u)
         cut xs (o ∷ zs) q (rw h at (below-here xs o zs 1 v)) (omega arith, up-behind xs o zs 1 v)
     go (absent xs zs q f g) = cut xs zs q f (up-from zs (omega arith) g)
 
+pub by-cut : (P : List Order → Type 0) (y : ℕ) (os : List Order) → Up 1 os → ((xs zs : List Order) → Up 1 (xs ++ zs) → below (suc y) xs ≡ true → Up (suc y) zs → P (xs ++ zs)) → P os
+by-cut P y os u h = go (cut-at y os u)
+  where
+    go : Cut y os → P os
+    go (cut xs zs q f g) = subst P (sym q) (h xs zs (subst (Up 1) q u) f g)
+
 pub between-cut : (y : ℕ) (xs zs : List Order) → below (suc y) xs ≡ true → Up (suc y) zs → between 0 y (xs ++ zs) ≡ xs
 unfolding between below
 between-cut y [] [] e u = refl
@@ -97,19 +103,19 @@ inside [] j c e = absurd (true≢false cc)
 inside (b ∷ bl) zero c e = omega arith
 inside (b ∷ bl) (suc j) c e = omega (arith, inside bl j c e)
 
-module _ (s : Sizes) (F : Map) (n : ℕ) (hd bs : List ℕ) (t : Table s F n hd bs) (w : Label) where
+module _ (s : Sizes) (F : Map) (n : ℕ) (hd bs : List ℕ) (t : Table s F n hd bs) where
   -- by rule 3 no other block has the label
-  pub stands-there : (i : ℕ) → around (s .blocks) (t .blocks) i ≡ holds (labelled w (nodes-of F w)) → stands-in (t .blocks) w ≡ i % s .blocks
+  pub stands-there : (c : Chunk) (i : ℕ) → around (s .blocks) (t .blocks) i ≡ holds c → stands-in (t .blocks) (c .label) ≡ i % s .blocks
   unfolding around
-  stands-there i e = stands-at (t .blocks) w (i % s .blocks) (labelled w (nodes-of F w)) e refl (λ j d g q. only j d q g (omega (arith, inside (t .blocks) j d g, t .keeps .long)))
+  stands-there c i e = stands-at (t .blocks) (c .label) (i % s .blocks) c e refl (λ j d g q. only j d q g (omega (arith, inside (t .blocks) j d g, t .keeps .long)))
     where
-      only : (j : ℕ) (d : Chunk) → d .label ≡ w → getD (t .blocks) j empty ≡ holds d → j < s .blocks → j ≡ i % s .blocks
+      only : (j : ℕ) (d : Chunk) → d .label ≡ c .label → getD (t .blocks) j empty ≡ holds d → j < s .blocks → j ≡ i % s .blocks
       only j d q g l =
           sym (mod-eq-of-lt l)
-          ∙ one-place (lawful s (some-blocks s (t .good))) (t .blocks) (t .keeps .rule-3) (labelled w (nodes-of F w)) d i j e (around-inside (s .blocks) (t .blocks) j l ∙ g) (sym q)
+          ∙ one-place (lawful s (some-blocks s (t .good))) (t .blocks) (t .keeps .rule-3) c d i j e (around-inside (s .blocks) (t .blocks) j l ∙ g) (sym q)
 
-  pub found-stands : (i : ℕ) → 0 < w .level → search-in s bs w ≡ At i → stands-in (t .blocks) w ≡ i
-  found-stands i pos e = let f = found-there s F n hd bs t w i pos e in stands-there i (f .1) ∙ mod-eq-of-lt (f .0)
+  pub found-stands : (w : Label) (i : ℕ) → 0 < w .level → search-in s bs w ≡ At i → stands-in (t .blocks) w ≡ i
+  found-stands w i pos e = let f = found-there s F n hd bs t w i pos e in stands-there (labelled w (nodes-of F w)) i (f .1) ∙ mod-eq-of-lt (f .0)
 
 -- of an image
 pub image-stands : (s : Sizes) (os : List Order) (w : Label) (i : ℕ) → made s ≡ true → orders-good 1 os ≡ true → fits s os ≡ true → 0 < w .level →
