@@ -19,6 +19,7 @@ pub mod Decides
 pub mod Makes
 pub mod Runs
 pub mod Alike
+pub mod Descents
 pub mod Meeting
 pub mod Reached
 pub mod Demands

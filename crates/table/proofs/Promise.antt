@@ -1,20 +1,23 @@
 -- All that is promised of images, of single calls and of whole lists of calls, proved. That the program keeps the contracts which these statements cite is proved with its functions.
 use Rattle.skiplist.proofs.Promise.{Proved, proved}
-use Rattle.table.specs.Promise.{Demand-3, Demand-3-check, Runs-exist, Runs-fixed, Make-reaches, Make-only, Demand-2-rules, Demand-2-lookup, Demand-2-span, Demand-2-seek, Demand-1-edits}
+use Rattle.table.specs.Promise.{Demand-3, Demand-3-check, Runs-exist, Runs-fixed, Make-reaches, Make-only, Demand-2-rules, Demand-2-lookup, Demand-2-descent, Descent-looks-up, Demand-2-span, Demand-2-seek, Demand-1-edits}
 use Rattle.table.proofs.Laws.Makes.{make-only, make-reaches}
 use Rattle.table.proofs.Laws.Runs.{runs-fixed}
+use Rattle.table.proofs.Laws.Descents.{descent-looks-up}
 use Rattle.table.proofs.Laws.Meeting.{runs-exist}
 use Rattle.table.proofs.Laws.Reached.{demand-3-check}
-use Rattle.table.proofs.Laws.Demands.{demand-3, demand-2-rules, demand-2-lookup, demand-2-span, demand-2-seek, demand-1-edits}
+use Rattle.table.proofs.Laws.Demands.{demand-3, demand-2-rules, demand-2-lookup, demand-2-descent, demand-2-span, demand-2-seek, demand-1-edits}
 
 pub record Kept-promise : Type 0 where
   -- images, their rules and the definitions: all that the crate below promises
   pub images : Proved
   -- DEMAND 1: after any list, a put or cancel answers what the plain book answers
   pub edits : Demand-1-edits
-  -- DEMAND 2: after any list, the published rules, and the orders read back by number, by span, by seek
+  -- DEMAND 2: after any list, the published rules, and the orders read back by number, by descent, by span, by seek; a descent's quantities are a lookup's
   pub rules : Demand-2-rules
   pub lookups : Demand-2-lookup
+  pub descents : Demand-2-descent
+  pub looks-up : Descent-looks-up
   pub spans : Demand-2-span
   pub seeks : Demand-2-seek
   -- DEMAND 3: equal bytes exactly where the plain books are equal, and the check accepts exactly such bytes
@@ -32,6 +35,8 @@ kept-promise = record {
   edits = demand-1-edits;
   rules = demand-2-rules;
   lookups = demand-2-lookup;
+  descents = demand-2-descent;
+  looks-up = descent-looks-up;
   spans = demand-2-span;
   seeks = demand-2-seek;
   equal-bytes = demand-3;

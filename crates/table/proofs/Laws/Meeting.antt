@@ -10,14 +10,15 @@ use lib.ListN.{length}
 use Rattle.placement.specs.declared.Order.{Order}
 use Rattle.skiplist.specs.Image.{is-image, orders-in}
 use Rattle.skiplist.specs.Questions.{first-no, asks-image, asks-range, asks-seek, is-key, held, between, reserve, any-reserve}
-use Rattle.skiplist.specs.Book.{Call, put, cancel, lookup, span, seek, check, asks, refusal, done}
+use Rattle.skiplist.specs.Book.{Call, put, cancel, lookup, descent, span, seek, check, asks, refusal, done}
 use Rattle.skiplist.proofs.Laws.Questions.{passes}
 use Rattle.skiplist.proofs.Laws.Parts.{Up, good-up}
 use Rattle.skiplist.proofs.Laws.Third.{image-parts}
-use Rattle.table.specs.Calls.{says, Edit-says, Put-says, Cancel-says, check-number, total-of, displayed-of, Look-says, Look-as, Span-says, Span-as, Seek-gives, Seek-says, Seek-as}
+use Rattle.table.specs.Calls.{says, Edit-says, Put-says, Cancel-says, check-number, Look-says, Span-says, Span-as, Seek-gives, Seek-says, Seek-as}
 use Rattle.table.specs.Promise.{Does, Runs, Runs-exist}
 use Rattle.table.specs.declared.Reply.{Reply}
 use Rattle.table.proofs.Laws.Alike.{here, there}
+use Rattle.table.proofs.Laws.Descents.{look-some, descent-some}
 
 -- an order that a seek may give, with a key from a on
 record Found (a : ℕ) (os : List Order) (lo hi l : ℕ) : Type 0 where
@@ -46,6 +47,7 @@ found a (o ∷ os) lo hi l u e = go (leb lo (o .key) && leb (o .key) hi) refl e 
             held-there = held-more (w .reply .key) o (between lo hi os) (leb lo (o .key) && leb (o .key) hi) (v .held-there);
             own-total = v .own-total ∙ sym (t .1);
             own-displayed = v .own-displayed ∙ sym (t .2);
+            none-counted = v .none-counted;
             enough = v .enough;
           };
           above = omega (arith, u .0, w .above);
@@ -54,12 +56,13 @@ found a (o ∷ os) lo hi l u e = go (leb lo (o .key) && leb (o .key) hi) refl e 
     first : (v : Bool) → leb l (reserve o) ≡ v → (leb lo (o .key) && leb (o .key) hi) ≡ true → (v || any-reserve l (between lo hi os)) ≡ true →
         (any-reserve l (between lo hi os) ≡ true → Found (suc (o .key)) os lo hi l) → Found a (o ∷ os) lo hi l
     first true q f e ih = record {
-      reply = record { number = 0; key = o .key; total = o .total; displayed = o .displayed };
+      reply = record { number = 0; key = o .key; total = o .total; displayed = o .displayed; count = 0 };
       sought = record {
         number = refl;
         held-there = rw f (here o (between lo hi os) .0);
         own-total = sym (here o os .1);
         own-displayed = sym (here o os .2);
+        none-counted = refl;
         enough = leb-true l (reserve o) q;
       };
       above = u .0;
@@ -80,23 +83,19 @@ seek-some x lo hi l zero e =
     let v = passes 11 (any-reserve l (between lo hi (orders-in x))) _ (passes 9 (leb lo hi) _ (k .1) .1) in
     let w = found 1 (orders-in x) lo hi l (good-up 1 (orders-in x) (image-parts x (i .0) .orders-kept .good)) (v .0) in
     (w .reply, w .sought)
-seek-some x lo hi l (suc n) e = (record { number = suc n; key = 0; total = 0; displayed = 0 }, (refl, refl, refl, refl))
-
-look-some : (n k : ℕ) (os : List Order) → (r : Reply) × Look-as n k os r
-unfolding Look-as says
-look-some zero k os = (record { number = 0; key = k; total = total-of k os; displayed = displayed-of k os }, (refl, refl, refl, refl))
-look-some (suc n) k os = (record { number = suc n; key = 0; total = 0; displayed = 0 }, (refl, refl, refl, refl))
+seek-some x lo hi l (suc n) e = (record { number = suc n; key = 0; total = 0; displayed = 0; count = 0 }, (refl, refl, refl, refl, refl))
 
 span-some : (n : ℕ) (os : List Order) (o : List ℕ) → (r : Reply) × (z : List ℕ) × Span-as n os r o z
 unfolding Span-as says
-span-some zero os o = (record { number = 0; key = 0; total = length os; displayed = 0 }, _, ((refl, refl, refl, refl), refl))
-span-some (suc n) os o = (record { number = suc n; key = 0; total = 0; displayed = 0 }, o, ((refl, refl, refl, refl), refl))
+span-some zero os o = (record { number = 0; key = 0; total = 0; displayed = 0; count = length os }, _, ((refl, refl, refl, refl, refl), refl))
+span-some (suc n) os o = (record { number = suc n; key = 0; total = 0; displayed = 0; count = 0 }, o, ((refl, refl, refl, refl, refl), refl))
 
 does-some : (c : Call) (x : List ℕ) → (z : List ℕ) × Does c x z
 unfolding Does Put-says Cancel-says Edit-says Look-says Span-says Seek-says
 does-some (put k t d) x = (done (put k t d) x, (refusal (put k t d) x, (refl, refl)))
 does-some (cancel k) x = (done (cancel k) x, (refusal (cancel k) x, (refl, refl)))
-does-some (lookup k) x = let w = look-some (refusal (lookup k) x) k (orders-in x) in (x, (w .0, w .1, refl))
+does-some (lookup k) x = let w = look-some (refusal (lookup k) x) 0 k (orders-in x) in (x, (w .0, w .1, refl))
+does-some (descent k o) x = let w = descent-some x k o in (x, (w .0, w .1, w .2, refl))
 does-some (span lo hi o) x = let w = span-some (refusal (span lo hi o) x) (between lo hi (orders-in x)) o in (x, (w .0, w .1, w .2, refl))
 does-some (seek lo hi l) x = let w = seek-some x lo hi l (refusal (seek lo hi l) x) refl in (x, (w .0, w .1, refl))
 does-some check x = (x, (check-number x, refl, refl))

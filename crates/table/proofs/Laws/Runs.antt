@@ -10,7 +10,7 @@ use Rattle.placement.specs.declared.Order.{Order}
 use Rattle.sizes.proofs.Laws.Sizes.{limits}
 use Rattle.skiplist.specs.Image.{image, is-image, orders-in}
 use Rattle.skiplist.specs.Questions.{sizes}
-use Rattle.skiplist.specs.Book.{Call, put, cancel, lookup, span, seek, check, changed, book, done, after}
+use Rattle.skiplist.specs.Book.{Call, put, cancel, lookup, descent, span, seek, check, changed, book, done, after}
 use Rattle.skiplist.specs.Promise.{Image-reads-back, Lists-image}
 use Rattle.skiplist.proofs.Laws.Kept.{Kept, kept-none, kept-book}
 use Rattle.skiplist.proofs.Laws.Third.{done-same}
@@ -25,6 +25,7 @@ unfolding Does Put-says Cancel-says Edit-says changed
 does-done (put k t d) x z h = h .1 .1
 does-done (cancel k) x z h = h .1 .1
 does-done (lookup k) x z h = h .2 ∙ sym (done-same (lookup k) x refl)
+does-done (descent k o) x z h = h .3 ∙ sym (done-same (descent k o) x refl)
 does-done (span lo hi o) x z h = h .3 ∙ sym (done-same (span lo hi o) x refl)
 does-done (seek lo hi l) x z h = h .2 ∙ sym (done-same (seek lo hi l) x refl)
 does-done check x z h = h .2 ∙ sym (done-same check x refl)

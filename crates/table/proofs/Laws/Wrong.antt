@@ -21,15 +21,17 @@ use Rattle.sizes.proofs.Laws.Sizes.{and-parts, limits}
 use Rattle.skiplist.specs.Lists.{front, at-least, list-at, starts-one, run, rest, partitions, first-key, masked, chunks-of, all-chunks, chunks-from, chunks, blocks}
 use Rattle.skiplist.specs.Image.{image, into, all-into, gathered, orders-in, quantities-good, orders-good, fits, same, is-image}
 use Rattle.skiplist.specs.Questions.{Question, ask, first-no, is-key, held, without, with-order, order, between, reserve, any-reserve, asks-image, asks-put, asks-key, asks-range, asks-span, asks-seek}
-use Rattle.skiplist.specs.Book.{Call, put, cancel, lookup, span, seek, check, asks, changed, book-refusal, refusal, done}
+use Rattle.skiplist.specs.Paths.{asks-descent}
+use Rattle.skiplist.specs.Book.{Call, put, cancel, lookup, descent, span, seek, check, asks, changed, book-refusal, refusal, done}
 use Rattle.skiplist.specs.Examples.{run-seed, run-sizes, empty-table, put-3, put-6}
 use Rattle.skiplist.proofs.Laws.Questions.{passes}
 use Rattle.skiplist.proofs.Laws.Parts.{or-left, or-right, good-up}
 use Rattle.skiplist.proofs.Laws.Kept.{held-without, kept-none, kept-changed}
 use Rattle.skiplist.proofs.Laws.Third.{image-parts, taken}
-use Rattle.table.specs.Calls.{says, Edit-says, Put-says, Cancel-says, check-number, Look-says, Look-as, Span-says, Span-as, Seek-says, Seek-as}
+use Rattle.table.specs.Calls.{says, Edit-says, Put-says, Cancel-says, check-number, Look-says, Span-says, Span-as, Seek-says, Seek-as}
 use Rattle.table.specs.declared.Reply.{Reply}
 use Rattle.table.proofs.Laws.Runs.{Holds, holds-image}
+use Rattle.table.proofs.Laws.Descents.{look-number}
 use Rattle.table.proofs.Laws.Alike.{Tells, here, there, none-held}
 
 -- ---- THE CLAUSE ON THE TABLE. A put or cancel that returns 0 leaves the orders as it changes them
@@ -86,11 +88,6 @@ always-empty k t d x s m w =
     false≢true (sym (none-held k) ∙ ap (held k) (sym e) ∙ put-tells k t d x (image s []) w .0)
 
 -- ---- THE CLAUSES ON THE ANSWER
-look-number : (n k : ℕ) (os : List Order) (r : Reply) → Look-as n k os r → r .number ≡ n
-unfolding Look-as says
-look-number zero k os r w = w .0
-look-number (suc n) k os r w = w .0
-
 span-number : (n : ℕ) (os : List Order) (r : Reply) (o z : List ℕ) → Span-as n os r o z → r .number ≡ n
 unfolding Span-as says
 span-number zero os r o z w = w .0 .0
@@ -102,12 +99,12 @@ seek-number zero os lo hi l r w = w .number
 seek-number (suc n) os lo hi l r w = w .0
 
 -- a span whose count is invented: it is the number of orders in lo..hi
-counted : (n : ℕ) (os : List Order) (r : Reply) (o z : List ℕ) → Span-as n os r o z → r .number ≡ 0 → r .total ≡ length os
+counted : (n : ℕ) (os : List Order) (r : Reply) (o z : List ℕ) → Span-as n os r o z → r .number ≡ 0 → r .count ≡ length os
 unfolding Span-as says
-counted zero os r o z w e = w .0 .2
+counted zero os r o z w e = w .0 .4
 counted (suc n) os r o z w e = absurd (omega (arith, w .0 .0))
 
-pub span-counts : (x : List ℕ) (lo hi : ℕ) (r : Reply) (o z : List ℕ) → Span-says x lo hi r o z → r .number ≡ 0 → r .total ≡ length (between lo hi (orders-in x))
+pub span-counts : (x : List ℕ) (lo hi : ℕ) (r : Reply) (o z : List ℕ) → Span-says x lo hi r o z → r .number ≡ 0 → r .count ≡ length (between lo hi (orders-in x))
 unfolding Span-says
 span-counts x lo hi r o z w e = counted _ (between lo hi (orders-in x)) r o z w e
 
@@ -141,10 +138,11 @@ blind-12 x lo hi l r w e = own-question 12 (asks-image x ++ asks-range lo hi) []
 
 -- a call that gives 4 to all: 4 is given only of bytes that are no image
 no-other-4 : (s : Sizes) (c : Call) (os : List Order) → apart 4 (asks s c os) ≡ true
-unfolding asks asks-put asks-key asks-range asks-span asks-seek apart
+unfolding asks asks-put asks-key asks-descent asks-range asks-span asks-seek apart
 no-other-4 s (put k t d) os = refl
 no-other-4 s (cancel k) os = refl
 no-other-4 s (lookup k) os = refl
+no-other-4 s (descent k o) os = refl
 no-other-4 s (span lo hi o) os = refl
 no-other-4 s (seek lo hi l) os = refl
 no-other-4 s check os = refl
@@ -163,7 +161,7 @@ cancel-4 k x z w = blind-4 (cancel k) x (sym (w .0))
 
 pub look-4 : (x : List ℕ) (k : ℕ) (r : Reply) → Look-says x k r → r .number ≡ 4 → is-image x ≡ false
 unfolding Look-says
-look-4 x k r w e = blind-4 (lookup k) x (sym (look-number _ k (orders-in x) r w) ∙ e)
+look-4 x k r w e = blind-4 (lookup k) x (sym (look-number _ 0 k (orders-in x) r w) ∙ e)
 
 pub span-4 : (x : List ℕ) (lo hi : ℕ) (r : Reply) (o z : List ℕ) → Span-says x lo hi r o z → r .number ≡ 4 → is-image x ≡ false
 unfolding Span-says
@@ -222,7 +220,7 @@ unfolding Put-says Edit-says put-3 empty-table
 written-empty r w = always-empty 3 100 20 with-6 run-sizes (computed .allowed) (sym (computed .three), w .1)
 
 -- a span whose count is invented
-pub span-two : (r : Reply) (z : List ℕ) → Span-says with-both 1 9 r (replicate 24 7) z → r .total ≡ 2
+pub span-two : (r : Reply) (z : List ℕ) → Span-says with-both 1 9 r (replicate 24 7) z → r .count ≡ 2
 unfolding Span-says
 span-two r z w = span-counts with-both 1 9 r (replicate 24 7) z w (span-number _ (between 1 9 (orders-in with-both)) r (replicate 24 7) z w ∙ computed .spans) ∙ computed .finds
 
