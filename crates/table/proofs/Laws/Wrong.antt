@@ -1,37 +1,37 @@
--- The wrong programs of document 01, "Contracts", and the clause that excludes each: on every table, and then on tables of the run.
-use mathlib.Core.Path.{_≡_, refl, sym, ap, _∙_}
+-- The wrong programs of document 01, "Contracts", with those of a descent, and the clause that excludes each: on every table, and then on tables of the run.
+use mathlib.Core.Path.{_≡_, refl, sym, ap, _∙_, subst}
 use mathlib.Core.Bool.{Bool, true, false, _&&_, cond, not, false≢true}
 use mathlib.Core.List.{List, [], _∷_, _++_}
-use Prim.Native.Nat.{ℕ, zero, suc}
+use Prim.Native.Nat.{ℕ, zero, suc, _*_, _≤_}
 use native.Mathlib.Omega.{arith}
-use borrow.Author.Tests.{eqb-false, eq-eqb}
-use lib.Dec.{ltb, eqb}
-use lib.ListN.{length, take, replicate}
+use borrow.Author.Tests.{leb-true, eqb-false, eq-eqb}
+use lib.Dec.{ltb, leb, eqb}
+use lib.ListN.{length, take, drop, replicate}
 use Rattle.sizes.specs.Numbers.{big, value-from, field, rows, rows-in}
 use Rattle.sizes.specs.Sizes.{least-power, beta, sizes-good, seed-good, made}
 use Rattle.sizes.specs.Hash.{hash-from, h, g, divides-from, level}
 use Rattle.sizes.specs.Header.{block-long, table-long, header, sizes-in, held-in, rule-1}
 use Rattle.placement.specs.Blocks.{around, stored, place-from, placed}
-use Rattle.placement.specs.Labels.{home}
+use Rattle.placement.specs.Labels.{same-label, home}
 use Rattle.placement.specs.Chunks.{node-bytes, block-bytes}
 use Rattle.placement.specs.Decode.{node-in, head-label, chunk-of, block-of, blocks-in}
 use Rattle.sizes.specs.declared.Sizes.{Sizes}
 use Rattle.placement.specs.declared.Order.{Order}
 use Rattle.sizes.proofs.Laws.Sizes.{and-parts, limits}
-use Rattle.skiplist.specs.Lists.{front, at-least, list-at, starts-one, run, rest, partitions, first-key, masked, chunks-of, all-chunks, chunks-from, chunks, blocks}
+use Rattle.skiplist.specs.Lists.{front, at-least, list-at, starts-one, run, rest, partitions, first-key, pick, part, last-from, masked, chunks-of, pieces, all-chunks, chunks-from, chunks, blocks}
 use Rattle.skiplist.specs.Image.{image, into, all-into, gathered, orders-in, quantities-good, orders-good, fits, same, is-image}
 use Rattle.skiplist.specs.Questions.{Question, ask, first-no, is-key, held, without, with-order, order, between, reserve, any-reserve, asks-image, asks-put, asks-key, asks-range, asks-span, asks-seek}
-use Rattle.skiplist.specs.Paths.{asks-descent}
+use Rattle.skiplist.specs.Paths.{greatest, nodes-upto, labels-from, path-labels, stands-in, descent-path, path-bytes, asks-descent}
 use Rattle.skiplist.specs.Book.{Call, put, cancel, lookup, descent, span, seek, check, asks, changed, book-refusal, refusal, done}
 use Rattle.skiplist.specs.Examples.{run-seed, run-sizes, empty-table, put-3, put-6}
 use Rattle.skiplist.proofs.Laws.Questions.{passes}
 use Rattle.skiplist.proofs.Laws.Parts.{or-left, or-right, good-up}
 use Rattle.skiplist.proofs.Laws.Kept.{held-without, kept-none, kept-changed}
 use Rattle.skiplist.proofs.Laws.Third.{image-parts, taken}
-use Rattle.table.specs.Calls.{says, Edit-says, Put-says, Cancel-says, check-number, Look-says, Span-says, Span-as, Seek-says, Seek-as}
+use Rattle.table.specs.Calls.{says, Edit-says, Put-says, Cancel-says, check-number, Look-says, shown, Descent-as, Descent-says, Span-says, Span-as, Seek-says, Seek-as}
 use Rattle.table.specs.declared.Reply.{Reply}
 use Rattle.table.proofs.Laws.Runs.{Holds, holds-image}
-use Rattle.table.proofs.Laws.Descents.{look-number}
+use Rattle.table.proofs.Laws.Descents.{look-number, look-count}
 use Rattle.table.proofs.Laws.Alike.{Tells, here, there, none-held}
 
 -- ---- THE CLAUSE ON THE TABLE. A put or cancel that returns 0 leaves the orders as it changes them
@@ -108,6 +108,32 @@ pub span-counts : (x : List ℕ) (lo hi : ℕ) (r : Reply) (o z : List ℕ) → 
 unfolding Span-says
 span-counts x lo hi r o z w e = counted _ (between lo hi (orders-in x)) r o z w e
 
+-- a descent that keeps its path back with 9, or invents one
+pub nine-shows : (x : List ℕ) (k : ℕ) (r : Reply) (o z : List ℕ) → is-image x ≡ true → Descent-says x k r o z → r .number ≡ 9 →
+    (r .count ≡ length (descent-path (sizes-in x) (orders-in x) k))
+    × (z ≡ path-bytes (descent-path (sizes-in x) (orders-in x) k) ++ drop (2 * length (descent-path (sizes-in x) (orders-in x) k)) o)
+unfolding Descent-as shown
+nine-shows x k r o z i w e =
+    let path = descent-path (sizes-in x) (orders-in x) k in
+    let v = w .on-image i in
+    let n = sym (look-number _ _ k (orders-in x) r (v .0)) ∙ e in
+    let u = subst (λ (j : ℕ). Descent-as j k (orders-in x) path r o z) n v in
+    (look-count 9 (length path) k (orders-in x) r (u .0), u .1)
+
+-- one that gives 9 where the path has no room: 11 comes before
+pub early-9 : (x : List ℕ) (k : ℕ) (r : Reply) (o z : List ℕ) → is-image x ≡ true → Descent-says x k r o z → r .number ≡ 9 →
+    2 * length (descent-path (sizes-in x) (orders-in x) k) ≤ length o
+unfolding Descent-as refusal asks asks-image asks-descent first-no
+early-9 x k r o z i w e =
+    let path = descent-path (sizes-in x) (orders-in x) k in
+    leb-true (2 * length path) (length o)
+    (go (is-key k) (leb (2 * length path) (length o)) (held k (orders-in x)) (rw i at (sym (look-number _ _ k (orders-in x) r (w .on-image i .0)) ∙ e)))
+  where
+    go : (a b c : Bool) → _≡_ {A = ℕ} (cond a (cond b (cond c 0 9) 11) 5) 9 → b ≡ true
+    go a true c n = refl
+    go true false c n = absurd (omega arith)
+    go false false c n = absurd (omega arith)
+
 -- A NUMBER IS GIVEN FOR ITS OWN QUESTION, where no other question has it
 unfoldable apart : (n : ℕ) → List Question → Bool
 apart n [] = not (eqb n 0)
@@ -163,6 +189,14 @@ pub look-4 : (x : List ℕ) (k : ℕ) (r : Reply) → Look-says x k r → r .num
 unfolding Look-says
 look-4 x k r w e = blind-4 (lookup k) x (sym (look-number _ 0 k (orders-in x) r w) ∙ e)
 
+pub descent-4 : (x : List ℕ) (k : ℕ) (r : Reply) (o z : List ℕ) → Descent-says x k r o z → r .number ≡ 4 → is-image x ≡ false
+unfolding Descent-as
+descent-4 x k r o z w e = go (is-image x) refl
+  where
+    go : (t : Bool) → is-image x ≡ t → is-image x ≡ false
+    go true i = blind-4 (descent k o) x (sym (look-number _ _ k (orders-in x) r (w .on-image i .0)) ∙ e)
+    go false i = i
+
 pub span-4 : (x : List ℕ) (lo hi : ℕ) (r : Reply) (o z : List ℕ) → Span-says x lo hi r o z → r .number ≡ 4 → is-image x ≡ false
 unfolding Span-says
 span-4 x lo hi r o z w e = blind-4 (span lo hi o) x (sym (span-number _ (between lo hi (orders-in x)) r o z w) ∙ e)
@@ -191,10 +225,13 @@ record Computed : Type 0 where
   spans : refusal (span 1 9 (replicate 24 7)) with-both ≡ 0
   finds : length (between 1 9 (orders-in with-both)) ≡ 2
   seeks : refusal (seek 1 9 80) with-both ≡ 0
+  both : is-image with-both ≡ true
+  lacks : refusal (descent 4 (replicate 6 7)) with-both ≡ 9
+  goes : descent-path (sizes-in with-both) (orders-in with-both) 4 ≡ 3 ∷ 1 ∷ 0 ∷ []
 
 computed : Computed
-unfolding big value-from field rows rows-in least-power beta sizes-good seed-good made hash-from h g divides-from level block-long table-long header sizes-in held-in rule-1 around stored place-from placed home node-bytes block-bytes node-in head-label chunk-of block-of blocks-in front at-least list-at starts-one run rest partitions first-key masked chunks-of all-chunks chunks-from chunks blocks image into all-into gathered orders-in quantities-good orders-good fits same is-image first-no is-key held without with-order between reserve any-reserve asks-image asks-put asks-key asks-range asks-span asks-seek asks changed refusal done run-seed run-sizes empty-table put-3 put-6 with-6 with-both
-computed = record { six = refl; three = refl; not-yet = refl; cancels = refl; allowed = refl; spans = refl; finds = refl; seeks = refl }
+unfolding big value-from field rows rows-in least-power beta sizes-good seed-good made hash-from h g divides-from level block-long table-long header sizes-in held-in rule-1 around stored place-from placed home node-bytes block-bytes node-in head-label chunk-of block-of blocks-in front at-least list-at starts-one run rest partitions first-key masked chunks-of all-chunks chunks-from chunks blocks image into all-into gathered orders-in quantities-good orders-good fits same is-image pick part last-from pieces greatest nodes-upto labels-from path-labels same-label stands-in descent-path first-no is-key held without with-order between reserve any-reserve asks-image asks-put asks-key asks-descent asks-range asks-span asks-seek asks changed refusal done run-seed run-sizes empty-table put-3 put-6 with-6 with-both
+computed = record { six = refl; three = refl; not-yet = refl; cancels = refl; allowed = refl; spans = refl; finds = refl; seeks = refl; both = refl; lacks = refl; goes = refl }
 
 -- a put that edits properly once and later only returns 0, or returns whatever it likes
 pub once-right : Put-says 6 50 50 0 empty-table with-6
@@ -223,6 +260,16 @@ written-empty r w = always-empty 3 100 20 with-6 run-sizes (computed .allowed) (
 pub span-two : (r : Reply) (z : List ℕ) → Span-says with-both 1 9 r (replicate 24 7) z → r .count ≡ 2
 unfolding Span-says
 span-two r z w = span-counts with-both 1 9 r (replicate 24 7) z w (span-number _ (between 1 9 (orders-in with-both)) r (replicate 24 7) z w ∙ computed .spans) ∙ computed .finds
+
+-- a 9 whose path is kept back, and a 9 before 11: the path to 4 has three blocks
+pub nine-counts : (r : Reply) (z : List ℕ) → Descent-says with-both 4 r (replicate 6 7) z → (r .number ≡ 9) × (r .count ≡ 3)
+unfolding Descent-as
+nine-counts r z w =
+    let n = look-number _ _ 4 (orders-in with-both) r (w .on-image (computed .both) .0) ∙ computed .lacks in
+    (n, nine-shows with-both 4 r (replicate 6 7) z (computed .both) w n .0 ∙ ap length (computed .goes))
+
+pub not-9 : (r : Reply) (z : List ℕ) → Descent-says with-both 4 r (replicate 5 7) z → r .number ≡ 9 → ⊥
+not-9 r z w e = omega (arith, early-9 with-both 4 r (replicate 5 7) z (computed .both) w e, ap length (computed .goes))
 
 -- an 8, a 4, a 12 without looking
 pub not-8 : (z : List ℕ) → Put-says 6 50 50 8 empty-table z → ⊥
