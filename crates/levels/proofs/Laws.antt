@@ -13,3 +13,4 @@ pub mod Replacing
 pub mod Levels
 pub mod Parting
 pub mod Changing
+pub mod Ways

@@ -1,0 +1,188 @@
+-- Laws of the way down on any bytes: the nodes of a chunk, the chunks of a level, the levels.
+use mathlib.Core.Path.{_≡_, refl, sym, ap, _∙_}
+use mathlib.Core.Bool.{Bool, true, false}
+use mathlib.Core.List.{List}
+use Prim.Native.Nat.{ℕ, zero, suc, _+_, _*_, _-_, _≤_, _<_}
+use native.Mathlib.Nat.{zero-add}
+use native.Mathlib.Omega.{arith}
+use borrow.Author.Tests.{eq-eqb, ne-eqb, le-leb, lt-leb, le-ltb, lt-ltb}
+use lib.Dec.{ltb, leb, eqb}
+use lib.ListN.{length, getD}
+use lib.Seq.{sets, length-sets}
+use Rattle.sizes.specs.Numbers.{big, field}
+use Rattle.sizes.specs.Header.{block-long}
+use Rattle.placement.specs.Labels.{label}
+use Rattle.placement.specs.Place.{Shaped, search-in}
+use Rattle.sizes.specs.declared.Sizes.{Sizes}
+use Rattle.placement.specs.declared.Found.{Found}
+use Rattle.placement.specs.declared.Found.the-variants.{At, Nothing}
+use Rattle.placement.proofs.Laws.Cells.{cond-valid}
+use Rattle.levels.specs.declared.Trail.{Trail}
+use Rattle.levels.specs.Ways.{Trek, trek, coming, starting, number-in, upto-in, reached-in, found-upto, found-block, node-place, trod, chunks-in, along-in, down-in}
+
+-- THE NODES of a chunk
+pub record Upto (bs : List ℕ) (n at y i : ℕ) : Type 0 where
+  pub within : i ≤ n
+  pub rest : upto-in bs n at y ≡ i + upto-in bs (n - i) (at + 12 * i) y
+
+module _ (bs : List ℕ) (n at y : ℕ) where
+  pub upto-start : Upto bs n at y 0
+  upto-start =
+      let c : n - 0 ≡ n = omega arith in
+      let d : at + 12 * 0 ≡ at = omega arith in
+      record { within = omega arith; rest = rw (c, d, zero-add) }
+
+  module _ (i : ℕ) (p : Upto bs n at y i) where
+    module _ (h : i < n) (k : ℕ) (e : k ≡ field (at + 12 * i) 4 bs) where
+      pub upto-stop : y < k → i ≡ upto-in bs n at y
+      unfolding upto-in
+      upto-stop l =
+          let c : n - i ≡ suc (n - (i + 1)) = omega arith in
+          let q : upto-in bs (n - i) (at + 12 * i) y ≡ 0 = rw (c, lt-ltb y (field (at + 12 * i) 4 bs) (omega arith)) in
+          omega (arith, p .rest, q)
+
+      pub upto-more : k ≤ y → Upto bs n at y (i + 1)
+      unfolding upto-in
+      upto-more l =
+          let c : n - i ≡ suc (n - (i + 1)) = omega arith in
+          let d : at + 12 * i + 12 ≡ at + 12 * (i + 1) = omega arith in
+          let q : upto-in bs (n - i) (at + 12 * i) y ≡ suc (upto-in bs (n - (i + 1)) (at + 12 * (i + 1)) y) = rw (c, le-ltb y (field (at + 12 * i) 4 bs) (omega arith), d) in
+          record { within = omega arith; rest = omega (arith, p .rest, q) }
+
+    pub upto-end : n ≤ i → i ≡ upto-in bs n at y
+    unfolding upto-in
+    upto-end h =
+        let c : n - i ≡ 0 = omega arith in
+        omega (arith, p .rest, ap (λ (q : ℕ). upto-in bs q (at + 12 * i) y) c)
+
+-- .. of the chunk in a block
+module _ (s : Sizes) (bs : List ℕ) (i y : ℕ) (c : ℕ) (e : c ≡ getD bs (53 + i * block-long s + 1) 0) where
+  pub reached-wide : s .nodes < c → 0 ≡ reached-in s bs i y
+  unfolding reached-in
+  reached-wide h = rw (lt-ltb (s .nodes) (getD bs (53 + i * block-long s + 1) 0) (omega (arith, h, e)))
+
+  pub reached-all : c ≤ s .nodes → (a : ℕ) → a ≡ 53 + i * block-long s → (r : ℕ) → r ≡ upto-in bs c (a + 8) y → r ≡ reached-in s bs i y
+  unfolding reached-in
+  reached-all h a ea r er = er ∙ rw (ea, ← e, le-ltb _ _ h)
+
+-- there is room for the nodes
+pub reached-room : (s : Sizes) (bs : List ℕ) → Shaped s bs → (a c : ℕ) → a + block-long s ≤ 53 + s .blocks * block-long s → c ≤ s .nodes → a + 8 + 12 * c ≤ length bs
+reached-room s bs h a c q l = omega (arith, q, h .long, h .width)
+
+pub tread-room : (s : Sizes) (bs : List ℕ) → Shaped s bs → (a n : ℕ) → a + block-long s ≤ 53 + s .blocks * block-long s → 0 < n → n ≤ s .nodes → a + (8 + 12 * (n - 1)) + 12 ≤ length bs
+tread-room s bs h a n q p l = omega (arith, q, h .long, h .width)
+
+-- A NUMBER of the path
+module _ (o : List ℕ) (c i : ℕ) where
+  pub number-none : length o < 2 * c + 2 → o ≡ number-in o c i
+  unfolding number-in
+  number-none h = rw (lt-leb _ _ h)
+
+  pub number-made : 2 * c + 2 ≤ length o → (z : List ℕ) → z ≡ sets o (2 * c) (big 2 i) → z ≡ number-in o c i
+  unfolding number-in
+  number-made h z e = rw (le-leb _ _ h) e
+
+  pub number-long : length (number-in o c i) ≡ length o
+  unfolding number-in
+  number-long = cond-valid (λ (x : List ℕ). length x ≡ length o) (leb (2 * c + 2) (length o)) (length-sets o (2 * c) (big 2 i)) refl
+
+-- A BLOCK
+pub trod-is : (s : Sizes) (bs : List ℕ) (i n : ℕ) (t : Trail) (o : List ℕ) (a : ℕ) → a ≡ 53 + i * block-long s → (k : ℕ) → k ≡ field (a + (8 + 12 * (n - 1))) 4 bs →
+    (z : List ℕ) → z ≡ number-in o (t .count) i → _≡_ {A = Trek} (trek (record { count = t .count + 1; first = k; at = a + (8 + 12 * (n - 1)) }) z) (trod s bs i n (trek t o))
+unfolding trod node-place
+trod-is s bs i n t o a ea k ek z ez = rw (ek, ez, ea)
+
+-- THE CHUNKS of a level
+pub record Along (s : Sizes) (bs : List ℕ) (l y : ℕ) (t : Trail) (o : List ℕ) (j : ℕ) (w : Trail) (z : List ℕ) : Type 0 where
+  pub within : j ≤ s .blocks
+  pub few : w .count ≤ t .count + j
+  pub inside : w .at + 12 ≤ length bs
+  pub long : length z ≡ length o
+  pub rest : along-in s bs l y (trek t o) ≡ chunks-in s bs l (t .first) y (s .blocks - j) j (trek w z)
+
+module _ (s : Sizes) (bs : List ℕ) (l y : ℕ) (t : Trail) (o : List ℕ) (g : Shaped s bs) where
+  -- what is said of the way when the level is done
+  abbrev Gone : (r : Trail) → (z : List ℕ) → Type 0
+  Gone r z = (trek r z ≡ along-in s bs l y (trek t o)) × (r .count ≤ t .count + 65535) × (r .at + 12 ≤ length bs)
+
+  pub along-start : Along s bs l y t o 0 (coming (t .count) (t .first)) o
+  unfolding along-in
+  along-start =
+      let c : s .blocks - 0 ≡ s .blocks = omega arith in
+      record { within = omega arith; few = omega arith; inside = omega (arith, g .long); long = refl; rest = rw c }
+
+  module _ (j : ℕ) (w : Trail) (z : List ℕ) (p : Along s bs l y t o j w z) where
+    stop : chunks-in s bs l (t .first) y (s .blocks - j) j (trek w z) ≡ trek w z → Gone w z
+    stop e = (sym (p .rest ∙ e), omega (arith, p .few, p .within, g .most), p .inside)
+
+    pub along-end : s .blocks ≤ j → Gone w z
+    unfolding chunks-in
+    along-end h =
+        let c : s .blocks - j ≡ 0 = omega arith in
+        stop (rw c)
+
+    module _ (h : j < s .blocks) (r : Found) (er : r ≡ search-in s bs (label l (t .first) j)) where
+      step : s .blocks - j ≡ suc (s .blocks - (j + 1))
+      step = omega arith
+
+      pub along-none : r ≡ Nothing → Gone w z
+      unfolding chunks-in found-upto
+      along-none e = stop (rw (step, ← er, e))
+
+      module _ (i : ℕ) (e : r ≡ At i) (n : ℕ) (en : n ≡ reached-in s bs i y) where
+        pub along-short : n ≡ 0 → Gone w z
+        unfolding chunks-in found-upto
+        along-short q = stop (rw (step, ← er, e, ← en, q))
+
+        module _ (q : n ≡ 0 → ⊥) (w′ : Trail) (z′ : List ℕ) (ew : trek w′ z′ ≡ trod s bs i n (trek w z)) (c : w′ .count ≡ w .count + 1) (a : w′ .at + 12 ≤ length bs) where
+          -- the output keeps its length
+          pub trod-long : length z′ ≡ length o
+          unfolding trod
+          trod-long = ap (λ (x : Trek). length (x .path)) ew ∙ number-long z (w .count) i ∙ p .long
+
+          pub along-last : n < s .nodes → Gone w′ z′
+          unfolding chunks-in found-upto found-block
+          along-last b =
+              (sym (p .rest ∙ rw (step, ← er, e, ← en, ne-eqb n 0 q, lt-ltb n (s .nodes) b, ew)), omega (arith, p .few, p .within, g .most), a)
+
+          pub along-more : s .nodes ≤ n → Along s bs l y t o (j + 1) w′ z′
+          unfolding chunks-in found-upto found-block
+          along-more b =
+              let d : j + 1 ≡ suc j = omega arith in
+              record {
+                within = omega arith;
+                few = omega (arith, p .few);
+                inside = a;
+                long = trod-long;
+                rest = p .rest ∙ rw (step, ← er, e, ← en, ne-eqb n 0 q, le-ltb n (s .nodes) b, ew, d);
+              }
+
+-- THE LEVELS
+pub record Down (s : Sizes) (bs : List ℕ) (top l y : ℕ) (o : List ℕ) (k : ℕ) (t : Trail) (z : List ℕ) : Type 0 where
+  pub within : k ≤ top
+  pub few : t .count ≤ 65535 * (top - k)
+  pub inside : t .at + 12 ≤ length bs
+  pub long : length z ≡ length o
+  pub rest : down-in s bs l y (top - l) (trek starting o) ≡ down-in s bs l y (k - l) (trek t z)
+
+module _ (s : Sizes) (bs : List ℕ) (top l y : ℕ) (o : List ℕ) where
+  pub down-start : Shaped s bs → Down s bs top l y o top starting o
+  down-start h = record { within = omega arith; few = omega arith; inside = omega (arith, h .long); long = refl; rest = refl }
+
+  module _ (k : ℕ) (t : Trail) (z : List ℕ) (p : Down s bs top l y o k t z) where
+    pub down-room : top ≤ 19 → t .count + 65535 ≤ 4294967295
+    down-room h = omega (arith, p .few)
+
+    pub down-more : l < k → (t′ : Trail) (z′ : List ℕ) → trek t′ z′ ≡ along-in s bs k y (trek t z) → t′ .count ≤ t .count + 65535 → t′ .at + 12 ≤ length bs → length z′ ≡ length z →
+        Down s bs top l y o (k - 1) t′ z′
+    unfolding down-in
+    down-more h t′ z′ e c a g =
+        let d : k - l ≡ suc (k - 1 - l) = omega arith in
+        let m : suc (k - 1 - l) + l ≡ k = omega arith in
+        record { within = omega (arith, p .within); few = omega (arith, p .few, p .within); inside = a; long = g ∙ p .long; rest = p .rest ∙ rw d (ap (λ (v : ℕ). down-in s bs l y (k - 1 - l) (along-in s bs v y (trek t z))) m ∙ ap (down-in s bs l y (k - 1 - l)) (sym e)) }
+
+    pub down-end : k ≤ l → trek t z ≡ down-in s bs l y (top - l) (trek starting o)
+    unfolding down-in
+    down-end h =
+        let d : k - l ≡ 0 = omega arith in
+        sym (p .rest ∙ rw d)
