@@ -14,3 +14,4 @@ pub mod Levels
 pub mod Parting
 pub mod Changing
 pub mod Ways
+pub mod Leading

@@ -1,0 +1,274 @@
+-- The way down in a table: the blocks that come on it, and the node where it ends.
+use mathlib.Core.Path.{_≡_, refl, sym, ap, _∙_, subst}
+use mathlib.Core.Bool.{true}
+use mathlib.Core.List.{List, [], _∷_, _++_, map}
+use Prim.Native.Nat.{ℕ, zero, suc, _+_, _*_, _-_, _≤_, _<_}
+use native.Mathlib.Decide.{decLt}
+use native.Mathlib.Nat.{add-zero, zero-mul, suc-mul, add-comm}
+use native.Mathlib.Omega.{arith}
+use borrow.Author.Tests.{ltb-true, eq-eqb, ne-eqb, le-ltb, lt-ltb}
+use lib.Dec.{ltb}
+use lib.ListN.{length, getD, take, drop, length-append, length-take, length-drop, take-append-drop, List·getD-append}
+use lib.Seq.{take-all, take-append-le, drop-append-le, drop-drop, sets}
+use Rattle.sizes.specs.Numbers.{big, field}
+use Rattle.sizes.specs.Header.{block-long}
+use Rattle.placement.specs.Blocks.{Block}
+use Rattle.placement.specs.Chunks.{Chunk}
+use Rattle.placement.specs.Labels.{label}
+use Rattle.placement.specs.Place.{search-in}
+use Rattle.placement.specs.Maps.{Map, Table}
+use Rattle.sizes.specs.declared.Sizes.{Sizes}
+use Rattle.placement.specs.declared.Order.{Order}
+use Rattle.placement.specs.declared.Found.{Found}
+use Rattle.placement.specs.declared.Found.the-variants.{At, Nothing}
+use Rattle.sizes.proofs.Laws.Sizes.{some-nodes}
+use Rattle.placement.proofs.Laws.Reading.{node-at, key-read, total-read, displayed-read}
+use Rattle.skiplist.specs.Paths.{labels-from, stands-in}
+use Rattle.skiplist.proofs.Laws.Parts.{Up, below, up-front, and-left, and-right}
+use Rattle.skiplist.proofs.Laws.Count.{pieces}
+use Rattle.skiplist.proofs.Laws.Descent.{last-from}
+use Rattle.skiplist.proofs.Laws.Paths.{found-stands}
+use Rattle.levels.specs.declared.Trail.{Trail}
+use Rattle.levels.specs.Edit.{Pieces}
+use Rattle.levels.specs.Ways.{Trek, trek, number-in, upto-in, reached-in, found-upto, found-block, node-place, trod, chunks-in}
+use Rattle.levels.proofs.Laws.Takes.{none-found, some-found, counted}
+use Rattle.levels.proofs.Laws.Chunking.{pieces-none, pieces-full, drop-past}
+
+-- NUMBERS of the path, one after the other
+unfoldable pub numbers-in : (path : List ℕ) → (c : ℕ) → (is : List ℕ) → List ℕ
+numbers-in o c [] = o
+numbers-in o c (i ∷ is) = numbers-in (number-in o c i) (c + 1) is
+
+-- A NODE stands in bytes
+abbrev pub Node-at : List ℕ → (at : ℕ) → Order → Type 0
+Node-at bs a o = (0 < a) × (field a 4 bs ≡ o .key) × (field (a + 4) 4 bs ≡ o .total) × (field (a + 8) 4 bs ≡ o .displayed)
+
+-- the last of some nodes, z where there is none
+unfoldable pub last-of : (z : Order) → List Order → Order
+last-of z [] = z
+last-of z (o ∷ os) = last-of o os
+
+pub last-append : (z : Order) (xs ys : List Order) → last-of z (xs ++ ys) ≡ last-of (last-of z xs) ys
+unfolding last-of
+last-append z [] ys = refl
+last-append z (x ∷ xs) ys = last-append x xs ys
+
+pub last-key : (z : Order) (xs : List Order) → last-of z xs .key ≡ last-from (z .key) xs
+unfolding last-of last-from
+last-key z [] = refl
+last-key z (x ∷ xs) = last-key x xs
+
+last-at : (z : Order) (xs : List Order) → 0 < length xs → last-of z xs ≡ node-at xs (length xs - 1)
+unfolding last-of
+last-at z [] h = absurd (omega arith)
+last-at z (x ∷ []) h = refl
+last-at z (x ∷ y ∷ xs) h =
+    let e : length (x ∷ y ∷ xs) - 1 ≡ suc (length (y ∷ xs) - 1) = omega arith in
+    last-at x (y ∷ xs) (omega arith) ∙ ap (λ (i : ℕ). node-at (x ∷ y ∷ xs) i) (sym e)
+
+-- so many nodes below a key, and the others
+below-cut : (k m : ℕ) (ps : List Order) → below k ps ≡ true → (below k (take m ps) ≡ true) × (below k (drop m ps) ≡ true)
+unfolding below
+below-cut k zero ps e = (refl, e)
+below-cut k (suc m) [] e = (refl, refl)
+below-cut k (suc m) (p ∷ ps) e =
+    let r = below-cut k m ps (and-right (ltb (p .key) k) (below k ps) e) in
+    (rw (and-left (ltb (p .key) k) (below k ps) e) (r .0), r .1)
+
+take-both : (m : ℕ) (ps qs : List Order) → take m (ps ++ qs) ≡ take m ps ++ take (m - length ps) qs
+take-both zero ps qs = let z : 0 - length ps ≡ 0 = omega arith in rw z
+take-both (suc m) [] qs = let z : suc m - 0 ≡ suc m = omega arith in ap (λ (i : ℕ). take i qs) (sym z)
+take-both (suc m) (p ∷ ps) qs =
+    let z : suc m - length (p ∷ ps) ≡ m - length ps = omega arith in
+    ap (λ (l : List Order). p ∷ l) (take-both m ps qs) ∙ ap (λ (i : ℕ). p ∷ (take m ps ++ take i qs)) (sym z)
+
+-- as many nodes as their keys in the bytes tell
+upto-read : (bs : List ℕ) (y : ℕ) (ps qs : List Order) (a : ℕ) → below (suc y) ps ≡ true → Up (suc y) qs →
+    ((j : ℕ) → j < length (ps ++ qs) → field (a + 12 * j) 4 bs ≡ node-at (ps ++ qs) j .key) → upto-in bs (length (ps ++ qs)) a y ≡ length ps
+unfolding upto-in below
+upto-read bs y [] [] a e u h = refl
+upto-read bs y [] (q ∷ qs) a e u h =
+    let z : a + 12 * 0 ≡ a = omega arith in
+    rw (lt-ltb y (field a 4 bs) (omega (arith, rw z at (h 0 (omega arith)), u .0)))
+upto-read bs y (p ∷ ps) qs a e u h =
+    let z : a + 12 * 0 ≡ a = omega arith in
+    let low = ltb-true (p .key) (suc y) (and-left (ltb (p .key) (suc y)) (below (suc y) ps) e) in
+    rw (le-ltb y (field a 4 bs) (omega (arith, rw z at (h 0 (omega arith)), low)))
+    (ap suc (upto-read bs y ps qs (a + 12) (and-right (ltb (p .key) (suc y)) (below (suc y) ps) e) u (λ j g. moved j (h (suc j) (omega arith)))))
+  where
+    moved : (j : ℕ) → field (a + 12 * suc j) 4 bs ≡ node-at (ps ++ qs) j .key → field (a + 12 + 12 * j) 4 bs ≡ node-at (ps ++ qs) j .key
+    moved j g = let e : a + 12 + 12 * j ≡ a + 12 * suc j = omega arith in ap (λ (q : ℕ). field q 4 bs) e ∙ g
+
+-- A CHUNK of a table
+module _ (s : Sizes) (F : Map) (n : ℕ) (hd bs : List ℕ) (t : Table s F n hd bs) (k f : ℕ) (pos : 0 < k) where
+  abbrev sought : (j : ℕ) → Found
+  sought j = search-in s bs (label k f j)
+
+  module _ (j : ℕ) where
+    -- how many of its nodes are not above a key
+    chunk-upto : (y : ℕ) (ps qs : List Order) → F k f j ≡ ps ++ qs → below (suc y) ps ≡ true → Up (suc y) qs → found-upto s bs y (sought j) ≡ length ps
+    unfolding found-upto reached-in
+    chunk-upto y ps qs e l u = go (sought j) refl
+      where
+        go : (r : Found) → r ≡ sought j → found-upto s bs y r ≡ length ps
+        go Nothing er = omega (arith, ap length (sym e ∙ none-found s F n hd bs t (label k f j) pos Nothing er refl), length-append ps qs)
+        go (At b) er =
+            let v = some-found s F n hd bs t (label k f j) pos (At b) er b refl in
+            let c : getD bs (53 + b * block-long s + 1) 0 ≡ length (ps ++ qs) = counted s F n hd bs t (label k f j) pos (At b) er b refl _ refl ∙ ap length e in
+            rw (c, le-ltb (s .nodes) (length (ps ++ qs)) (omega (arith, v .held .nodes, ap length e)))
+            (upto-read bs y ps qs (53 + b * block-long s + 8) l u (λ i g. moved b i (key-read s bs b (label k f j) (F k f j) (v .is) (v .held .nodes) (v .held .fine) i (omega (arith, g, ap length e)))))
+          where
+            moved : (b i : ℕ) → field (53 + b * block-long s + (8 + (12 * i + 0))) 4 bs ≡ node-at (F k f j) i .key → field (53 + b * block-long s + 8 + 12 * i) 4 bs ≡ node-at (ps ++ qs) i .key
+            moved b i g =
+                let z : 53 + b * block-long s + 8 + 12 * i ≡ 53 + b * block-long s + (8 + (12 * i + 0)) = omega arith in
+                ap (λ (q : ℕ). field q 4 bs) z ∙ g ∙ ap (λ (l : List Order). node-at l i .key) e
+
+    module _ (full : 0 < length (F k f j)) where
+      there : (b : ℕ) × (sought j ≡ At b)
+      there = go (sought j) refl
+        where
+          go : (r : Found) → r ≡ sought j → (b : ℕ) × (sought j ≡ At b)
+          go Nothing er = absurd (omega (arith, ap length (none-found s F n hd bs t (label k f j) pos Nothing er refl)))
+          go (At b) er = (b, sym er)
+
+      -- its block
+      chunk-block : found-block (sought j) ≡ stands-in (t .blocks) (label k f j)
+      unfolding found-block
+      chunk-block = rw (there .1) (sym (found-stands s F n hd bs t (label k f j) (there .0) pos (there .1)))
+
+      -- its nodes, counted from 1
+      chunk-node : (i : ℕ) → 0 < i → i ≤ length (F k f j) → Node-at bs (node-place s (found-block (sought j)) i) (node-at (F k f j) (i - 1))
+      unfolding found-block node-place
+      chunk-node i h g =
+          let b = there .0 in
+          let v = some-found s F n hd bs t (label k f j) pos (sought j) refl b (there .1) in
+          rw (there .1) (
+            omega arith,
+            moved b 0 (omega arith) (key-read s bs b (label k f j) (F k f j) (v .is) (v .held .nodes) (v .held .fine) (i - 1) (omega arith)),
+            moved b 4 (omega arith) (total-read s bs b (label k f j) (F k f j) (v .is) (v .held .nodes) (v .held .fine) (i - 1) (omega arith)),
+            moved b 8 (omega arith) (displayed-read s bs b (label k f j) (F k f j) (v .is) (v .held .nodes) (v .held .fine) (i - 1) (omega arith)),
+          )
+        where
+          moved : (b a : ℕ) {q x : ℕ} → q ≡ 53 + b * block-long s + (8 + (12 * (i - 1) + a)) → field (53 + b * block-long s + (8 + (12 * (i - 1) + a))) 4 bs ≡ x → field q 4 bs ≡ x
+          moved b a e h = ap (λ (z : ℕ). field z 4 bs) e ∙ h
+
+-- WHERE THE WAY ENDS: at a node, whose key it has
+abbrev pub Ends : List ℕ → Trail → Order → Type 0
+Ends bs x z = (x .first ≡ z .key) × Node-at bs (x .at) z
+
+-- where it has come, from x and an output o on, through chunks j, j + 1, .. that begin with the nodes ps, if these are all that are not above the key
+pub record Landed (s : Sizes) (bs : List ℕ) (bl : List (Block Chunk)) (k f : ℕ) (r : Trek) (j : ℕ) (ps : List Order) (x : Trail) (o : List ℕ) : Type 0 where
+  pub trail : Trail
+  pub is : r ≡ trek trail (numbers-in o (x .count) (map (stands-in bl) (labels-from (pieces (s .nodes) (length ps)) k f j)))
+  pub count : trail .count ≡ x .count + pieces (s .nodes) (length ps)
+  pub ends : (z : Order) → (length ps ≡ 0 → Ends bs x z) → Ends bs trail (last-of z ps)
+
+module _ (s : Sizes) (bs : List ℕ) (bl : List (Block Chunk)) (k f : ℕ) where
+  landed-none : (j : ℕ) (x : Trail) (o : List ℕ) → Landed s bs bl k f (trek x o) j [] x o
+  unfolding numbers-in labels-from last-of
+  landed-none j x o = record { trail = x; is = rw (pieces-none (s .nodes)); count = omega (arith, pieces-none (s .nodes)); ends = λ z h. h refl }
+
+  -- one chunk more, in block i
+  landed-more : (r : Trek) (j : ℕ) (own rest : List Order) (x : Trail) (o : List ℕ) (i : ℕ) → i ≡ stands-in bl (label k f j) → 0 < length own →
+      pieces (s .nodes) (length (own ++ rest)) ≡ suc (pieces (s .nodes) (length rest)) → Node-at bs (node-place s i (length own)) (node-at own (length own - 1)) →
+      Landed s bs bl k f r (suc j) rest (trod s bs i (length own) (trek x o) .trail) (trod s bs i (length own) (trek x o) .path) → Landed s bs bl k f r j (own ++ rest) x o
+  unfolding numbers-in labels-from trod
+  landed-more r j own rest x o i ei some e h w = record {
+    trail = w .trail;
+    is = w .is ∙ rw (e, ← ei);
+    count = omega (arith, w .count, e);
+    ends = λ z q. rw (last-append z own rest, last-at z own some) (w .ends (node-at own (length own - 1)) (λ g. (h .1, h)));
+  }
+
+-- the first of some pieces, and the others
+module _ (F : Map) (b k f j : ℕ) (ns : List Order) (p : Pieces F b k f j ns) where
+  piece-first : F k f j ≡ take b ns
+  unfolding Pieces
+  piece-first = rw (add-zero, zero-mul) at (p 0)
+
+  pieces-later : Pieces F b k f (suc j) (drop b ns)
+  unfolding Pieces
+  pieces-later i =
+      let e : suc j + i ≡ j + suc i = omega arith in
+      rw e (p (suc i) ∙ ap (take b) (sym (drop-drop (i * b) b ns ∙ ap (λ (z : ℕ). drop z ns) (add-comm b (i * b) ∙ sym (suc-mul i b)))))
+
+-- THE CHUNKS of a partition, of which ps are the nodes not above y
+module _ (s : Sizes) (F : Map) (n : ℕ) (hd bs : List ℕ) (t : Table s F n hd bs) (k f y : ℕ) (pos : 0 < k) where
+  some : 0 < s .nodes
+  some = some-nodes s (t .good)
+
+  -- the first chunk of some, where the first node is not above y
+  module _ (j : ℕ) (ps qs : List Order) (p : Pieces F (s .nodes) k f j (ps ++ qs)) (l : below (suc y) ps ≡ true) (u : Up (suc y) qs) (long : 0 < length ps) (x : Trail) (o : List ℕ) where
+    abbrev own : List Order
+    own = take (s .nodes) ps
+
+    abbrev rest : List Order
+    rest = drop (s .nodes) ps
+
+    abbrev high : List Order
+    high = take (s .nodes - length ps) qs
+
+    abbrev block : ℕ
+    block = found-block (search-in s bs (label k f j))
+
+    abbrev trodden : Trek
+    trodden = trod s bs block (length own) (trek x o)
+
+    is : F k f j ≡ own ++ high
+    is = piece-first F (s .nodes) k f j (ps ++ qs) p ∙ take-both (s .nodes) ps qs
+
+    own-some : 0 < length own
+    own-some = rw length-take (omega (arith, some))
+
+    many : length own ≤ length (F k f j)
+    many = omega (arith, ap length is, length-append own high)
+
+    reach : found-upto s bs y (search-in s bs (label k f j)) ≡ length own
+    reach =
+        chunk-upto s F n hd bs t k f pos j y own high is (below-cut (suc y) (s .nodes) ps l .0)
+        (up-front high (drop (s .nodes - length ps) qs) (suc y) (rw take-append-drop u))
+
+    node : Node-at bs (node-place s block (length own)) (node-at own (length own - 1))
+    node =
+        subst (Node-at bs (node-place s block (length own)))
+        (ap (λ (z : List Order). node-at z (length own - 1)) is ∙ List·getD-append own high _ (length own - 1) (omega (arith, own-some)))
+        (chunk-node s F n hd bs t k f pos j (omega (arith, many, own-some)) (length own) own-some many)
+
+    one-more : (r : Trek) → Landed s bs (t .blocks) k f r (suc j) rest (trodden .trail) (trodden .path) → Landed s bs (t .blocks) k f r j ps x o
+    one-more r w =
+        subst (λ (z : List Order). Landed s bs (t .blocks) k f r j z x o) (take-append-drop (s .nodes) ps)
+        (landed-more s bs (t .blocks) k f r j own rest x o block (chunk-block s F n hd bs t k f pos j (omega (arith, many, own-some))) own-some
+        (rw (take-append-drop, length-drop) (pieces-full (s .nodes) (length ps) some long)) node w)
+
+    pub chunk-last : (m : ℕ) → length ps < s .nodes → Landed s bs (t .blocks) k f (chunks-in s bs k f y (suc m) j (trek x o)) j ps x o
+    unfolding chunks-in trod
+    chunk-last m h =
+        one-more _
+        (rw (reach, ne-eqb (length own) 0 (omega (arith, own-some)), lt-ltb (length own) (s .nodes) (rw length-take (omega arith)), drop-past (s .nodes) ps (omega arith))
+        (landed-none s bs (t .blocks) k f (suc j) (trodden .trail) (trodden .path)))
+
+    pub chunk-full : (m : ℕ) → s .nodes ≤ length ps → Landed s bs (t .blocks) k f (chunks-in s bs k f y m (suc j) trodden) (suc j) rest (trodden .trail) (trodden .path) →
+        Landed s bs (t .blocks) k f (chunks-in s bs k f y (suc m) j (trek x o)) j ps x o
+    unfolding chunks-in
+    chunk-full m h w =
+        one-more _ (rw (reach, ne-eqb (length own) 0 (omega (arith, own-some)), le-ltb (length own) (s .nodes) (rw length-take (omega arith))) w)
+
+  pub told : (m j : ℕ) (ps qs : List Order) → Pieces F (s .nodes) k f j (ps ++ qs) → below (suc y) ps ≡ true → Up (suc y) qs → pieces (s .nodes) (length ps) ≤ m →
+      (x : Trail) (o : List ℕ) → Landed s bs (t .blocks) k f (chunks-in s bs k f y m j (trek x o)) j ps x o
+  unfolding chunks-in
+  told zero j [] qs p l u h x o = landed-none s bs (t .blocks) k f j x o
+  told zero j (q ∷ ps) qs p l u h x o = absurd (omega (arith, pieces-full (s .nodes) (length (q ∷ ps)) some (omega arith)))
+  told (suc m) j [] qs p l u h x o =
+      let front : Up (suc y) (take (s .nodes) qs) = up-front (take (s .nodes) qs) (drop (s .nodes) qs) (suc y) (rw take-append-drop u) in
+      rw (chunk-upto s F n hd bs t k f pos j y [] (take (s .nodes) qs) (piece-first F (s .nodes) k f j qs p) l front) (landed-none s bs (t .blocks) k f j x o)
+  told (suc m) j (q ∷ ps) qs p l u h x o = go (told m (suc j) (drop (s .nodes) (q ∷ ps)) qs) (decLt (length (q ∷ ps)) (s .nodes))
+    where
+      go : (Pieces F (s .nodes) k f (suc j) (drop (s .nodes) (q ∷ ps) ++ qs) → below (suc y) (drop (s .nodes) (q ∷ ps)) ≡ true → Up (suc y) qs →
+          pieces (s .nodes) (length (drop (s .nodes) (q ∷ ps))) ≤ m → (x : Trail) (o : List ℕ) →
+          Landed s bs (t .blocks) k f (chunks-in s bs k f y m (suc j) (trek x o)) (suc j) (drop (s .nodes) (q ∷ ps)) x o) →
+          Dec (length (q ∷ ps) < s .nodes) → Landed s bs (t .blocks) k f (chunks-in s bs k f y (suc m) j (trek x o)) j (q ∷ ps) x o
+      go ih (yes g) = chunk-last j (q ∷ ps) qs p l u (omega arith) x o m g
+      go ih (no g) =
+          chunk-full j (q ∷ ps) qs p l u (omega arith) x o m (omega (arith, g))
+          (ih (rw (drop-append-le (s .nodes) (q ∷ ps) qs (omega (arith, g))) at (pieces-later F (s .nodes) k f j ((q ∷ ps) ++ qs) p))
+          (below-cut (suc y) (s .nodes) (q ∷ ps) l .1) u (rw length-drop (omega (arith, pieces-full (s .nodes) (length (q ∷ ps)) some (omega arith)))) _ _)
