@@ -15,3 +15,4 @@ pub mod Parting
 pub mod Changing
 pub mod Ways
 pub mod Leading
+pub mod Arriving

@@ -15,7 +15,7 @@ use Rattle.placement.specs.Maps.{Map, map-of, Table}
 use Rattle.sizes.specs.declared.Sizes.{Sizes}
 use Rattle.placement.specs.declared.Order.{Order}
 use Rattle.sizes.proofs.Laws.Sizes.{some-nodes}
-use Rattle.skiplist.specs.Lists.{masked, first-key, chunks}
+use Rattle.skiplist.specs.Lists.{masked, first-key, chunks, blocks}
 use Rattle.skiplist.proofs.Laws.Parts.{Up, below, up-front, good-up, part}
 use Rattle.skiplist.proofs.Laws.Edits.{head-part, tail-part, part-at, level-most}
 use Rattle.skiplist.proofs.Laws.Descent.{last-from, step-down, start-top, head-below, tail-above}
@@ -106,25 +106,26 @@ module _ (s : Sizes) (os : List Order) (b : 0 < s .nodes) (u : Up 1 os) (k : ℕ
 
 -- THE WAY DOWN to a key
 module _ (s : Sizes) (bs : List ℕ) (y : ℕ) (xs zs : List Order) (w : Way s bs y xs zs) where
-  rising : Up 1 (xs ++ zs)
+  pub rising : Up 1 (xs ++ zs)
   rising = good-up 1 (xs ++ zs) (w .orders)
 
   module _ (k : ℕ) (lo : 0 < k) (hi : k ≤ beta s) (f : ℕ) (ef : f ≡ first-key (head-part s k xs)) where
-    there : Pieces (map-of (chunks s (xs ++ zs))) (s .nodes) k f 0 (map (masked k) (head-part s k xs) ++ map (masked k) (tail-part s k zs))
+    pub there : Pieces (map-of (chunks s (xs ++ zs))) (s .nodes) k f 0 (map (masked k) (head-part s k xs) ++ map (masked k) (tail-part s k zs))
     there =
         rw map-append at
         (as-pieces s (xs ++ zs) (some-nodes s (w .good)) rising k lo hi (map-of (chunks s (xs ++ zs))) f (head-part s k xs ++ tail-part s k zs)
         (ap (part s (xs ++ zs) k) ef ∙ part-at s k xs zs rising) (λ i. refl))
 
-    kept : Table s (map-of (chunks s (xs ++ zs))) (length (chunks s (xs ++ zs))) (header s (length (xs ++ zs))) bs
+    unfoldable pub kept : Table s (map-of (chunks s (xs ++ zs))) (length (chunks s (xs ++ zs))) (header s (length (xs ++ zs))) bs
+    unfolding image-keeps
     kept =
-        subst (Table s (map-of (chunks s (xs ++ zs))) (length (chunks s (xs ++ zs))) (header s (length (xs ++ zs)))) (sym (w .is))
-        (image-keeps s (xs ++ zs) (w .good) (w .orders) (w .fit))
+        let t = image-keeps s (xs ++ zs) (w .good) (w .orders) (w .fit) in
+        record { good = t .good; head = t .head; sizes = t .sizes; sound = t .sound; blocks = blocks s (xs ++ zs); is = w .is ∙ t .is; keeps = t .keeps }
 
-    lower : below y (map (masked k) (head-part s k xs)) ≡ true
+    pub lower : below y (map (masked k) (head-part s k xs)) ≡ true
     lower = below-masked k y (head-part s k xs) (head-below s k y xs (w .pos) (w .low))
 
-    upper : Up y (map (masked k) (tail-part s k zs))
+    pub upper : Up y (map (masked k) (tail-part s k zs))
     upper = up-masked k y (tail-part s k zs) (tail-above s k y zs (w .high))
 
     module _ (x : Spot) where

@@ -164,7 +164,7 @@ module _ (s : Sizes) (k f : ℕ) (pos : 0 < k) where
     piece-gone : (i : ℕ) → F k f i ≡ [] → length ns ≤ i * s .nodes
     piece-gone i e = omega (arith, some-nodes s (t .good), simp (length-take, length-drop) at (ap length (sym (pieces-at F (s .nodes) k f ns i p) ∙ e)))
 
-    chunks-most : length ns ≤ s .blocks * s .nodes
+    pub chunks-most : length ns ≤ s .blocks * s .nodes
     chunks-most =
         let some = some-nodes s (t .good) in
         let there = crowd (pieces (s .nodes) (length ns)) F n hd bs 0 t (λ i l g e. omega (arith, piece-gone i e, pieces-under (s .nodes) (length ns) i some (omega arith))) in

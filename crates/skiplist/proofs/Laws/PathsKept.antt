@@ -32,7 +32,7 @@ use Rattle.skiplist.proofs.Laws.Image.{image-keeps}
 use Rattle.skiplist.proofs.Laws.Paths.{by-cut, path-step, stands-there}
 use Rattle.skiplist.proofs.Laws.Arranged.{blocks-placing}
 
-length-labels : (n l f i : ℕ) → length (labels-from n l f i) ≡ n
+pub length-labels : (n l f i : ℕ) → length (labels-from n l f i) ≡ n
 unfolding labels-from
 length-labels zero l f i = refl
 length-labels (suc n) l f i = ap suc (length-labels n l f (suc i))
