@@ -16,7 +16,7 @@ use levels::ways::descend;
 use sizes::Geometry;
 use sizes::hash::reckon;
 use sizes::header::Header;
-use sizes::header::rule_one;
+use sizes::header::rule_of;
 use sizes::numbers::bring;
 use table::Reply;
 use table::walk::node_of;
@@ -67,13 +67,17 @@ fn write_path(table: &[u8], q: Geometry, key: u32, count: u32, short: &[u8], pat
 
 // Descent: 4 of the header and the length alone, 5, 11, 9.
 pub fn descent(table: &[u8], key: u32, path: &mut [u8]) -> Reply {
-    if !rule_one(table) {
+    if table.len() < Header::LENGTH {
+        return refused(4);
+    }
+    let h = Header::read(table);
+    if !rule_of(table, h) {
         return refused(4);
     }
     if !is_key(key) {
         return refused(5);
     }
-    let q = geometry_of(table);
+    let q = reckon(h.sizes);
     let mut short = [0u8; 128];
     let t = descend(table, q, 0, key, &mut short);
     if path.len() < 2 * (t.count as usize) {

@@ -215,14 +215,11 @@ pub fn seed_allowed(s: Sizes) -> bool
     true
 }
 
-// Rule 1 of an image. The sizes are tested first: only of sizes in range is the length sure to fit.
-pub fn rule_one(table: &[u8]) -> bool
+// Rule 1 of an image, of bytes whose header was read. The sizes are tested first: only of sizes in range is the length sure to fit.
+pub fn rule_of(table: &[u8], h: Header) -> bool
+    requires { ⌜ (53 ≤ length (now table)) × (h .sizes ≡ sizes-in (now table)) × (h .held ≡ held-in (now table)) ⌝ }
     ensures { λ r. ⌜ r ≡ rule-1 (now (table .entry)) ⌝ }
 {
-    if table.len() < Header::LENGTH {
-        return false;
-    }
-    let h = Header::read(table);
     if !sizes_allowed(h.sizes) {
         return false;
     }

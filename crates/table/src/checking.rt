@@ -1,5 +1,6 @@
 // The check: question 4.
 ghost use mathlib.Core.Path.{_≡_};
+ghost use mathlib.Core.Bool.{false};
 ghost use Rattle.table.specs.Check.{Passed, Examined};
 ghost use Rattle.table.specs.Calls.{check-number};
 use crate::Seen;
@@ -10,19 +11,29 @@ use crate::walk::walk_partition;
 use sizes::hash::hash;
 use sizes::hash::reckon;
 use sizes::header::Header;
-use sizes::header::rule_one;
+use sizes::header::rule_of;
+
+// Bytes that are no table.
+fn nothing() -> Tally
+    ensures { λ r. ⌜ r ≡ record { clean = false; full = 0 } ⌝ }
+{
+    Tally {
+        clean: false,
+        full: 0,
+    }
+}
 
 // Do the bytes pass rule 1, the pass over the blocks and the walk? Where they do, how many blocks are full.
 fn passes(table: &[u8]) -> Tally
     ensures { λ r. ⌜ Passed (now (table .entry)) r ⌝ }
 {
-    if !rule_one(table) {
-        return Tally {
-            clean: false,
-            full: 0,
-        };
+    if table.len() < Header::LENGTH {
+        return nothing();
     }
     let h = Header::read(table);
+    if !rule_of(table, h) {
+        return nothing();
+    }
     let q = reckon(h.sizes);
     let t = sweep(table, q.sizes);
     if !t.clean {

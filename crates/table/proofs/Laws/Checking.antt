@@ -12,7 +12,7 @@ use Rattle.sizes.specs.Header.{block-long, table-long, sizes-in, held-in, rule-
 use Rattle.placement.specs.Place.{Shaped}
 use Rattle.sizes.specs.declared.Sizes.{Sizes}
 use Rattle.sizes.proofs.Laws.Sizes.{limits, some-blocks}
-use Rattle.sizes.proofs.Laws.HeaderLoops.{ruled}
+use Rattle.sizes.proofs.Laws.HeaderLoops.{ruled, rule-short}
 use Rattle.table.specs.declared.Seen.{Seen}
 use Rattle.table.specs.declared.Tally.{Tally}
 use Rattle.table.specs.Walk.{Walkable, opens-of}
@@ -35,9 +35,9 @@ pub reckoned-in : (bs : List ℕ) (r s : Sizes) → r ≡ s → s ≡ sizes-in b
 reckoned-in bs r s e es = e ∙ es
 
 module _ (bs : List ℕ) (t : Bool) (et : t ≡ rule-1 bs) where
-  pub passes-unruled : t ≡ false → Passed bs (record { clean = false; full = 0 })
+  pub passes-unruled : t ≡ false → (r : Tally) → r ≡ record { clean = false; full = 0 } → Passed bs r
   unfolding check-passes
-  passes-unruled e = record { passes = rw (← et, e); count = λ z. absurd (true≢false (sym z)) }
+  passes-unruled e r er = rw er (record { passes = rw (← et, e); count = λ z. absurd (true≢false (sym z)) })
 
   module _ (e : t ≡ true) where
     pub ruled-long : 53 ≤ length bs
@@ -97,3 +97,7 @@ module _ (bs : List ℕ) (t : Bool) (et : t ≡ rule-1 bs) where
             let w : x ≡ opens-of (sizes-in bs) bs (beta (sizes-in bs)) 0 (record { ok = true; low = 0; orders = held-in bs + 1; chunks = swept (sizes-in bs) bs .full })
             = ex ∙ (λ i. opens-of (es i) bs (g i) 0 (record { ok = true; low = 0; orders = en i + 1; chunks = f i })) in
             record { passes = er ∙ ap ended w ∙ sym (rw (h, z)); count = λ v. f }
+
+-- bytes that are too short for a header
+pub passes-short : (bs : List ℕ) → length bs < 53 → (r : Tally) → r ≡ record { clean = false; full = 0 } → Passed bs r
+passes-short bs h = passes-unruled bs false (rule-short bs h) refl
