@@ -20,6 +20,11 @@ impl Book {
         }
     }
 
+    /// "The sizes and seed of make".
+    pub fn made(&self) -> &Made {
+        &self.made
+    }
+
     /// The set of orders now.
     pub fn orders(&self) -> &Orders {
         &self.orders

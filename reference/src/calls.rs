@@ -1,20 +1,25 @@
-//! The seven calls on byte buffers ("Calls and their questions").
+//! The calls on byte buffers ("Calls and their questions"), and the descent of
+//! document 02's request A.1.
 //!
 //! "Questions run in this order; the first "no" ends the call with its number.
 //! All other parts of that answer are 0 and no lent byte changes. Success is 0."
+//! Only a descent's 9 writes and gives a count.
 
-use crate::image::{held, image, is_image};
+use crate::image::{held, image, is_image, obeys_rule_1};
 use crate::lists::{Orders, Quantities};
+use crate::paths::{path, NUMBER};
 use crate::sizes::{are_quantities, is_key, Made, Seed, Sizes, NODE};
 
-/// An answer. A lookup that succeeds repeats the key; a span's count stands in
-/// `total`; what a call does not give is 0.
+/// An answer. A lookup or descent that succeeds repeats the key; how many orders
+/// a span wrote, or blocks a descent, stands in `count`; what a call does not
+/// give is 0.
 #[derive(Clone, Copy, Debug, Default, PartialEq, Eq)]
 pub struct Reply {
     pub number: u32,
     pub key: u32,
     pub total: u32,
     pub displayed: u32,
+    pub count: u32,
 }
 
 impl Reply {
@@ -32,17 +37,21 @@ impl Reply {
     pub fn order(key: u32, quantities: &Quantities) -> Reply {
         let Quantities { total, displayed } = *quantities;
         Reply {
-            number: 0,
             key,
             total,
             displayed,
+            ..Reply::default()
         }
     }
 
     pub fn count(count: usize) -> Reply {
+        Reply::default().with_count(count)
+    }
+
+    fn with_count(self, count: usize) -> Reply {
         Reply {
-            total: count as u32,
-            ..Reply::default()
+            count: count as u32,
+            ..self
         }
     }
 }
@@ -140,6 +149,43 @@ pub fn lookup(table: &[u8], key: u32) -> Reply {
         Some(quantities) => Reply::order(key, quantities),
         None => Reply::refused(9),
     }
+}
+
+/// Descent: 4, which is here "only whether rule 1 of an image holds", 5, 11, 9.
+/// "It writes the numbers of the blocks on its path, two bytes each, big-endian",
+/// for a key that is not held too.
+///
+/// None, with nothing written, on "bytes that pass 4 and 5 here but are no
+/// image": "no definition decides its other results there". `stays_within` says
+/// what still must hold of another's answer.
+pub fn descent(table: &[u8], key: u32, output: &mut [u8]) -> Option<Reply> {
+    if !obeys_rule_1(table) {
+        return Some(Reply::refused(4));
+    }
+    if !is_key(key) {
+        return Some(Reply::refused(5));
+    }
+    let (made, orders) = held(table)?;
+    let path = path(table, &made, &orders, key);
+    if output.len() < NUMBER * path.len() {
+        return Some(Reply::refused(11));
+    }
+    for (&block, place) in path.iter().zip(output.chunks_exact_mut(NUMBER)) {
+        place.copy_from_slice(&block.to_be_bytes());
+    }
+    let reply = match orders.get(&key) {
+        Some(quantities) => Reply::order(key, quantities),
+        None => Reply::refused(9),
+    };
+    Some(reply.with_count(path.len()))
+}
+
+/// What holds of every descent, also where no definition decides its answer: the
+/// counted numbers have room in the output, and its bytes behind them "keep their
+/// values".
+pub fn stays_within(reply: &Reply, before: &[u8], after: &[u8]) -> bool {
+    let written = NUMBER * reply.count as usize;
+    before.len() == after.len() && written <= after.len() && before[written..] == after[written..]
 }
 
 /// Span: 4, 5, 10, 11. "It writes key, total, displayed of each, rising, and

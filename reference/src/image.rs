@@ -191,6 +191,11 @@ pub fn is_image(table: &[u8]) -> bool {
     held(table).is_some()
 }
 
+/// Whether rule 1 holds, whatever stands in the blocks.
+pub fn obeys_rule_1(table: &[u8]) -> bool {
+    rule_1(table).is_some()
+}
+
 /// What the table is made with and the orders it holds, if it is an image.
 pub fn held(table: &[u8]) -> Option<(Made, Orders)> {
     let Header { made, held } = rule_1(table)?;

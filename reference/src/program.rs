@@ -179,6 +179,7 @@ impl Console {
                     key,
                     total,
                     displayed,
+                    ..
                 } = calls::seek(&self.table, lo, hi, r);
                 match number {
                     0 => writeln!(output, "0 {key} {total} {displayed}"),
@@ -212,8 +213,8 @@ impl Console {
         if reply.number != 0 {
             return writeln!(output, "{}", reply.number);
         }
-        writeln!(output, "0 {}", reply.total)?;
-        for order in self.found.chunks_exact(NODE).take(reply.total as usize) {
+        writeln!(output, "0 {}", reply.count)?;
+        for order in self.found.chunks_exact(NODE).take(reply.count as usize) {
             let [key, total, displayed] = [0, 4, 8].map(|place| number_at(order, place));
             writeln!(output, "{key} {total} {displayed}")?;
         }

@@ -77,9 +77,12 @@ fn vectors_are_the_same_every_time() {
 #[derive(Default)]
 struct Reader {
     store: Vec<u8>,
-    /// How often each word and each number came.
+    /// How often each word, each number, and each number of each call came.
     words: BTreeMap<String, u32>,
     numbers: BTreeMap<u32, u32>,
+    pairs: BTreeMap<(String, u32), u32>,
+    /// Descents whose answer no definition decides.
+    undecided: u32,
     full: u32,
     odd_seeds: u32,
 }
@@ -120,25 +123,36 @@ impl Reader {
         let (asked, answer) = line.split_once(" = ").expect("a call has an answer");
         let asked: Vec<&str> = asked.split(' ').collect();
         let (reply, output) = self.ask(&asked);
+        let store = fnv_1a(&self.store);
         let Reply {
             number,
             key,
             total,
             displayed,
-        } = reply;
-        let store = fnv_1a(&self.store);
-        let mut found = format!("{number} {key} {total} {displayed} {store:016x}");
-        if asked[0] == "span" {
+            count,
+        } = match reply {
+            Some(reply) => reply,
+            None => {
+                assert_eq!(answer, format!("? {store:016x}"), "{line}");
+                self.undecided += 1;
+                return;
+            }
+        };
+        let mut found = format!("{number} {key} {total} {displayed} {count} {store:016x}");
+        if ["span", "descent"].contains(&asked[0]) {
             found += &format!(" {:016x}", fnv_1a(&output));
         }
         assert_eq!(found, answer, "{line}");
         *self.numbers.entry(number).or_default() += 1;
+        let pair = (asked[0].to_string(), number);
+        *self.pairs.entry(pair).or_default() += 1;
         if asked[0] == "put" && number == 0 {
             self.full += u32::from(is_full(&self.store[..place(asked[1])]));
         }
     }
 
-    fn ask(&mut self, asked: &[&str]) -> (Reply, Vec<u8>) {
+    /// The reply, None where no definition decides it, and the output.
+    fn ask(&mut self, asked: &[&str]) -> (Option<Reply>, Vec<u8>) {
         let mut output = Vec::new();
         let store = &mut self.store;
         let reply = match *asked {
@@ -156,6 +170,11 @@ impl Reader {
             }
             ["cancel", length, key] => calls::cancel(&mut store[..place(length)], number(key)),
             ["lookup", length, key] => calls::lookup(&store[..place(length)], number(key)),
+            ["descent", length, key, room] => {
+                output = (0..place(room)).map(|i| (i % 251) as u8).collect();
+                let reply = calls::descent(&store[..place(length)], number(key), &mut output);
+                return (reply, output);
+            }
             ["span", length, lo, hi, room] => {
                 output = (0..place(room)).map(|i| (i % 251) as u8).collect();
                 calls::span(&store[..place(length)], number(lo), number(hi), &mut output)
@@ -165,7 +184,7 @@ impl Reader {
             }
             _ => panic!("a line of another form: {asked:?}"),
         };
-        (reply, output)
+        (Some(reply), output)
     }
 }
 
@@ -175,13 +194,25 @@ fn is_full(table: &[u8]) -> bool {
     chunks(&made, &lists(&made, &orders)).len() == made.sizes.blocks as usize
 }
 
+/// The calls and all numbers that each can answer.
+const CALLS: [(&str, &[u32]); 8] = [
+    ("make", &[0, 1, 2, 3]),
+    ("check", &[0, 4]),
+    ("put", &[0, 4, 5, 6, 7, 8]),
+    ("cancel", &[0, 4, 5, 9]),
+    ("lookup", &[0, 4, 5, 9]),
+    ("descent", &[0, 4, 5, 9, 11]),
+    ("span", &[0, 4, 5, 10, 11]),
+    ("seek", &[0, 4, 5, 10, 12]),
+];
+
 #[test]
 fn vectors_can_be_read() {
     let text = vectors(4000);
     let mut reader = Reader::default();
     text.lines().for_each(|line| reader.line(line));
     let words = [
-        "room", "xor", "set", "make", "check", "put", "cancel", "lookup", "span", "seek",
+        "room", "xor", "set", "make", "check", "put", "cancel", "lookup", "descent", "span", "seek",
     ];
     for word in words {
         let times = reader.words.get(word).copied().unwrap_or(0);
@@ -191,6 +222,13 @@ fn vectors_can_be_read() {
         let times = reader.numbers.get(&number).copied().unwrap_or(0);
         assert!(times >= 7, "{number}: {times}");
     }
+    for (call, numbers) in CALLS {
+        for &number in numbers {
+            let times = reader.pairs.get(&(call.to_string(), number));
+            assert!(times.is_some(), "{call} never answered {number}");
+        }
+    }
+    assert!(reader.undecided >= 50, "{} undecided", reader.undecided);
     assert!(reader.full >= 50, "{} full tables", reader.full);
     assert!(reader.odd_seeds >= 5);
     for key in ["0", "1", "2147483646", "2147483647", "4294967295"] {

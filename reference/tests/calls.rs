@@ -33,7 +33,8 @@ fn refused(table: &[u8], call: impl Fn(&mut [u8]) -> Reply) -> u32 {
             number: reply.number,
             key: 0,
             total: 0,
-            displayed: 0
+            displayed: 0,
+            count: 0
         }
     );
     assert_eq!(copy, table);
@@ -119,19 +120,19 @@ fn put_replaces() {
         assert_eq!(
             lookup(&table, 6),
             Reply {
-                number: 0,
                 key: 6,
                 total,
-                displayed
+                displayed,
+                ..Reply::done()
             }
         );
         assert_eq!(
             lookup(&table, 3),
             Reply {
-                number: 0,
                 key: 3,
                 total: 100,
-                displayed: 20
+                displayed: 20,
+                ..Reply::done()
             }
         );
     }
@@ -157,10 +158,10 @@ fn cancel_and_lookup_ask_in_order() {
     assert_eq!(
         lookup(&table, 3),
         Reply {
-            number: 0,
             key: 3,
             total: 100,
-            displayed: 20
+            displayed: 20,
+            ..Reply::done()
         }
     );
 }
@@ -202,7 +203,15 @@ fn span_asks_in_order() {
 fn span_writes_rising_orders_and_no_more() {
     let table = full_table();
     let mut output = [0xee; 30];
-    assert_eq!(span(&table, 3, 6, &mut output), Reply::count(2));
+    // Their number stands in `count` alone.
+    let two = Reply {
+        number: 0,
+        key: 0,
+        total: 0,
+        displayed: 0,
+        count: 2,
+    };
+    assert_eq!(span(&table, 3, 6, &mut output), two);
     let three = [0, 0, 0, 3, 0, 0, 0, 100, 0, 0, 0, 20];
     let six = [0, 0, 0, 6, 0, 0, 0, 50, 0, 0, 0, 50];
     assert_eq!(output, *[&three[..], &six[..], &[0xee; 6][..]].concat());
@@ -238,10 +247,10 @@ fn seek_gives_the_lowest_key() {
         assert_eq!(put(&mut table, key, total, displayed), Reply::done());
     }
     let order = |key, total, displayed| Reply {
-        number: 0,
         key,
         total,
         displayed,
+        ..Reply::done()
     };
     assert_eq!(seek(&table, 1, P - 1, 0), order(2, 5, 5));
     assert_eq!(seek(&table, 1, P - 1, 1), order(4, 30, 10));
@@ -258,10 +267,10 @@ fn seek_reaches_the_largest_r() {
     let mut table = made_table(&document());
     put(&mut table, 3, u32::MAX, 0);
     let found = Reply {
-        number: 0,
         key: 3,
         total: u32::MAX,
         displayed: 0,
+        ..Reply::done()
     };
     assert_eq!(seek(&table, 3, 3, u32::MAX), found);
     put(&mut table, 3, u32::MAX, 1);
@@ -286,10 +295,10 @@ fn the_largest_table() {
     assert_eq!(table[1..5], (table.len() as u32).to_be_bytes());
     assert_eq!(put(&mut table, P - 1, u32::MAX, 1), Reply::done());
     let found = Reply {
-        number: 0,
         key: P - 1,
         total: u32::MAX,
         displayed: 1,
+        ..Reply::done()
     };
     assert_eq!(lookup(&table, P - 1), found);
 }

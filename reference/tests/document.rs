@@ -191,10 +191,10 @@ fn p8_quantities() {
     assert_eq!(calls::put(&mut table, 3, 100, 101), Reply::refused(6));
     assert_eq!(calls::put(&mut table, 3, 100, 100), Reply::done());
     let found = Reply {
-        number: 0,
         key: 3,
         total: 100,
         displayed: 100,
+        ..Reply::done()
     };
     assert_eq!(calls::lookup(&table, 3), found);
 }

@@ -3,7 +3,7 @@
 
 mod common;
 
-use common::{made_table, order, sizes, some_key, some_made, some_orders};
+use common::{made_table, order, sizes, some_key, some_made, some_orders, walked_path};
 use reference::book::Book;
 use reference::calls::{self, Reply};
 use reference::image::{image, is_image, is_image_by_rebuilding};
@@ -18,6 +18,7 @@ enum Call {
     Put(u32, u32, u32),
     Cancel(u32),
     Lookup(u32),
+    Descent(u32, usize),
     Span(u32, u32, usize),
     Seek(u32, u32, u32),
 }
@@ -58,7 +59,14 @@ fn any_call(generator: &mut Xorshift, made: &Made) -> Call {
         9..=12 => Call::Cancel(key),
         13 => Call::Check,
         14 => Call::Lookup(key),
-        15..=17 => {
+        15..=16 => {
+            let blocks = generator
+                .below(made.sizes.blocks + 2)
+                .min(2 * made.sizes.beta());
+            let length = (2 * blocks as usize + 1).saturating_sub(generator.below(3) as usize);
+            Call::Descent(key, length)
+        }
+        17..=18 => {
             let (lo, hi) = any_range(generator, made);
             let orders = generator.below(made.sizes.orders + 2) as usize;
             let length = (12 * orders + 1).saturating_sub(generator.below(3) as usize);
@@ -84,6 +92,10 @@ fn ask(table: &mut [u8], call: Call) -> (Reply, Vec<u8>) {
         Call::Put(key, total, displayed) => calls::put(table, key, total, displayed),
         Call::Cancel(key) => calls::cancel(table, key),
         Call::Lookup(key) => calls::lookup(table, key),
+        Call::Descent(key, length) => {
+            output = filled(length);
+            calls::descent(table, key, &mut output).expect("an image")
+        }
         Call::Span(lo, hi, length) => {
             output = filled(length);
             calls::span(table, lo, hi, &mut output)
@@ -116,17 +128,37 @@ fn expected(book: &mut Book, call: Call) -> (Reply, Vec<u8>) {
             (Reply::refused(book.put(key, total, displayed)), vec![])
         }
         Call::Cancel(key) => (Reply::refused(book.cancel(key)), vec![]),
-        Call::Lookup(key) => {
-            let reply = match book.orders().get(&key) {
-                _ if !are_keys(key, key) => Reply::refused(5),
-                None => Reply::refused(9),
-                Some(order) => Reply::order(key, order),
-            };
-            (reply, vec![])
-        }
+        Call::Lookup(key) => (expected_lookup(book, key), vec![]),
+        Call::Descent(key, length) => expected_descent(book, key, length),
         Call::Span(lo, hi, length) => expected_span(book, lo, hi, length),
         Call::Seek(lo, hi, r) => (expected_seek(book, lo, hi, r), vec![]),
     }
+}
+
+fn expected_lookup(book: &Book, key: u32) -> Reply {
+    match book.orders().get(&key) {
+        _ if !are_keys(key, key) => Reply::refused(5),
+        None => Reply::refused(9),
+        Some(order) => Reply::order(key, order),
+    }
+}
+
+fn expected_descent(book: &Book, key: u32, length: usize) -> (Reply, Vec<u8>) {
+    let mut output = filled(length);
+    let reply = expected_lookup(book, key);
+    if reply.number == 5 {
+        return (reply, output);
+    }
+    let table = image(book.made(), book.orders()).expect("a book's orders fit");
+    let path = walked_path(&table, key);
+    if 2 * path.len() > length {
+        return (Reply::refused(11), output);
+    }
+    for (place, block) in path.iter().enumerate() {
+        output[2 * place..2 * place + 2].copy_from_slice(&block.to_be_bytes());
+    }
+    let count = path.len() as u32;
+    (Reply { count, ..reply }, output)
 }
 
 fn expected_span(book: &Book, lo: u32, hi: u32, length: usize) -> (Reply, Vec<u8>) {
@@ -149,7 +181,7 @@ fn expected_span(book: &Book, lo: u32, hi: u32, length: usize) -> (Reply, Vec<u8
     output[..written.len()].copy_from_slice(&written);
     (
         Reply {
-            total: found.len() as u32,
+            count: found.len() as u32,
             ..Reply::done()
         },
         output,
@@ -166,10 +198,10 @@ fn expected_seek(book: &Book, lo: u32, hi: u32, r: u32) -> Reply {
     let fits = |&(_, total, displayed): &(u32, u32, u32)| total - displayed >= r;
     match in_range(book, lo, hi).into_iter().find(fits) {
         Some((key, total, displayed)) => Reply {
-            number: 0,
             key,
             total,
             displayed,
+            ..Reply::done()
         },
         None => Reply::refused(12),
     }
@@ -340,7 +372,8 @@ fn make_line(made: &Made) -> String {
     line + "\n"
 }
 
-/// The line and the lines it is answered by; the program has no check.
+/// The line and the lines it is answered by; the program has no check and no
+/// descent.
 fn text(book: &mut Book, call: Call) -> Option<(String, String)> {
     let call = match call {
         Call::Span(lo, hi, _) => Call::Span(lo, hi, 65_536),
@@ -352,10 +385,11 @@ fn text(book: &mut Book, call: Call) -> Option<(String, String)> {
         key,
         total,
         displayed,
+        count,
     } = reply;
     let refused = number != 0;
     let (line, answer) = match call {
-        Call::Check => return None,
+        Call::Check | Call::Descent(..) => return None,
         Call::Put(key, total, displayed) => (format!("put {key} {total} {displayed}"), "0".into()),
         Call::Cancel(key) => (format!("cancel {key}"), "0".into()),
         Call::Lookup(key) => (format!("show {key}"), format!("0 {total} {displayed}")),
@@ -364,7 +398,7 @@ fn text(book: &mut Book, call: Call) -> Option<(String, String)> {
             format!("0 {key} {total} {displayed}"),
         ),
         Call::Span(lo, hi, _) => {
-            let mut answer = format!("0 {total}");
+            let mut answer = format!("0 {count}");
             for (key, total, displayed) in in_range(book, lo, hi) {
                 answer += &format!("\n{key} {total} {displayed}");
             }

@@ -81,32 +81,68 @@ static size_t unhex(const char *text, uint8_t *out) {
     return n;
 }
 
-static uint32_t number(void) {
+static char *field(void) {
     char *t = strtok(NULL, " \n");
     if (!t) exit(2);
-    return (uint32_t)strtoul(t, NULL, 10);
+    return t;
 }
+
+static uint32_t number(void) { return (uint32_t)strtoul(field(), NULL, 10); }
+
+static uint64_t hash_field(void) { return strtoull(field(), NULL, 16); }
 
 static void equals_sign(void) {
-    char *t = strtok(NULL, " \n");
-    if (!t || strcmp(t, "=") != 0) exit(2);
+    if (strcmp(field(), "=") != 0) exit(2);
 }
 
-/* A seek may answer any order that fits; the lowest is what the recorder wrote down, and what this library gives. */
-static void expect(const char *call, balluchaw_reply got) {
-    balluchaw_reply want;
-    want.number = number();
-    want.key = number();
-    want.total = number();
-    want.displayed = number();
-    uint64_t hash = strtoull(strtok(NULL, " \n"), NULL, 16);
-    same(got.number == want.number && got.key == want.key && got.total == want.total && got.displayed == want.displayed, call);
-    same(fnv(store, size) == hash, "the bytes of the table");
+/* The rest of an answer, behind its number. A seek may answer any order that fits; the lowest is what the recorder wrote down, and what this
+ * library gives. */
+static void expect_rest(const char *call, balluchaw_reply got, uint32_t want_number) {
+    uint32_t key = number(), total = number(), displayed = number(), count = number();
+    same(got.number == want_number && got.key == key && got.total == total && got.displayed == displayed && got.count == count, call);
+    same(fnv(store, size) == hash_field(), "the bytes of the table");
 }
+
+static void expect(const char *call, balluchaw_reply got) { expect_rest(call, got, number()); }
 
 static balluchaw_reply only(uint32_t n) {
-    balluchaw_reply r = {n, 0, 0, 0};
+    balluchaw_reply r = {n, 0, 0, 0, 0};
     return r;
+}
+
+/* An output of n bytes, as the recorder fills one. */
+static uint8_t *lend_output(size_t n) {
+    uint8_t *output = borrow(OUTPUT, n);
+    for (size_t i = 0; i < n; i++) output[i] = (uint8_t)(i % 251);
+    return output;
+}
+
+/* Where no definition decides a descent's answer: the counted numbers have room in the output, and behind them it is as it was lent. */
+static void expect_within(balluchaw_reply r, const uint8_t *output, size_t n) {
+    size_t written = 2 * (size_t)r.count;
+    same(written <= n, "room for the path of a descent on what is no table");
+    size_t i = written;
+    while (i < n && output[i] == (uint8_t)(i % 251)) i++;
+    same(i >= n, "the bytes behind the path of a descent on what is no table");
+    same(fnv(store, size) == hash_field(), "the bytes of what is no table");
+}
+
+static void descent(void) {
+    size_t length = number();
+    uint32_t key = number();
+    size_t n = number();
+    uint8_t *t = lend(length), *output = lend_output(n);
+    equals_sign();
+    balluchaw_reply r = balluchaw_descent(t, length, key, output, n);
+    take_back(t, length);
+    const char *first = field();
+    if (strcmp(first, "?") == 0) {
+        expect_within(r, output, n);
+    } else {
+        expect_rest("descent", r, (uint32_t)strtoul(first, NULL, 10));
+        same(fnv(output, n) == hash_field(), "the path of a descent");
+    }
+    give_back(OUTPUT, output, n);
 }
 
 static void step(char *line) {
@@ -123,12 +159,12 @@ static void step(char *line) {
         if (place < size) store[place] ^= (uint8_t)byte;
     } else if (strcmp(word, "set") == 0) {
         uint32_t place = number();
-        char *text = strtok(NULL, " \n");
+        char *text = field();
         if (place + unhex(text, NULL) > size) exit(2);
         unhex(text, store + place);
     } else if (strcmp(word, "make") == 0) {
         uint32_t gamma = number(), nodes = number(), orders = number(), blocks = number();
-        char *text = strtok(NULL, " \n");
+        char *text = field();
         size_t seed_length = unhex(text, NULL), length = number();
         uint8_t *t = lend(length), *seed = borrow(SEED, seed_length);
         unhex(text, seed);
@@ -179,17 +215,18 @@ static void step(char *line) {
         balluchaw_reply r = balluchaw_seek(t, length, lo, hi, reserve);
         take_back(t, length);
         expect("seek", r);
+    } else if (strcmp(word, "descent") == 0) {
+        descent();
     } else if (strcmp(word, "span") == 0) {
         size_t length = number();
         uint32_t lo = number(), hi = number();
         size_t n = number();
-        uint8_t *t = lend(length), *output = borrow(OUTPUT, n);
-        for (size_t i = 0; i < n; i++) output[i] = (uint8_t)(i % 251);
+        uint8_t *t = lend(length), *output = lend_output(n);
         equals_sign();
         balluchaw_reply r = balluchaw_span(t, length, lo, hi, output, n);
         take_back(t, length);
         expect("span", r);
-        same(fnv(output, n) == strtoull(strtok(NULL, " \n"), NULL, 16), "the output of a span");
+        same(fnv(output, n) == hash_field(), "the output of a span");
         give_back(OUTPUT, output, n);
     } else {
         fprintf(stderr, "line %lu: unknown step %s\n", line_number, word);

@@ -46,7 +46,7 @@ static void calls(uint8_t gamma, uint8_t nodes, uint8_t orders, uint8_t more, ui
     save(bytes, n);
 }
 
-/* A table with some orders, as it is, and asking for a header that fits. */
+/* A table with some orders, as it is, asking for a header that fits, and asking for other blocks. */
 static void image(uint32_t gamma, uint32_t nodes, uint32_t orders, uint32_t blocks, uint32_t held) {
     size_t length = BALLUCHAW_LENGTH(nodes, blocks);
     uint8_t *bytes = malloc(1 + length), seed[40];
@@ -57,7 +57,7 @@ static void image(uint32_t gamma, uint32_t nodes, uint32_t orders, uint32_t bloc
         exit(1);
     }
     for (uint32_t i = 0; i < held; i++) balluchaw_put(bytes + 1, length, 1 + draw() % 1000, 1 + draw() % 500, 0);
-    for (uint8_t first = 192; first < 194; first++) {
+    for (uint8_t first = 192; first < 196; first++) {
         bytes[0] = first;
         save(bytes, 1 + length);
     }

@@ -1,4 +1,4 @@
-/* A fuzz target over the seven calls, for libFuzzer.
+/* A fuzz target over the calls, for libFuzzer.
  *
  * An input below FIRST_RAW in its first byte is sizes, a seed and a list of calls; otherwise the bytes behind the first are a table that
  * somebody made. Input that ends early reads as zeros. What must hold stands in the functions named after the calls:
@@ -6,7 +6,9 @@
  *   - a refused call and a reading change no byte of the table, a refused span none of its output;
  *   - after an edit the check answers 0, and lookup and span give what the model holds;
  *   - the same orders put into a new table in another order give the same bytes;
- *   - bytes that the check accepts are those that make and puts of their own orders give; on others every call answers 4.
+ *   - bytes that the check accepts are those that make and puts of their own orders give; on others every call but descent answers 4;
+ *   - a descent's path is the way through the model's levels, block by block. It answers 4 only to a header or length that is none; on other
+ *     bytes that are no table it writes no more than it counts, and counts no more than its output holds.
  *
  * Each buffer has exactly its length and stands, as the input says, against a page behind it, a page before it, or on the heap.
  *
@@ -21,7 +23,7 @@
 #define P 2147483647u
 
 enum { FIRST_RAW = 192, MOST_ORDERS = 48, MOST_STEPS = 120, LONGEST_RAW = 1 << 16 };
-enum { MAKE, CHECK, PUT, CANCEL, LOOKUP, SPAN, SEEK };
+enum { MAKE, CHECK, PUT, CANCEL, LOOKUP, SPAN, SEEK, DESCENT };
 enum { TABLE, SEED, OUTPUT };
 
 #ifdef __clang__
@@ -108,6 +110,8 @@ typedef struct {
 
 static uint32_t number_at(const uint8_t *p) { return (uint32_t)p[0] << 24 | (uint32_t)p[1] << 16 | (uint32_t)p[2] << 8 | p[3]; }
 
+static uint32_t short_at(const uint8_t *p) { return (uint32_t)p[0] << 8 | p[1]; }
+
 static void write_number(uint8_t *p, uint32_t n) {
     for (int i = 0; i < 4; i++) p[i] = (uint8_t)(n >> (24 - 8 * i));
 }
@@ -158,6 +162,34 @@ static uint32_t place_of(const model *m, uint32_t key) {
 static const order *find(const model *m, uint32_t key) {
     uint32_t i = place_of(m, key);
     return i < m->n && m->held[i].key == key ? &m->held[i] : NULL;
+}
+
+typedef struct {
+    uint32_t level, chunk, first;
+} label;
+
+/* At most a chunk for each level, and those that a level has behind its first ones: no order is counted in two levels. */
+enum { LONGEST_WAY = 8 + MOST_ORDERS / 2 };
+
+/* The labels on the way to a key, and how many: in each level, from the highest down, chunks 0 up to the one with the greatest key not above
+ * the one sought, of the partition headed by the greatest such key one level higher. */
+static uint32_t way(const model *m, uint32_t key, label labels[LONGEST_WAY]) {
+    uint32_t count = 0, head = 0;
+    for (uint32_t k = m->beta; k >= 1; k--) {
+        uint32_t behind = 0, last = head; /* the partition's nodes behind its head, as far as the key */
+        for (uint32_t i = 0; i < m->n; i++) {
+            const order *o = &m->held[i];
+            if (o->level < k || o->key <= head || o->key > key) continue;
+            behind++;
+            last = o->key;
+        }
+        for (uint32_t chunk = 0; chunk <= behind / m->nodes; chunk++) {
+            must(count < LONGEST_WAY, "the longest way has room");
+            labels[count++] = (label){k, chunk, head};
+        }
+        head = last;
+    }
+    return count;
 }
 
 static int is_key(uint32_t key) { return key >= 1 && key < P; }
@@ -263,8 +295,8 @@ static uint32_t cancel(table *t, uint32_t key, unsigned how) {
     return number;
 }
 
-static int is_reply(balluchaw_reply r, uint32_t number, order o) {
-    return r.number == number && r.key == o.key && r.total == o.total && r.displayed == o.displayed;
+static int is_reply(balluchaw_reply r, uint32_t number, order o, uint32_t count) {
+    return r.number == number && r.key == o.key && r.total == o.total && r.displayed == o.displayed && r.count == count;
 }
 
 static const order none = {0, 0, 0, 0};
@@ -277,7 +309,88 @@ static void lookup(const model *m, table *t, uint32_t key, unsigned how) {
     feature(LOOKUP * 16 + r.number);
     const order *o = m ? find(m, key) : NULL;
     uint32_t number = !m ? 4 : !is_key(key) ? 5 : !o ? 9 : 0;
-    must(is_reply(r, number, number == 0 ? *o : none), "lookup answers as the model");
+    must(is_reply(r, number, number == 0 ? *o : none, 0), "lookup answers as the model");
+}
+
+static uint8_t path[1 << 13]; /* the output of the last descent; no table here has more blocks than half of it */
+
+/* A descent on any bytes: no more of the output changes than the counted numbers, which it has room for. */
+static balluchaw_reply descend(table *t, uint32_t key, size_t room, unsigned how) {
+    static uint8_t before[sizeof path];
+    must(room <= sizeof path, "room for a path");
+    for (size_t i = 0; i < room; i++) before[i] = (uint8_t)(i * 7 + 1);
+    uint8_t *output = borrow(OUTPUT, before, room, how / 8);
+    uint8_t *lent = lend(t, how);
+    balluchaw_reply r = balluchaw_descent(lent, t->length, key, output, room);
+    take_back(t, lent, how, 0);
+    feature(DESCENT * 16 + r.number % 16);
+    size_t written = 2 * (size_t)r.count;
+    must(written <= room, "a descent counts no more than its output holds");
+    must(written == room || memcmp(output + written, before + written, room - written) == 0, "a descent writes no more than it counts");
+    if (room) memcpy(path, output, room);
+    give_back(OUTPUT, output, room, how / 8);
+    return r;
+}
+
+static const uint8_t *block_at(const table *t, uint32_t number) {
+    uint32_t nodes = t->bytes[6], blocks = short_at(t->bytes + 9);
+    must(number < blocks, "a path's numbers are those of blocks");
+    return t->bytes + 53 + number * (8 + 12 * (size_t)nodes);
+}
+
+static void descent(const model *m, table *t, uint32_t key, size_t room, unsigned how) {
+    label labels[LONGEST_WAY];
+    const order *o = find(m, key);
+    uint32_t count = way(m, key, labels);
+    uint32_t number = !is_key(key) ? 5 : 2 * count > room ? 11 : !o ? 9 : 0;
+    if (number == 5 || number == 11) count = 0;
+    balluchaw_reply r = descend(t, key, room, how);
+    must(is_reply(r, number, number == 0 ? *o : none, count), "descent answers as the model");
+    for (uint32_t i = 0; i < count; i++) {
+        const uint8_t *b = block_at(t, short_at(path + 2 * i));
+        int right = b[0] == labels[i].level && short_at(b + 2) == labels[i].chunk && number_at(b + 4) == labels[i].first;
+        must(right, "a path's blocks are those of the way through the model");
+    }
+}
+
+/* A descent to an order of a table whose other orders are not known: down the levels to a block that has the order. */
+static void descent_to(table *t, order o, unsigned how) {
+    size_t blocks = short_at(t->bytes + 9);
+    balluchaw_reply r = descend(t, o.key, 2 * blocks, how);
+    must(is_reply(r, 0, o, r.count) && r.count > 0, "a descent on a table gives its order");
+    const uint8_t *b = NULL;
+    for (uint32_t i = 0, level = 0; i < r.count; i++) {
+        b = block_at(t, short_at(path + 2 * i));
+        must(b[0] > 0 && (i == 0 || b[0] == level || b[0] + 1u == level), "a path goes down level by level");
+        level = b[0];
+    }
+    int holds = 0;
+    for (uint32_t i = 0; i < b[1]; i++) holds |= number_at(b + 8 + 12 * (size_t)i) == o.key;
+    must(b[0] == 1 && holds, "a path ends at its order");
+}
+
+/* Rule 1 of an image: what a descent asks of the bytes. */
+static int has_header(const table *t) {
+    const uint8_t *b = t->bytes;
+    if (t->length < 53 || b[0] != 1) return 0;
+    uint32_t gamma = b[5], nodes = b[6], orders = short_at(b + 7), blocks = short_at(b + 9);
+    if (gamma < 2 || gamma > 64 || nodes < 2 || nodes > 32 || orders < 1 || blocks < beta_of(gamma, orders)) return 0;
+    for (int i = 13; i < 53; i += 4)
+        if (number_at(b + i) >= P) return 0;
+    return number_at(b + 1) == t->length && t->length == BALLUCHAW_LENGTH(nodes, blocks) && short_at(b + 11) <= orders;
+}
+
+/* Descents on bytes that are no table, also to keys that stand in them. */
+static void astray(table *t, unsigned how) {
+    static const size_t rooms[] = {0, 1, 3, 7, 8, 15, 64, sizeof path};
+    size_t place = t->length < 80 ? 0 : 61 + how * 31u % (t->length - 79);
+    uint32_t keys[] = {7, 0, P - 1, t->length < 80 ? 1 : number_at(t->bytes + place), P, 1 + how % 6};
+    for (unsigned i = 0; i < 6; i++) {
+        balluchaw_reply r = descend(t, keys[i], rooms[(how + 3 * i) % 8], how + i);
+        feature(2700 + (r.count < 63 ? r.count : 63) + 64 * (r.number == 0));
+        if (!has_header(t)) must(is_reply(r, 4, none, 0), "descent on a header or length that is none");
+        else if (!is_key(keys[i])) must(is_reply(r, 5, none, 0), "descent to what is no key, on what is no table");
+    }
 }
 
 static void span(const model *m, table *t, uint32_t lo, uint32_t hi, size_t room, unsigned how) {
@@ -302,7 +415,7 @@ static void span(const model *m, table *t, uint32_t lo, uint32_t hi, size_t room
     balluchaw_reply r = balluchaw_span(lent, t->length, lo, hi, output, room);
     take_back(t, lent, how, 0);
     feature(SPAN * 16 + r.number);
-    must(is_reply(r, number, (order){0, count, 0, 0}), "span answers as the model");
+    must(is_reply(r, number, none, count), "span answers as the model");
     must(room == 0 || memcmp(output, number ? before : after, room) == 0, "span writes the model's orders and nothing else");
     give_back(OUTPUT, output, room, how / 8);
 }
@@ -318,7 +431,7 @@ static void seek(const model *m, table *t, uint32_t lo, uint32_t hi, uint32_t re
         if (o->key >= lo && o->key <= hi && o->total - o->displayed >= reserve) number = 0;
     }
     const order *o = number == 0 ? find(m, r.key) : &none;
-    must(o && is_reply(r, number, *o), "seek answers as the model, with an order that is held");
+    must(o && is_reply(r, number, *o, 0), "seek answers as the model, with an order that is held");
     if (number == 0) must(o->key >= lo && o->key <= hi && o->total - o->displayed >= reserve, "seek gives an order that fits");
 }
 
@@ -329,6 +442,7 @@ static void refused(table *t, unsigned how) {
     lookup(NULL, t, 7, how + 2);
     span(NULL, t, 1, P - 1, 24, how + 3);
     seek(NULL, t, 1, P - 1, 0, how + 4);
+    astray(t, how + 5);
 }
 
 /* The held orders, from some place on, rising or falling. */
@@ -375,13 +489,14 @@ static void foreign(table *t, unsigned how) {
     table second = {malloc(t->length), t->length};
     must((rows || n == 0) && second.bytes, "no memory");
     balluchaw_reply r = balluchaw_span(t->bytes, t->length, 1, P - 1, rows, 12 * (size_t)n);
-    must(is_reply(r, 0, (order){0, n, 0, 0}), "a table's span gives as many orders as its header says");
+    must(is_reply(r, 0, none, n), "a table's span gives as many orders as its header says");
     memset(second.bytes, 0x5a, second.length);
     must(make(&m, &second, how) == 0, "the sizes and seed of a table are ones that make allows");
     for (uint32_t i = 0; i < n; i++) {
         const uint8_t *row = rows + 12 * (size_t)(n - 1 - i);
         order o = {number_at(row), number_at(row + 4), number_at(row + 8), 0};
         must(put(&second, o, how) == 0, "the orders of a table fit into its sizes");
+        if (i < 16) descent_to(t, o, how + i);
     }
     must(memcmp(second.bytes, t->bytes, t->length) == 0, "a table that the check accepts is what its orders give");
     free(rows);
@@ -480,6 +595,7 @@ static void calls(void) {
             if (number == 0) {
                 must(check(&t, how + 1) == 0, "a table after a put is one");
                 lookup(&m, &t, o.key, how + 2);
+                descent(&m, &t, o.key, how % 80, how + 3);
                 shape(&m, &t);
             }
         } else if (kind % 16 < 9) {
@@ -489,10 +605,13 @@ static void calls(void) {
             if (number == 0) {
                 must(check(&t, how + 1) == 0, "a table after a cancel is one");
                 lookup(&m, &t, key, how + 2);
+                descent(&m, &t, key, how % 80, how + 3);
                 shape(&m, &t);
             }
         } else if (kind % 16 == 9) {
-            lookup(&m, &t, some_key(&m), how);
+            uint32_t key = some_key(&m);
+            lookup(&m, &t, key, how);
+            descent(&m, &t, key, byte() % 80, how + 1);
         } else if (kind % 16 == 10) {
             uint32_t lo = some_key(&m), hi = some_key(&m);
             span(&m, &t, lo, hi, 12 * (size_t)(byte() % (MOST_ORDERS + 2)) + byte() % 13, how);
@@ -537,11 +656,55 @@ static void calls(void) {
         }
     }
     span(&m, &t, 1, P - 1, 12 * (size_t)m.n, 1);
+    for (uint32_t i = 0; i < m.n; i++) descent(&m, &t, m.held[i].key, 2 * LONGEST_WAY, i);
     another_way(&m, &t, m.n / 2 + 1, 9, 2);
     free(t.bytes);
 }
 
-/* The first byte's lowest bit asks for a header that agrees with the length, so that more inputs come past rule 1. */
+static uint64_t rank(const uint8_t *block) { return (uint64_t)block[0] << 48 | (uint64_t)number_at(block + 4) << 16 | short_at(block + 2); }
+
+/* A block with few levels, first keys, chunk numbers and keys, so that some lead to others. A great count stays. */
+static void narrow(uint8_t *b, uint32_t nodes, uint32_t beta) {
+    b[0] = (uint8_t)(1 + b[0] % beta);
+    if (b[1] < 240) b[1] = (uint8_t)(b[1] % (nodes + 2));
+    b[2] = 0;
+    b[3] %= 4;
+    write_number(b + 4, b[7] % 4 * (b[6] % 2));
+    for (uint32_t i = 0; i < nodes; i++) write_number(b + 8 + 12 * (size_t)i, b[11 + 12 * (size_t)i] % 8);
+}
+
+/* Chunks of no lists, each where a search for its label finds it: by rising label, at the first free block from its home. */
+static void made_up(table *t) {
+    uint8_t *b = t->bytes;
+    b[5] = (uint8_t)(2 + b[5] % 7);
+    b[7] = b[11] = 0;
+    b[8] = (uint8_t)(1 + b[8] % 32);
+    b[12] = (uint8_t)(b[12] % (b[8] + 1));
+    uint32_t nodes = b[6], blocks = short_at(b + 9), beta = beta_of(b[5], b[8]), seed[5];
+    size_t width = 8 + 12 * (size_t)nodes;
+    if (blocks < beta || blocks > 64) return;
+    for (int i = 0; i < 5; i++) seed[i] = number_at(b + 33 + 4 * i);
+    uint8_t *all = malloc(blocks * width), taken[64] = {0};
+    must(all != NULL, "no memory");
+    memcpy(all, b + 53, blocks * width);
+    memset(b + 53, 0, blocks * width);
+    for (uint32_t i = 0; i < blocks; i++) narrow(all + i * width, nodes, beta);
+    for (uint32_t round = 0; round + 2 < blocks; round++) {
+        uint32_t least = 0;
+        while (taken[least]) least++;
+        for (uint32_t i = least; i < blocks; i++)
+            if (!taken[i] && rank(all + i * width) < rank(all + least * width)) least = i;
+        const uint8_t *one = all + least * width;
+        uint64_t at = (hash(seed, number_at(one + 4)) + 65536u * (uint64_t)one[0] + one[3]) % P % blocks;
+        while (b[53 + at * width]) at = (at + 1) % blocks;
+        memcpy(b + 53 + at * width, one, width);
+        taken[least] = 1;
+    }
+    free(all);
+}
+
+/* The first byte's lowest bit asks for a header that agrees with the length, so that more inputs come past rule 1; the next asks for blocks
+ * through which a descent finds some way. */
 static void raw(uint32_t first) {
     size_t length = left < LONGEST_RAW ? left : LONGEST_RAW;
     table t = {malloc(length ? length : 1), length};
@@ -556,6 +719,7 @@ static void raw(uint32_t first) {
         t.bytes[9] = (uint8_t)(blocks >> 8);
         t.bytes[10] = (uint8_t)blocks;
         for (int i = 13; i < 53; i += 4) t.bytes[i] &= 0x7f;
+        if (first & 2) made_up(&t);
     }
     foreign(&t, first / 2);
     free(t.bytes);

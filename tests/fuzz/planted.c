@@ -9,6 +9,7 @@ uint32_t __real_balluchaw_check(const uint8_t *table, size_t length);
 uint32_t __real_balluchaw_put(uint8_t *table, size_t length, uint32_t key, uint32_t total, uint32_t displayed);
 uint32_t __real_balluchaw_cancel(uint8_t *table, size_t length, uint32_t key);
 balluchaw_reply __real_balluchaw_lookup(const uint8_t *table, size_t length, uint32_t key);
+balluchaw_reply __real_balluchaw_descent(const uint8_t *table, size_t length, uint32_t key, uint8_t *path, size_t path_length);
 balluchaw_reply __real_balluchaw_span(const uint8_t *table, size_t length, uint32_t lo, uint32_t hi, uint8_t *output, size_t output_length);
 balluchaw_reply __real_balluchaw_seek(const uint8_t *table, size_t length, uint32_t lo, uint32_t hi, uint32_t reserve);
 
@@ -67,14 +68,34 @@ balluchaw_reply __wrap_balluchaw_lookup(const uint8_t *table, size_t length, uin
     return reply;
 }
 
+balluchaw_reply __wrap_balluchaw_descent(const uint8_t *table, size_t length, uint32_t key, uint8_t *path, size_t path_length) {
+    balluchaw_reply reply = __real_balluchaw_descent(table, length, key, path, path_length);
+    if (fault(11) && reply.number == 0) path[2 * reply.count] = 0; /* one byte too far */
+    if (fault(12) && reply.number == 9) reply.count = 0;
+    if (fault(13) && reply.count > 0) { /* the first number little-endian */
+        uint8_t high = path[0];
+        path[0] = path[1];
+        path[1] = high;
+    }
+    /* Only on what is no table: more written than is counted, more counted than there is room for, more read than a block has. */
+    int astray = (fault(14) || fault(15) || fault(16)) && reply.number != 4 && reply.number != 5 && __real_balluchaw_check(table, length) == 4;
+    if (astray && fault(14) && 2 * (size_t)reply.count < path_length) path[2 * reply.count] ^= 1;
+    if (astray && fault(15)) reply.count = (uint32_t)(path_length / 2 + 1);
+    if (astray && fault(16)) { /* reads as many nodes of the last block as its count says */
+        const uint8_t *block = table + length - (8 + 12 * (size_t)table[6]);
+        for (uint32_t i = 0; block[0] == 1 && i < block[1]; i++) seen = block[8 + 12 * i];
+    }
+    return reply;
+}
+
 balluchaw_reply __wrap_balluchaw_span(const uint8_t *table, size_t length, uint32_t lo, uint32_t hi, uint8_t *output, size_t output_length) {
     balluchaw_reply reply = __real_balluchaw_span(table, length, lo, hi, output, output_length);
-    if (fault(9) && reply.number == 0 && reply.total > 2) output[12 * reply.total] = 0; /* one byte too far */
+    if (fault(9) && reply.number == 0 && reply.count > 2) output[12 * reply.count] = 0; /* one byte too far */
     return reply;
 }
 
 balluchaw_reply __wrap_balluchaw_seek(const uint8_t *table, size_t length, uint32_t lo, uint32_t hi, uint32_t reserve) {
     balluchaw_reply reply = __real_balluchaw_seek(table, length, lo, hi, reserve);
-    if (fault(10) && reply.number == 0 && reserve > 100) return (balluchaw_reply){12, 0, 0, 0};
+    if (fault(10) && reply.number == 0 && reserve > 100) return (balluchaw_reply){12, 0, 0, 0, 0};
     return reply;
 }

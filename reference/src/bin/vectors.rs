@@ -1,4 +1,4 @@
-//! Prints recorded vectors for a test of the seven calls from C.
+//! Prints recorded vectors for a test of the calls from C.
 //!
 //!     vectors [LINES]
 //!
@@ -20,21 +20,28 @@
 //!     put LENGTH KEY TOTAL DISPLAYED = ANSWER
 //!     cancel LENGTH KEY = ANSWER
 //!     lookup LENGTH KEY = ANSWER
+//!     descent LENGTH KEY OUTPUT = ANSWER WRITTEN
+//!     descent LENGTH KEY OUTPUT = ? STORE
 //!     span LENGTH LO HI OUTPUT = ANSWER WRITTEN
 //!     seek LENGTH LO HI R = ANSWER
 //!         A call. It is lent the first LENGTH bytes of the store as its table.
 //!
-//! ANSWER is NUMBER KEY TOTAL DISPLAYED STORE: the expected reply and the hash of
-//! the whole store after the call. A span's count stands in TOTAL; a lookup that
-//! succeeds repeats the key. Seek's order here is the one with the lowest key;
-//! another that fits is as good.
+//! ANSWER is NUMBER KEY TOTAL DISPLAYED COUNT STORE: the expected reply and the
+//! hash of the whole store after the call. A lookup or descent that succeeds
+//! repeats the key. Seek's order here is the one with the lowest key; another
+//! that fits is as good.
 //!
-//! OUTPUT is the length of the output lent to span, byte i of which is i mod 251
-//! before the call. WRITTEN is the hash of the whole output after it.
+//! OUTPUT is the length of the output lent to span or descent, byte i of which is
+//! i mod 251 before the call. WRITTEN is the hash of the whole output after it.
+//!
+//! `?` stands where no definition decides a descent's answer. Then the store must
+//! have that hash, the numbers that the reply counts, two bytes each, must have
+//! room in the output, and the bytes behind them must be as before.
 
 use reference::calls::{self, Reply};
 use reference::image::held;
 use reference::lists::{chunks, lists, Orders, Quantities};
+use reference::paths::path;
 use reference::samples::{
     constant_seed, fnv_1a, identity_seed, random_seed, some_quantities, some_seed, zero_seed,
     Xorshift, EDGE_KEYS,
@@ -93,11 +100,12 @@ impl Recorder {
             key,
             total,
             displayed,
+            count,
         } = reply;
         let store = fnv_1a(&self.store);
         let written = written.map_or(String::new(), |hash| format!(" {hash:016x}"));
         self.line(format!(
-            "{text} = {number} {key} {total} {displayed} {store:016x}{written}"
+            "{text} = {number} {key} {total} {displayed} {count} {store:016x}{written}"
         ));
         reply
     }
@@ -158,8 +166,22 @@ impl Recorder {
         self.call(format!("lookup {length} {key}"), reply, None)
     }
 
+    /// None where no definition decides.
+    fn descent(&mut self, length: usize, key: u32, room: usize) -> Option<Reply> {
+        let mut output = output_before(room);
+        let reply = calls::descent(&self.store[..length], key, &mut output);
+        let text = format!("descent {length} {key} {room}");
+        match reply {
+            Some(reply) => {
+                self.call(text, reply, Some(fnv_1a(&output)));
+            }
+            None => self.line(format!("{text} = ? {:016x}", fnv_1a(&self.store))),
+        }
+        reply
+    }
+
     fn span(&mut self, length: usize, lo: u32, hi: u32, room: usize) -> Reply {
-        let mut output: Vec<u8> = (0..room).map(|i| (i % 251) as u8).collect();
+        let mut output = output_before(room);
         let reply = calls::span(&self.store[..length], lo, hi, &mut output);
         let written = Some(fnv_1a(&output));
         self.call(format!("span {length} {lo} {hi} {room}"), reply, written)
@@ -169,6 +191,10 @@ impl Recorder {
         let reply = calls::seek(&self.store[..length], lo, hi, r);
         self.call(format!("seek {length} {lo} {hi} {r}"), reply, None)
     }
+}
+
+fn output_before(room: usize) -> Vec<u8> {
+    (0..room).map(|i| (i % 251) as u8).collect()
 }
 
 fn hex(bytes: &[u8]) -> String {
@@ -221,9 +247,11 @@ fn examples(recorder: &mut Recorder) {
     recorder.check(length);
     recorder.make(&sizes, &seed, length);
     recorder.span(length, 1, P - 1, 0);
+    descents(recorder, length, &[1, 3]);
     for key in EDGE_KEYS {
         recorder.put(length, key, 1, 0);
         recorder.lookup(length, key);
+        recorder.descent(length, key, 8);
         recorder.cancel(length, key);
     }
     for (key, total, displayed) in [(3, 100, 101), (3, 100, 100), (4, 10, 0), (3, 0, 0)] {
@@ -238,9 +266,70 @@ fn examples(recorder: &mut Recorder) {
     for r in [0, 1, 80, 81, u32::MAX] {
         recorder.seek(length, 1, P - 1, r);
     }
+    descents(recorder, length, &[1, 3, 4, 6, 7, P - 1]);
+    descents_refused(recorder, length);
     recorder.cancel(length, 3);
     recorder.cancel(length, 3);
 }
+
+/// To each key with every output from none to more than its path takes.
+fn descents(recorder: &mut Recorder, length: usize, keys: &[u32]) {
+    for &key in keys {
+        for room in 0..=9 {
+            recorder.descent(length, key, room);
+        }
+    }
+}
+
+/// Several questions of a descent answered "no", on a table that holds 3 and 6;
+/// then the same on a table that is damaged behind its header, which 4 does not
+/// see here.
+fn descents_refused(recorder: &mut Recorder, length: usize) {
+    for lent in [0, 1, 52, 53, length - 1] {
+        recorder.descent(lent, 0, 0);
+        recorder.descent(lent, 3, 8);
+    }
+    for key in [0, P, u32::MAX] {
+        recorder.descent(length, key, 0);
+    }
+    for place in [0, 4, 5, 6, 8, 10, 12, 13, 49] {
+        recorder.xor(place, 0xff);
+        recorder.descent(length, 0, 0);
+        recorder.descent(length, 3, 8);
+        recorder.xor(place, 0xff);
+    }
+    for block in 0..4 {
+        for (offset, bytes) in OTHER_BYTES {
+            let place = HEADER + block * 32 + offset;
+            let before = recorder.store[place..place + bytes.len()].to_vec();
+            recorder.set(place, bytes);
+            recorder.check(length);
+            recorder.descent(length, 0, 0);
+            for (key, room) in [(3, 0), (3, 8), (4, 5), (6, 7), (P - 1, 9)] {
+                recorder.descent(length, key, room);
+            }
+            recorder.set(place, &before);
+        }
+    }
+}
+
+/// Places in a block of two nodes, and what is written there: other levels, other
+/// counts, also greater than B, other chunk numbers, first keys and keys.
+const OTHER_BYTES: [(usize, &[u8]); 13] = [
+    (0, &[0]),
+    (0, &[2]),
+    (0, &[4]),
+    (0, &[255]),
+    (1, &[0]),
+    (1, &[3]),
+    (1, &[255]),
+    (2, &[0, 1]),
+    (2, &[255, 255]),
+    (4, &[0, 0, 0, 3]),
+    (4, &[255, 255, 255, 255]),
+    (8, &[255, 255, 255, 255]),
+    (20, &[0, 0, 0, 0]),
+];
 
 /// Each question of make answered "no", alone and with later ones.
 fn refused_makes(recorder: &mut Recorder) {
@@ -495,7 +584,7 @@ fn random_step(recorder: &mut Recorder, generator: &mut Xorshift, length: usize,
     }
 }
 
-/// One lookup, span or seek.
+/// One lookup, descent, span or seek.
 fn reading(recorder: &mut Recorder, generator: &mut Xorshift, length: usize, keys: &[u32]) {
     let (one, two) = (some_key(generator, keys), some_key(generator, keys));
     let (lo, hi) = if generator.one_in(8) {
@@ -503,28 +592,37 @@ fn reading(recorder: &mut Recorder, generator: &mut Xorshift, length: usize, key
     } else {
         (one.min(two), one.max(two))
     };
-    match generator.below(3) {
-        0 => recorder.lookup(length, one),
+    match generator.below(5) {
+        0 => {
+            recorder.lookup(length, one);
+        }
         1 => {
-            let room = output_length(recorder, generator, length, lo, hi);
-            recorder.span(length, lo, hi, room)
+            let needed = 12 * count(&orders(&recorder.store[..length]), lo, hi);
+            let room = output_length(generator, needed);
+            recorder.span(length, lo, hi, room);
         }
-        _ => {
+        2 => {
             let r = generator.pick(&[0, 1, 50, 1_000_000_000, 4_000_000_000, u32::MAX]);
-            recorder.seek(length, lo, hi, r)
+            recorder.seek(length, lo, hi, r);
         }
-    };
+        _ => some_descent(recorder, generator, length, one),
+    }
 }
 
-/// About as long as the orders in lo..hi need.
-fn output_length(
-    recorder: &Recorder,
-    generator: &mut Xorshift,
-    length: usize,
-    lo: u32,
-    hi: u32,
-) -> usize {
-    let needed = 12 * count(&orders(&recorder.store[..length]), lo, hi);
+/// A descent with an output of about the length that its path needs; where there
+/// is no path, of some length.
+fn some_descent(recorder: &mut Recorder, generator: &mut Xorshift, length: usize, key: u32) {
+    let table = &recorder.store[..length];
+    let needed = match held(table) {
+        Some((made, orders)) => 2 * path(table, &made, &orders, key).len(),
+        None => generator.below(40) as usize,
+    };
+    let room = output_length(generator, needed);
+    recorder.descent(length, key, room);
+}
+
+/// About as long as is needed.
+fn output_length(generator: &mut Xorshift, needed: usize) -> usize {
     match generator.below(6) {
         0 => 0,
         1 => needed.saturating_sub(1),
@@ -559,6 +657,9 @@ fn damage(recorder: &mut Recorder, generator: &mut Xorshift, sizes: &Sizes, keys
         let key = generator.pick(keys);
         recorder.put(length, key, 5, 2);
         recorder.cancel(length, key);
+        some_descent(recorder, generator, length, key);
+        let edge = generator.pick(&EDGE_KEYS);
+        some_descent(recorder, generator, length, edge);
     }
     reading(recorder, generator, length, keys);
     recorder.set(place, &before[place..place + width]);

@@ -4,8 +4,8 @@
 #![allow(dead_code)]
 
 use reference::calls;
-use reference::image::image;
-use reference::lists::{Orders, Quantities};
+use reference::image::{blocks, image};
+use reference::lists::{Label, Orders, Quantities};
 use reference::samples::{identity_seed, some_quantities, some_seed, Xorshift};
 use reference::sizes::{Made, Sizes, P};
 
@@ -85,4 +85,41 @@ pub fn some_orders(generator: &mut Xorshift, made: &Made, wanted: u32) -> Orders
         }
     }
     orders
+}
+
+/// A descent's path in another way: a walk over the blocks as they stand. In each
+/// level it goes on to the next chunk while that one starts at a key not above
+/// the one sought.
+pub fn walked_path(table: &[u8], key: u32) -> Vec<u16> {
+    let blocks = blocks(table).expect("an image");
+    let find = |level, first_key, chunk_number| {
+        let label = Label {
+            level,
+            first_key,
+            chunk_number,
+        };
+        blocks
+            .iter()
+            .position(|block| block.map(|block| block.label) == Some(label))
+    };
+    let keys = |at: usize| -> Vec<u32> {
+        let block = blocks[at].expect("a chunk");
+        block.nodes().map(|node| node.key).collect()
+    };
+    let highest = blocks.iter().flatten().map(|block| block.label.level).max();
+    let (mut path, mut head) = (Vec::new(), 0);
+    for level in (1..=highest.expect("a front")).rev() {
+        let mut at = find(level, head, 0).expect("a partition has a chunk 0");
+        path.push(at as u16);
+        for number in 1.. {
+            match find(level, head, number) {
+                Some(next) if keys(next)[0] <= key => at = next,
+                _ => break,
+            }
+            path.push(at as u16);
+        }
+        let last = keys(at).into_iter().rfind(|&other| other <= key);
+        head = last.expect("a chunk's first key was not above");
+    }
+    path
 }

@@ -1,9 +1,9 @@
-//! The seven calls of the archive, through its C interface.
+//! The calls of the archive, through its C interface.
 
 use reference::calls::Reply;
 use reference::sizes::Sizes;
 
-/// Something that answers the seven calls. Every buffer is lent as one that could be written, also where the call only reads, so that a
+/// Something that answers the calls. Every buffer is lent as one that could be written, also where the call only reads, so that a
 /// write there is seen.
 pub trait Calls {
     /// A new history starts.
@@ -13,6 +13,7 @@ pub trait Calls {
     fn put(&mut self, table: &mut [u8], key: u32, total: u32, displayed: u32) -> Reply;
     fn cancel(&mut self, table: &mut [u8], key: u32) -> Reply;
     fn lookup(&mut self, table: &mut [u8], key: u32) -> Reply;
+    fn descent(&mut self, table: &mut [u8], key: u32, path: &mut [u8]) -> Reply;
     fn span(&mut self, table: &mut [u8], lo: u32, hi: u32, output: &mut [u8]) -> Reply;
     fn seek(&mut self, table: &mut [u8], lo: u32, hi: u32, r: u32) -> Reply;
 }
@@ -23,6 +24,7 @@ struct RawReply {
     key: u32,
     total: u32,
     displayed: u32,
+    count: u32,
 }
 
 impl From<RawReply> for Reply {
@@ -32,6 +34,7 @@ impl From<RawReply> for Reply {
             key: raw.key,
             total: raw.total,
             displayed: raw.displayed,
+            count: raw.count,
         }
     }
 }
@@ -51,6 +54,13 @@ extern "C" {
     fn balluchaw_put(table: *mut u8, length: usize, key: u32, total: u32, displayed: u32) -> u32;
     fn balluchaw_cancel(table: *mut u8, length: usize, key: u32) -> u32;
     fn balluchaw_lookup(table: *const u8, length: usize, key: u32) -> RawReply;
+    fn balluchaw_descent(
+        table: *const u8,
+        length: usize,
+        key: u32,
+        path: *mut u8,
+        path_length: usize,
+    ) -> RawReply;
     fn balluchaw_span(
         table: *const u8,
         length: usize,
@@ -121,6 +131,11 @@ impl Calls for Archive {
     fn lookup(&mut self, table: &mut [u8], key: u32) -> Reply {
         let at = self.lend(table);
         unsafe { balluchaw_lookup(at, table.len(), key) }.into()
+    }
+
+    fn descent(&mut self, table: &mut [u8], key: u32, path: &mut [u8]) -> Reply {
+        let (at, path_at) = (self.lend(table), self.lend(path));
+        unsafe { balluchaw_descent(at, table.len(), key, path_at, path.len()) }.into()
     }
 
     fn span(&mut self, table: &mut [u8], lo: u32, hi: u32, output: &mut [u8]) -> Reply {

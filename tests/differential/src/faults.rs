@@ -3,7 +3,8 @@
 use crate::archive::{Archive, Calls};
 use reference::calls::Reply;
 use reference::image::{held, place, table};
-use reference::lists::{chunks, home, lists, Label, Orders};
+use reference::lists::{chunks, home, lists, Chunk, Label, Orders};
+use reference::paths::{numbers, way, NUMBER};
 use reference::sizes::{number_at, short_at, Made, Seed, Sizes, BLOCK_HEAD, HEADER, NODE, P, SEED};
 
 #[derive(Clone, Copy, PartialEq, Eq)]
@@ -38,9 +39,24 @@ pub enum Fault {
     LastByteKept,
     SeedTouched,
     ModBlocksFirst,
+    DescentNineFirst,
+    NineUnwritten,
+    LookAheadOnPath,
+    PathStrictlyBelow,
+    DisplayedForTotal,
+    NineUncounted,
+    CountInTotal,
+    PathBehind,
+    PathLittleEndian,
+    DescentJudgesAll,
+    PathOnEleven,
+    ExactPathRefused,
+    DescentTouches,
+    AstrayBehind,
+    AstrayCount,
 }
 
-pub const FAULTS: [(&str, Fault); 30] = [
+pub const FAULTS: [(&str, Fault); 45] = [
     (
         "a put that edits once and later only answers",
         Fault::PutOnce,
@@ -122,6 +138,60 @@ pub const FAULTS: [(&str, Fault); 30] = [
     ("a make that leaves the last byte", Fault::LastByteKept),
     ("a make that changes its seed", Fault::SeedTouched),
     ("a put that takes mod M before mod p", Fault::ModBlocksFirst),
+    ("a descent that asks 11 after 9", Fault::DescentNineFirst),
+    (
+        "a descent that does not write its path with 9",
+        Fault::NineUnwritten,
+    ),
+    (
+        "a descent with the chunk that it looked ahead at on its path",
+        Fault::LookAheadOnPath,
+    ),
+    (
+        "a descent along the keys strictly below its own",
+        Fault::PathStrictlyBelow,
+    ),
+    (
+        "a descent that gives displayed for total",
+        Fault::DisplayedForTotal,
+    ),
+    (
+        "a descent that counts no blocks with 9",
+        Fault::NineUncounted,
+    ),
+    (
+        "a span with its number of orders in total",
+        Fault::CountInTotal,
+    ),
+    (
+        "a descent that writes the byte behind its path",
+        Fault::PathBehind,
+    ),
+    (
+        "a descent that writes its numbers little-endian",
+        Fault::PathLittleEndian,
+    ),
+    (
+        "a descent that asks 4 of the whole image",
+        Fault::DescentJudgesAll,
+    ),
+    ("a descent that writes with 11", Fault::PathOnEleven),
+    (
+        "a descent that turns down an output of the exact length",
+        Fault::ExactPathRefused,
+    ),
+    (
+        "a descent that changes a byte of the table",
+        Fault::DescentTouches,
+    ),
+    (
+        "a descent that writes more than it counts on what is no table",
+        Fault::AstrayBehind,
+    ),
+    (
+        "a descent that counts more than its output holds on what is no table",
+        Fault::AstrayCount,
+    ),
 ];
 
 /// The archive with one fault.
@@ -271,12 +341,48 @@ impl Calls for Faulty {
         reply
     }
 
+    fn descent(&mut self, table: &mut [u8], key: u32, output: &mut [u8]) -> Reply {
+        let before = output.to_vec();
+        let mut reply = self.archive.descent(table, key, output);
+        let written = NUMBER * reply.count as usize;
+        match (self.fault, reply.number) {
+            (_, 4 | 5) if !self.is(Fault::DescentJudgesAll) => {}
+            (Fault::DescentNineFirst, 11) if self.archive.lookup(table, key).number == 9 => {
+                return Reply::refused(9)
+            }
+            (Fault::NineUnwritten, 9) => output.copy_from_slice(&before),
+            (Fault::NineUncounted, 9) => reply.count = 0,
+            (Fault::DisplayedForTotal, 0) => reply.total = reply.displayed,
+            (Fault::PathBehind, 0 | 9) if self.archive.check(table).number == 0 => {
+                if let Some(byte) = output.get_mut(written) {
+                    *byte ^= 1;
+                }
+            }
+            (Fault::PathLittleEndian, 0 | 9) => output[..written]
+                .chunks_exact_mut(NUMBER)
+                .for_each(<[u8]>::reverse),
+            (Fault::PathOnEleven, 11) if !output.is_empty() => output[0] ^= 1,
+            (Fault::DescentTouches, _) => table[HEADER] ^= 1,
+            (Fault::ExactPathRefused, 0 | 9) if written == output.len() => {
+                output.copy_from_slice(&before);
+                return Reply::refused(11);
+            }
+            (Fault::LookAheadOnPath | Fault::PathStrictlyBelow, _) => {
+                output.copy_from_slice(&before);
+                return self.along_another_path(table, key, output, reply);
+            }
+            _ => return self.astray(table, output, &before, reply),
+        }
+        reply
+    }
+
     fn span(&mut self, table: &mut [u8], lo: u32, hi: u32, output: &mut [u8]) -> Reply {
         let before = output.to_vec();
         let mut reply = self.archive.span(table, lo, hi, output);
-        let written = NODE * reply.total as usize;
+        let written = NODE * reply.count as usize;
         match (self.fault, reply.number) {
-            (Fault::CountInvented, 0) if reply.total == 7 => reply.total = 8,
+            (Fault::CountInvented, 0) if reply.count == 7 => reply.count = 8,
+            (Fault::CountInTotal, 0) => std::mem::swap(&mut reply.total, &mut reply.count),
             (Fault::OutputBehind, 0) if written < output.len() => output[written] = 0xee,
             (Fault::OutputOnRefusal, 11) if output.len() >= NODE => output[3] ^= 1,
             (Fault::ExactOutputRefused, 0) if written > 0 && written == output.len() => {
@@ -299,6 +405,93 @@ impl Calls for Faulty {
             _ => reply,
         }
     }
+}
+
+impl Faulty {
+    /// The faults of a descent that show on what is no table.
+    fn astray(
+        &mut self,
+        table: &mut [u8],
+        output: &mut [u8],
+        before: &[u8],
+        reply: Reply,
+    ) -> Reply {
+        let written = NUMBER * reply.count as usize;
+        if self.archive.check(table).number == 0 {
+            return reply;
+        }
+        match self.fault {
+            Fault::DescentJudgesAll => {
+                output.copy_from_slice(before);
+                Reply::refused(4)
+            }
+            Fault::AstrayBehind => {
+                if let Some(byte) = output.get_mut(written) {
+                    *byte ^= 1;
+                }
+                reply
+            }
+            Fault::AstrayCount => Reply {
+                count: (output.len() / NUMBER) as u32 + 1,
+                ..reply
+            },
+            _ => reply,
+        }
+    }
+
+    /// The answer of a descent that takes other blocks for its path.
+    fn along_another_path(
+        &mut self,
+        table: &mut [u8],
+        key: u32,
+        output: &mut [u8],
+        reply: Reply,
+    ) -> Reply {
+        let (made, orders) = match held(table) {
+            Some(held) => held,
+            None => return reply,
+        };
+        let lists = lists(&made, &orders);
+        let chunks = chunks(&made, &lists);
+        let labels = if self.is(Fault::LookAheadOnPath) {
+            looked_at(&way(&lists, &chunks, key), &chunks, key)
+        } else {
+            way(&lists, &chunks, key - 1)
+        };
+        if output.len() < NUMBER * labels.len() {
+            return Reply::refused(11);
+        }
+        let found = self.archive.lookup(table, key);
+        for (number, place) in numbers(table, &labels)
+            .iter()
+            .zip(output.chunks_exact_mut(NUMBER))
+        {
+            place.copy_from_slice(&number.to_be_bytes());
+        }
+        let count = labels.len() as u32;
+        Reply { count, ..found }
+    }
+}
+
+/// A way with the chunks behind it that a search looks at: those next to a chunk none of whose keys is above the one sought.
+fn looked_at(way: &[Label], chunks: &[Chunk], key: u32) -> Vec<Label> {
+    let mut looked = Vec::new();
+    for (place, &label) in way.iter().enumerate() {
+        looked.push(label);
+        let next = Label {
+            chunk_number: label.chunk_number + 1,
+            ..label
+        };
+        let own = chunks.iter().find(|chunk| chunk.label == label);
+        let passed = own.map_or(false, |chunk| {
+            chunk.nodes.iter().all(|node| node.key <= key)
+        });
+        let is_there = chunks.iter().any(|chunk| chunk.label == next);
+        if passed && is_there && way.get(place + 1) != Some(&next) {
+            looked.push(next);
+        }
+    }
+    looked
 }
 
 // ---- hands in the bytes --------------------------------------------------------

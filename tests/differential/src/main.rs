@@ -76,12 +76,17 @@ fn compare(seed: u64, amount: Amount) {
         eprintln!("differential: seed {seed}: changed tables were all images, or all none");
         exit(1);
     }
+    if met.tally.undecided == 0 {
+        eprintln!("differential: seed {seed}: no descent on what is no table");
+        exit(1);
+    }
     println!(
         "differential: seed {seed}: {} calls of the archive answered and left what the reference did; every call met all its numbers; \
-         of changed tables {} were none and {} still some; {:.0} s",
+         of changed tables {} were none and {} still some; {} descents on what is no table kept within their outputs; {:.0} s",
         met.tally.calls(),
         met.no_images,
         met.still_images,
+        met.tally.undecided,
         start.elapsed().as_secs_f64()
     );
 }

@@ -3,11 +3,15 @@
 use crate::steps::{Mismatch, Outcome, Pair, Step};
 use reference::calls::Reply;
 use reference::image::{held, image, place, table};
-use reference::lists::{chunks, lists, partitions, Chunk, Label, List, Orders, Quantities};
+use reference::lists::{
+    chunks, lists, partitions, Chunk, Element, Label, List, Orders, Quantities,
+};
+use reference::paths::{path, NUMBER};
 use reference::samples::{
     constant_seed, identity_seed, random_seed, some_quantities, zero_seed, Xorshift, EDGE_KEYS,
 };
 use reference::sizes::{Made, Seed, Sizes, BLOCK_HEAD, HEADER, NODE, P};
+use std::collections::BTreeMap;
 
 /// How much is done: `make test` does 150.
 #[derive(Clone, Copy)]
@@ -48,6 +52,7 @@ impl<'p, 'a> Rounds<'p, 'a> {
             }
             for _ in 0..40 {
                 self.other_chunks()?;
+                self.made_up_chunks()?;
             }
         }
         self.long_tables(amount)
@@ -378,7 +383,7 @@ impl Rounds<'_, '_> {
         Ok(())
     }
 
-    /// One lookup, span or seek.
+    /// One lookup, descent, span or seek.
     fn reading(&mut self, length: usize, keys: &[u32]) -> Outcome {
         let (one, two) = (self.key(keys), self.key(keys));
         let (lo, hi) = match self.generator.below(12) {
@@ -386,27 +391,10 @@ impl Rounds<'_, '_> {
             1 => (1, P - 1),
             _ => (one.min(two), one.max(two)),
         };
-        let step = match self.generator.below(3) {
+        let step = match self.generator.below(5) {
             0 => Step::Lookup { length, key: one },
-            1 => {
-                let held = held(&self.pair.bytes()[..length]).map_or(0, |(_, orders)| {
-                    orders.keys().filter(|&&key| lo <= key && key <= hi).count()
-                });
-                let needed = NODE * held;
-                let room = match self.generator.below(6) {
-                    0 => 0,
-                    1 => needed.saturating_sub(1),
-                    2 => needed.saturating_sub(NODE),
-                    3 => needed + self.generator.within(1, 30) as usize,
-                    _ => needed,
-                };
-                Step::Span {
-                    length,
-                    lo,
-                    hi,
-                    room,
-                }
-            }
+            1 | 2 => self.descent(length, one),
+            3 => self.span(length, lo, hi),
             _ => {
                 let r = self.generator.pick(&[
                     0,
@@ -422,6 +410,45 @@ impl Rounds<'_, '_> {
         };
         self.pair.take(step)?;
         Ok(())
+    }
+
+    /// A span with an output of the exact room, less, more or none.
+    fn span(&mut self, length: usize, lo: u32, hi: u32) -> Step {
+        let held = held(&self.pair.bytes()[..length]).map_or(0, |(_, orders)| {
+            orders.keys().filter(|&&key| lo <= key && key <= hi).count()
+        });
+        let needed = NODE * held;
+        let room = match self.generator.below(6) {
+            0 => 0,
+            1 => needed.saturating_sub(1),
+            2 => needed.saturating_sub(NODE),
+            3 => needed + self.generator.within(1, 30) as usize,
+            _ => needed,
+        };
+        Step::Span {
+            length,
+            lo,
+            hi,
+            room,
+        }
+    }
+
+    /// A descent with an output of the exact room, less, more or none; where there is no path, with some output.
+    fn descent(&mut self, length: usize, key: u32) -> Step {
+        let table = &self.pair.bytes()[..length];
+        let needed = match held(table) {
+            Some((made, orders)) => NUMBER * path(table, &made, &orders, key).len(),
+            None => self.generator.below(50) as usize,
+        };
+        let room = match self.generator.below(8) {
+            0 => 0,
+            1 => needed.saturating_sub(1),
+            2 => needed.saturating_sub(NUMBER),
+            3 => needed + 1,
+            4 => needed + self.generator.within(2, 30) as usize,
+            _ => needed,
+        };
+        Step::Descent { length, key, room }
     }
 
     /// The held orders put into a new table in another order, with others among them that are cancelled again: the bytes must be equal.
@@ -518,6 +545,8 @@ impl Rounds<'_, '_> {
             })?;
             for &key in &keys {
                 self.pair.take(Step::Lookup { length, key })?;
+                let descent = self.descent(length, key);
+                self.pair.take(descent)?;
                 for (total, displayed) in quantities {
                     let reply = self.pair.take(Step::Put {
                         length,
@@ -541,7 +570,7 @@ impl Rounds<'_, '_> {
 // ---- damage ------------------------------------------------------------------
 
 impl Rounds<'_, '_> {
-    /// Asks a changed table; now and then by every call.
+    /// Asks a changed table; now and then by a descent, or by every call.
     fn ask(&mut self, length: usize, keys: &[u32]) -> Outcome {
         let image = self.pair.take(Step::Check { length })?.number == 0;
         *if image {
@@ -549,6 +578,11 @@ impl Rounds<'_, '_> {
         } else {
             &mut self.no_images
         } += 1;
+        if self.generator.one_in(4) {
+            let key = self.key(keys);
+            let descent = self.descent(length, key);
+            self.pair.take(descent)?;
+        }
         if self.generator.one_in(12) {
             let key = self.key(keys);
             self.pair.take(Step::Put {
@@ -839,6 +873,84 @@ impl Rounds<'_, '_> {
         Ok(())
     }
 
+    /// Chunks of no lists, each where a search for its label finds it: partitions that lead astray, go round, or have no end in sight. Only what
+    /// a descent does there is asked; now and then a count is one that no block can have.
+    fn made_up_chunks(&mut self) -> Outcome {
+        let (mut made, _) = self.small_image(900);
+        made.sizes.blocks += self.generator.below(40);
+        let nodes = self.made_up_labels(&made.sizes);
+        let chunks: Vec<Chunk> = nodes
+            .iter()
+            .map(|(&label, nodes)| Chunk { label, nodes })
+            .collect();
+        let held = self.generator.within(0, made.sizes.orders) as usize;
+        let mut bytes = table(&made, held, &place(&made, &chunks));
+        if self.generator.one_in(3) {
+            let block = self.generator.below(made.sizes.blocks) as usize;
+            let count = HEADER + block * made.sizes.block_length() + 1;
+            bytes[count] = self
+                .generator
+                .pick(&[0, 1, made.sizes.nodes as u8 + 1, 255]);
+        }
+        self.pair.room(bytes.len(), 0);
+        self.pair.set(0, &bytes);
+        for _ in 0..6 {
+            let key = self.generator.pick(&[1, 2, 3, 4, 5, 7, 9, P - 1]);
+            let room = self.generator.below(4 * made.sizes.blocks + 8) as usize;
+            let length = bytes.len();
+            self.pair.take(Step::Descent { length, key, room })?;
+        }
+        Ok(())
+    }
+
+    /// At most M labels with some nodes each. The front has a partition in nearly every level, so that a descent comes down.
+    fn made_up_labels(&mut self, sizes: &Sizes) -> BTreeMap<Label, List> {
+        let beta = sizes.beta();
+        let label = |level, first_key, chunk_number| Label {
+            level,
+            first_key,
+            chunk_number,
+        };
+        let mut nodes = BTreeMap::new();
+        for level in 1..=beta {
+            if !self.generator.one_in(12) {
+                nodes.insert(label(level, 0, 0), self.made_up_nodes(sizes.nodes));
+            }
+        }
+        let wanted = self.generator.within(beta, sizes.blocks) as usize;
+        while nodes.len() < wanted {
+            let level = self.generator.within(1, beta);
+            let first_key = self.generator.pick(&[0, 0, 0, 1, 1, 2, 3]);
+            for chunk_number in 0..=self.generator.below(8) {
+                if nodes.len() < wanted {
+                    let own = label(level, first_key, chunk_number);
+                    nodes.insert(own, self.made_up_nodes(sizes.nodes));
+                }
+            }
+        }
+        nodes
+    }
+
+    /// Up to B nodes, their keys mostly small, in any order.
+    fn made_up_nodes(&mut self, most: u32) -> List {
+        let generator = &mut self.generator;
+        let count = if generator.one_in(3) {
+            generator.within(0, most)
+        } else {
+            most
+        };
+        (0..count)
+            .map(|_| {
+                let (total, displayed) = some_quantities(generator);
+                Element {
+                    key: generator.pick(&[0, 0, 0, 0, 0, 1, 1, 1, 2, 3, 9, u32::MAX]),
+                    quantities: Quantities { total, displayed },
+                    level: 1,
+                }
+            })
+            .collect()
+    }
+
     /// Chunks in rising label order, each of 1 to B nodes.
     fn cut_unevenly<'l>(&mut self, made: &Made, lists: &'l [List]) -> Vec<Chunk<'l>> {
         let mut cut = Vec::new();
@@ -894,6 +1006,23 @@ impl Rounds<'_, '_> {
         Ok(())
     }
 
+    /// Descents, the longest paths of the table among them; any calls; changed bytes.
+    fn some_calls(&mut self, made: &Made, keys: &[u32]) -> Outcome {
+        let length = made.sizes.length();
+        for key in [keys[0], keys[keys.len() / 2], keys[keys.len() - 1], P - 1] {
+            let descent = self.descent(length, key);
+            self.pair.take(descent)?;
+        }
+        let steps = if length > 1_000_000 { 8 } else { 40 };
+        for _ in 0..steps {
+            self.random_step(length, keys)?;
+        }
+        for _ in 0..3 {
+            self.damage(made, keys)?;
+        }
+        Ok(())
+    }
+
     /// M = 0 asks for exactly as many blocks as there are chunks.
     fn long_table(&mut self, sizes: Sizes, seed: Seed, held: usize) -> Outcome {
         let mut orders = Orders::new();
@@ -932,10 +1061,7 @@ impl Rounds<'_, '_> {
             hi: P - 1,
             room: NODE * held,
         })?;
-        let steps = if length > 1_000_000 { 8 } else { 40 };
-        for _ in 0..steps {
-            self.random_step(length, &keys)?;
-        }
+        self.some_calls(&made, &keys)?;
         // Out and in again: every byte as before.
         let before = self.pair.tested_bytes().to_vec();
         let key = self.generator.pick(&keys);

@@ -1,7 +1,7 @@
 //! Steps taken on both sides, and their comparison after each.
 
 use crate::archive::Calls;
-use reference::calls::{self, Reply};
+use reference::calls::{self, stays_within, Reply};
 use reference::image::held;
 use reference::samples::fnv_1a;
 use reference::sizes::Sizes;
@@ -41,6 +41,11 @@ pub enum Step {
         length: usize,
         key: u32,
     },
+    Descent {
+        length: usize,
+        key: u32,
+        room: usize,
+    },
     Span {
         length: usize,
         lo: u32,
@@ -56,10 +61,12 @@ pub enum Step {
 }
 
 /// Names of the calls, in the order of the tally.
-pub const CALLS: [&str; 7] = ["make", "check", "put", "cancel", "lookup", "span", "seek"];
+pub const CALLS: [&str; 8] = [
+    "make", "check", "put", "cancel", "lookup", "span", "seek", "descent",
+];
 
 /// The numbers that each call can answer.
-pub const NUMBERS: [&[usize]; 7] = [
+pub const NUMBERS: [&[usize]; 8] = [
     &[0, 1, 2, 3],
     &[0, 4],
     &[0, 4, 5, 6, 7, 8],
@@ -67,21 +74,26 @@ pub const NUMBERS: [&[usize]; 7] = [
     &[0, 4, 5, 9],
     &[0, 4, 5, 10, 11],
     &[0, 4, 5, 10, 12],
+    &[0, 4, 5, 9, 11],
 ];
 
-/// How often each call answered each number.
+/// How often each call answered each number, and how many descents there were whose answer no definition decides.
 #[derive(Clone, Default)]
-pub struct Tally(pub [[u64; 13]; 7]);
+pub struct Tally {
+    answered: [[u64; 13]; 8],
+    pub undecided: u64,
+}
 
 impl Tally {
     pub fn calls(&self) -> u64 {
-        self.0.iter().flatten().sum()
+        self.answered.iter().flatten().sum::<u64>() + self.undecided
     }
 
     /// Calls and numbers that were never met.
     pub fn missing(&self) -> Vec<String> {
-        let met = |call: usize, number: usize| self.0[call][number] > 0;
-        let all = (0..7).flat_map(|call| NUMBERS[call].iter().map(move |&number| (call, number)));
+        let met = |call: usize, number: usize| self.answered[call][number] > 0;
+        let all = (0..CALLS.len())
+            .flat_map(|call| NUMBERS[call].iter().map(move |&number| (call, number)));
         all.filter(|&(call, number)| !met(call, number))
             .map(|(call, number)| format!("{} {number}", CALLS[call]))
             .collect()
@@ -191,7 +203,6 @@ impl<'a> Pair<'a> {
     }
 
     fn compare(&mut self, step: &Step) -> Result<Reply, String> {
-        let (call, found, wanted, outputs);
         match *step {
             Step::Room { size, byte } => {
                 self.tested.restart();
@@ -204,42 +215,52 @@ impl<'a> Pair<'a> {
                 self.expected[place..place + bytes.len()].copy_from_slice(bytes);
                 return Ok(Reply::done());
             }
+            _ => {}
+        }
+        let (call, found, output) = self.on_tested(step)?;
+        let (wanted, expected_output) = on_reference(&mut self.expected, step);
+        let name = CALLS[call];
+        match wanted {
+            Some(wanted) => {
+                self.judge_answer(step, &found, &wanted)
+                    .map_err(|what| format!("{name} {what}"))?;
+                self.tally.answered[call][found.number as usize] += 1;
+            }
+            None => self.tally.undecided += 1,
+        }
+        holds_exactly(&self.store, &self.expected)
+            .map_err(|what| format!("{name} {what} the store"))?;
+        match output {
+            Some(lent) if wanted.is_none() => judge_undecided(&found, &expected_output, &lent),
+            Some(lent) => holds_exactly(&lent, &expected_output)
+                .map_err(|what| format!("{name} {what} the output")),
+            None => Ok(()),
+        }?;
+        Ok(found)
+    }
+
+    /// Makes the call on the tested side: its place among the calls, its answer, and the output that it was lent.
+    fn on_tested(&mut self, step: &Step) -> Result<(usize, Reply, Option<Fenced>), String> {
+        let Pair { tested, store, .. } = self;
+        Ok(match *step {
+            Step::Room { .. } | Step::Set { .. } => unreachable!("no calls"),
             Step::Make {
                 ref sizes,
                 ref seed,
                 length,
-            } => {
-                let mut lent = Fenced::new(seed, length);
-                found = self
-                    .tested
-                    .make(self.store.lent(length), sizes, lent.lent(seed.len()));
-                if !lent.whole() || lent.content() != seed {
-                    return Err("make changed its seed or bytes around it".into());
-                }
-                (call, outputs) = (0, None);
-            }
-            Step::Check { length } => {
-                found = self.tested.check(self.store.lent(length));
-                (call, outputs) = (1, None);
-            }
+            } => (0, self.make_on_tested(sizes, seed, length)?, None),
+            Step::Check { length } => (1, tested.check(store.lent(length)), None),
             Step::Put {
                 length,
                 key,
                 total,
                 displayed,
             } => {
-                let table = self.store.lent(length);
-                found = self.tested.put(table, key, total, displayed);
-                (call, outputs) = (2, None);
+                let found = tested.put(store.lent(length), key, total, displayed);
+                (2, found, None)
             }
-            Step::Cancel { length, key } => {
-                found = self.tested.cancel(self.store.lent(length), key);
-                (call, outputs) = (3, None);
-            }
-            Step::Lookup { length, key } => {
-                found = self.tested.lookup(self.store.lent(length), key);
-                (call, outputs) = (4, None);
-            }
+            Step::Cancel { length, key } => (3, tested.cancel(store.lent(length), key), None),
+            Step::Lookup { length, key } => (4, tested.lookup(store.lent(length), key), None),
             Step::Span {
                 length,
                 lo,
@@ -247,50 +268,71 @@ impl<'a> Pair<'a> {
                 room,
             } => {
                 let mut lent = Fenced::new(&before(room), room + length);
-                let table = self.store.lent(length);
-                found = self.tested.span(table, lo, hi, lent.lent(room));
-                (call, outputs) = (5, Some(lent));
+                let found = tested.span(store.lent(length), lo, hi, lent.lent(room));
+                (5, found, Some(lent))
             }
             Step::Seek { length, lo, hi, r } => {
-                found = self.tested.seek(self.store.lent(length), lo, hi, r);
-                (call, outputs) = (6, None);
+                (6, tested.seek(store.lent(length), lo, hi, r), None)
             }
-        }
-        let expected_output;
-        (wanted, expected_output) = on_reference(&mut self.expected, step);
-        let name = CALLS[call];
-        let seeks = matches!(step, Step::Seek { .. }) && wanted.number == 0;
-        let right = if seeks {
-            fits(&self.expected, step, &found)
-        } else {
-            found == wanted
-        };
-        if !right {
-            return Err(format!("{name} answered {found:?}, not {wanted:?}"));
-        }
-        self.tally.0[call][found.number as usize] += 1;
-        if let Some(place) = first_difference(self.store.content(), &self.expected) {
-            let (found, wanted) = (self.store.content()[place], self.expected[place]);
-            return Err(format!(
-                "{name} left {found} in byte {place} of the store, not {wanted}"
-            ));
-        }
-        if !self.store.whole() {
-            return Err(format!("{name} wrote outside the store"));
-        }
-        if let Some(lent) = outputs {
-            if let Some(place) = first_difference(lent.content(), &expected_output) {
-                let (found, wanted) = (lent.content()[place], expected_output[place]);
-                return Err(format!(
-                    "{name} left {found} in byte {place} of the output, not {wanted}"
-                ));
+            Step::Descent { length, key, room } => {
+                let mut lent = Fenced::new(&before(room), room + length);
+                let found = tested.descent(store.lent(length), key, lent.lent(room));
+                (7, found, Some(lent))
             }
-            if !lent.whole() {
-                return Err(format!("{name} wrote outside the output"));
-            }
+        })
+    }
+
+    /// A make, whose seed must stay.
+    fn make_on_tested(
+        &mut self,
+        sizes: &Sizes,
+        seed: &[u8],
+        length: usize,
+    ) -> Result<Reply, String> {
+        let mut lent = Fenced::new(seed, length);
+        let table = self.store.lent(length);
+        let found = self.tested.make(table, sizes, lent.lent(seed.len()));
+        if !lent.whole() || lent.content() != seed {
+            return Err("make changed its seed or bytes around it".into());
         }
         Ok(found)
     }
+
+    fn judge_answer(&self, step: &Step, found: &Reply, wanted: &Reply) -> Result<(), String> {
+        let seeks = matches!(step, Step::Seek { .. }) && wanted.number == 0;
+        let right = if seeks {
+            fits(&self.expected, step, found)
+        } else {
+            found == wanted
+        };
+        if right {
+            Ok(())
+        } else {
+            Err(format!("answered {found:?}, not {wanted:?}"))
+        }
+    }
+}
+
+/// Sees that a buffer has these bytes, and its margins theirs.
+fn holds_exactly(lent: &Fenced, expected: &[u8]) -> Result<(), String> {
+    if let Some(place) = first_difference(lent.content(), expected) {
+        let (found, wanted) = (lent.content()[place], expected[place]);
+        return Err(format!("left {found}, not {wanted}, in byte {place} of"));
+    }
+    if !lent.whole() {
+        return Err("wrote outside".into());
+    }
+    Ok(())
+}
+
+/// What is claimed of a descent where no definition decides its answer, beside that the table stays.
+fn judge_undecided(found: &Reply, before: &[u8], lent: &Fenced) -> Result<(), String> {
+    if !stays_within(found, before, lent.content()) || !lent.whole() {
+        return Err(format!(
+            "descent on what is no table answered {found:?} and wrote more of the output, or has no room there"
+        ));
+    }
+    Ok(())
 }
 
 fn first_difference(one: &[u8], two: &[u8]) -> Option<usize> {
@@ -326,8 +368,8 @@ fn fits(store: &[u8], step: &Step, found: &Reply) -> bool {
     }
 }
 
-/// The reference's answer, and the whole output of a span.
-fn on_reference(store: &mut [u8], step: &Step) -> (Reply, Vec<u8>) {
+/// The reference's answer, and the whole output of a span or descent. No answer where no definition decides; the output is then as before.
+fn on_reference(store: &mut [u8], step: &Step) -> (Option<Reply>, Vec<u8>) {
     let reply = match *step {
         Step::Room { .. } | Step::Set { .. } => Reply::done(),
         Step::Make {
@@ -359,11 +401,16 @@ fn on_reference(store: &mut [u8], step: &Step) -> (Reply, Vec<u8>) {
         } => {
             let mut output = before(room);
             let reply = calls::span(&store[..length], lo, hi, &mut output);
+            return (Some(reply), output);
+        }
+        Step::Descent { length, key, room } => {
+            let mut output = before(room);
+            let reply = calls::descent(&store[..length], key, &mut output);
             return (reply, output);
         }
         Step::Seek { length, lo, hi, r } => calls::seek(&store[..length], lo, hi, r),
     };
-    (reply, Vec::new())
+    (Some(reply), Vec::new())
 }
 
 // ---- a script that replays a mismatch ----------------------------------------
@@ -437,6 +484,7 @@ pub fn script(steps: &[Step]) -> String {
             } => format!("put {length} {key} {total} {displayed}"),
             Step::Cancel { length, key } => format!("cancel {length} {key}"),
             Step::Lookup { length, key } => format!("lookup {length} {key}"),
+            Step::Descent { length, key, room } => format!("descent {length} {key} {room}"),
             Step::Span {
                 length,
                 lo,
@@ -448,21 +496,28 @@ pub fn script(steps: &[Step]) -> String {
         text.push_str(&line);
         if !matches!(step, Step::Room { .. } | Step::Set { .. }) {
             let (reply, output) = on_reference(&mut store, step);
-            let Reply {
-                number,
-                key,
-                total,
-                displayed,
-            } = reply;
-            let hash = fnv_1a(&store);
-            write!(text, " = {number} {key} {total} {displayed} {hash:016x}").expect("a string");
-            if matches!(step, Step::Span { .. }) {
+            text.push_str(&answer(reply, &store));
+            if reply.is_some() && matches!(step, Step::Span { .. } | Step::Descent { .. }) {
                 write!(text, " {:016x}", fnv_1a(&output)).expect("a string");
             }
         }
         text.push('\n');
     }
     text
+}
+
+fn answer(reply: Option<Reply>, store: &[u8]) -> String {
+    let hash = fnv_1a(store);
+    match reply {
+        Some(Reply {
+            number,
+            key,
+            total,
+            displayed,
+            count,
+        }) => format!(" = {number} {key} {total} {displayed} {count} {hash:016x}"),
+        None => format!(" = ? {hash:016x}"),
+    }
 }
 
 fn hex(bytes: &[u8]) -> String {
