@@ -104,7 +104,8 @@ IN_SCRATCH = scratch=$$(mktemp -d $(SCRATCH)/balluchaw-XXXXXX) && trap 'rm -rf "
 PEER_CC := $(or $(shell command -v clang),$(CC))
 PEER_FLAGS = -O3 -march=native
 PEERS = build/peers/release/libpeers.a
-BENCH_C = $(addprefix bench/,bench.c timing.c scene.c report.c archive.c plain.c sqlite.c lmdb.c)
+BENCH_C = $(addprefix bench/,bench.c timing.c scene.c report.c archive.c paths.c plain.c sqlite.c lmdb.c)
+PEERS_O = build/check.o build/tuned.o build/descent.o
 BENCH_H = $(wildcard bench/*.h bench/peers/*.h bench/rust/*.h) include/balluchaw.h
 .PHONY: bench-need bench-build bench-smoke bench-count bench-worst bench-turns
 
@@ -123,8 +124,11 @@ build/check.o: bench/peers/check.c $(BENCH_H)
 build/tuned.o: bench/peers/check.c $(BENCH_H)
 	$(PEER_CC) $(PEER_FLAGS) -DTUNED -Dcheck_plain=check_tuned -c $< -o $@
 
-build/bench: $(BENCH_C) $(BENCH_H) build/check.o build/tuned.o $(ARCHIVE) $(PEERS)
-	$(CC) $(CFLAGS) -Iinclude -Ibench -DPEERS_BY='"$(shell $(PEER_CC) --version | head -n 1), $(PEER_FLAGS)"' $(BENCH_C) build/check.o build/tuned.o \
+build/descent.o: bench/peers/descent.c $(BENCH_H)
+	$(PEER_CC) $(PEER_FLAGS) -c $< -o $@
+
+build/bench: $(BENCH_C) $(BENCH_H) $(PEERS_O) $(ARCHIVE) $(PEERS)
+	$(CC) $(CFLAGS) -Iinclude -Ibench -DPEERS_BY='"$(shell $(PEER_CC) --version | head -n 1), $(PEER_FLAGS)"' $(BENCH_C) $(PEERS_O) \
 		$(ARCHIVE) $(PEERS) -lsqlite3 -llmdb -lpthread -ldl -lm -o $@
 
 build/stack: bench/stack.c $(BENCH_H) $(ARCHIVE) $(PEERS)
@@ -136,9 +140,14 @@ bench: bench-build
 	@(echo; cat build/stack.out) >> bench/results/results.txt
 	@python3 bench/plot.py bench/results
 
-# The calls' instructions, by callgrind: they do not depend on what else the machine does.
-build/count: bench/count.c $(BENCH_C) $(BENCH_H) build/check.o build/tuned.o $(ARCHIVE) $(PEERS)
-	$(CC) $(CFLAGS) -Iinclude -Ibench bench/count.c bench/scene.c bench/archive.c build/check.o build/tuned.o $(ARCHIVE) $(PEERS) -lpthread -ldl -lm -o $@
+# The calls' instructions, by callgrind: they do not depend on what else the machine does. It does not know every instruction of the machine at hand, so the
+# descent in C is compiled without those.
+COUNTED = build/check.o build/tuned.o build/descent-counted.o
+build/descent-counted.o: bench/peers/descent.c $(BENCH_H)
+	$(PEER_CC) -O3 -c $< -o $@
+
+build/count: bench/count.c $(BENCH_C) $(BENCH_H) $(COUNTED) $(ARCHIVE) $(PEERS)
+	$(CC) $(CFLAGS) -Iinclude -Ibench bench/count.c bench/scene.c bench/archive.c $(COUNTED) $(ARCHIVE) $(PEERS) -lpthread -ldl -lm -o $@
 
 bench-count: bench-build
 	@$(MAKE) --no-print-directory build/count
@@ -161,10 +170,10 @@ define SIDE
 @$(CC) $(CFLAGS) -I$(2)/include -I$(2)/bench -c $(2)/bench/archive.c -o build/$(1)-calls.o
 @ld -r build/$(1)-calls.o $(2)/$(ARCHIVE) -o build/$(1).o
 @nm build/$(1).o | sed -n 's/.* T archive_\(.*\)/archive_\1 $(1)_\1/p' > build/$(1).names
-@objcopy --redefine-syms=build/$(1).names --wildcard --localize-symbol='balluchaw_*' --localize-symbol='check_in_*' build/$(1).o
+@objcopy --redefine-syms=build/$(1).names --wildcard --localize-symbol='balluchaw_*' --localize-symbol='check_in_*' --localize-symbol='descent_in_*' build/$(1).o
 endef
 TURNS = bench/turns.c bench/timing.c bench/scene.c
-TURNED = build/check.o build/tuned.o $(ARCHIVE) $(PEERS) -lpthread -ldl -lm
+TURNED = $(PEERS_O) $(ARCHIVE) $(PEERS) -lpthread -ldl -lm
 
 bench-turns: bench-build
 	@test -f '$(BEFORE)/$(ARCHIVE)' || { echo "make bench-turns BEFORE=folder, of the project as it was before, where make archive was done"; exit 2; }
@@ -173,12 +182,13 @@ bench-turns: bench-build
 	@$(CC) $(CFLAGS) -Iinclude -Ibench $(TURNS) build/before.o build/now.o $(TURNED) -o build/turns && echo "now linked second:" && build/turns $(ROUNDS)
 	@$(CC) $(CFLAGS) -Iinclude -Ibench $(TURNS) build/now.o build/before.o $(TURNED) -o build/turns && echo "now linked first:" && build/turns $(ROUNDS)
 
-# One small table, three rounds: are all answers right, and the bytes as before after a cancel and a put? Are the slow tables tables, and are README's figures
-# those of the results?
+# One small table, three rounds: are all answers right, and the bytes as before after a cancel and a put? Are the descents on more tables those of the C, path
+# and all? Are the slow tables tables, and are README's figures those of the results?
 bench-smoke: bench-build
 	@$(IN_SCRATCH) && { build/bench $$scratch > build/bench-smoke.out || { cat build/bench-smoke.out; exit 1; }; }
 	@tail -n 1 build/bench-smoke.out
 	@$(MAKE) --no-print-directory bench-turns BEFORE=. ROUNDS=1 > build/turns-smoke.out && echo "two archives in turns: $$(grep -c '^[a-z].* γ ' build/turns-smoke.out) rows, all answers right"
+	@$(MAKE) --no-print-directory build/count > build/count-smoke.out && build/stack > build/stack-smoke.out && build/count && echo "calls on a painted stack and calls to count: all answers right"
 	@build/worst 4096 > build/worst-smoke.out && echo "slow tables: $$(tail -n +3 build/worst-smoke.out | wc -l) are tables, and a put into each gives its bytes"
 	@python3 bench/table.py bench/results README.md
 	@bench/undefined $(ARCHIVE)

@@ -1,6 +1,7 @@
-/* The archive's seven calls but make, and the checks in C: what is timed of them, and what their answers must be. */
+/* The archive's eight calls but make, and the checks and the descent in C: what is timed of them, and what their answers must be. */
 #include "balluchaw.h"
 #include "peers/check.h"
+#include "peers/descent.h"
 #include "variants.h"
 
 enum { RESERVE = 2000000000 };
@@ -31,10 +32,25 @@ int archive_lookup(void *p) {
     return r.number != 0 || r.total != s->picked.total || r.displayed != s->picked.displayed;
 }
 
+/* The next key that is asked for. One that is not held has no quantities, and an order's total is at least 1. */
+int archive_descent(void *p) {
+    scene *s = p;
+    const order *o = s->asked++;
+    balluchaw_reply r = balluchaw_descent(s->table, s->length, o->key, s->path, s->path_room);
+    return r.number != (o->total ? 0 : 9) || r.total != o->total || r.displayed != o->displayed;
+}
+
+int descent_in_fast_c(void *p) {
+    scene *s = p;
+    const order *o = s->asked++;
+    descended r = descent_fast(s->table, s->length, o->key, s->path, s->path_room);
+    return r.number != (o->total ? 0 : 9) || r.total != o->total || r.displayed != o->displayed;
+}
+
 int archive_span(void *p) {
     const scene *s = p;
     balluchaw_reply r = balluchaw_span(s->table, s->length, 1, P31 - 1, s->output, s->room);
-    return r.number != 0 || r.total != s->of.held;
+    return r.number != 0 || r.count != s->of.held;
 }
 
 /* From the picked order on, one with a large reserve; near the end there may be none. */

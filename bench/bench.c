@@ -3,8 +3,9 @@
  *     bench SCRATCH RESULTS      writes RESULTS/results.txt and RESULTS/results.csv; SCRATCH has the files of the databases, best in memory
  *     bench SCRATCH              one small configuration, few rounds, more questions about the answers; writes nothing
  *
- * Checks are in ns for each order held, other calls in µs; medians of the rounds and the best. A put of the archive leaves canonical bytes and checks the
- * table first. The others' puts are followed by what makes their bytes canonical, unless they are said to be alone; where they check first, it is said. */
+ * Checks are in ns for each order held, descents in ns, other calls in µs; medians of the rounds and the best. A put of the archive leaves canonical bytes and
+ * checks the table first. The others' puts are followed by what makes their bytes canonical, unless they are said to be alone; where they check first, it is
+ * said. */
 #include "balluchaw.h"
 #include "report.h"
 #include "rust/peers.h"
@@ -15,8 +16,8 @@
 
 enum { SMOKE_ROUNDS = 3 };
 
-/* CPU time for the checks of a configuration, for its calls, and for its calls together with the others'. */
-enum { CHECK_SECONDS = 1, CALL_SECONDS = 2, ALL_SECONDS = 5 };
+/* CPU time for the checks of a configuration, for its calls, for its calls together with the others', and for its descents. */
+enum { CHECK_SECONDS = 1, CALL_SECONDS = 2, ALL_SECONDS = 5, DESCENT_SECONDS = 2 };
 
 static const configuration configurations[] = {
     {"load 0.80", 16, 16, 100, 80, RANDOM, 1, 1},    {"load 0.80", 16, 16, 300, 80, RANDOM, 1, 1},   {"load 0.80", 16, 16, 1000, 80, RANDOM, 0, 1},
@@ -26,6 +27,13 @@ static const configuration configurations[] = {
     {"small blocks", 2, 2, 30000, 80, RANDOM, 0, 0}, {"large blocks", 64, 32, 1000, 80, RANDOM, 0, 0}, {"large blocks", 64, 32, 10000, 80, RANDOM, 0, 0},
     {"large blocks", 64, 32, 60000, 80, RANDOM, 0, 0}, {"full", 16, 16, 1000, 100, RANDOM, 0, 0},    {"full", 16, 16, 10000, 100, RANDOM, 0, 0},
     {"full", 16, 16, 60000, 100, RANDOM, 0, 0},      {"one home", 16, 16, 10000, 80, ONE_HOME, 0, 0}, {"one partition", 16, 16, 60000, 80, FLAT, 0, 0},
+};
+
+/* Where nothing is timed, and the two descents are only compared: paths of one block a level, of hundreds, round the table's end, of places past p. */
+static const configuration compared[] = {
+    {"one order", 16, 16, 1, 80, RANDOM, 0, 0},          {"small blocks", 2, 2, 3000, 80, RANDOM, 0, 0}, {"large blocks", 64, 32, 3000, 80, RANDOM, 0, 0},
+    {"load 0.80", 16, 16, 10000, 80, RANDOM, 0, 0},      {"full", 16, 16, 3000, 100, RANDOM, 0, 0},      {"one home", 16, 16, 1000, 80, ONE_HOME, 0, 0},
+    {"one partition", 16, 16, 3000, 80, FLAT, 0, 0},     {"all in all lists", 2, 5, 300, 80, TALL, 0, 0}, {"past p", 2, 2, 60, 80, NEAR_P, 0, 0},
 };
 
 /* Calls between two looks at the clock and batches in a round are set by `prepare`: 0 is one call, FEW and MANY follow the number of orders. */
@@ -82,6 +90,25 @@ static const variant other_calls[] = {
     {"put", "LMDB alone", lmdb_put_alone, lmdb_away, 0, 1, FEW, {0}},
 };
 
+/* Each round has its own keys, the same for all. */
+static const variant descents[] = {
+    {"descent, key held", "balluchaw", archive_descent, ask_held, 0, ASKED, 1, {0}},
+    {"descent, key held", "descent_fast", descent_in_fast_c, ask_held, 0, ASKED, 1, {0}},
+    {"descent, key not held", "balluchaw", archive_descent, ask_free, 0, ASKED, 1, {0}},
+    {"descent, key not held", "descent_fast", descent_in_fast_c, ask_free, 0, ASKED, 1, {0}},
+};
+
+static const variant other_descents[] = {
+    {"descent, key held", "BTreeMap", map_descent, ask_held, 0, ASKED, 1, {0}},
+    {"descent, key held", "SQLite", sqlite_descent, ask_held, 0, ASKED, 1, {0}},
+    {"descent, key held", "LMDB get", lmdb_get, lmdb_asks_held, lmdb_asked, ASKED, 1, {0}},
+    {"descent, key held", "LMDB renew + get", lmdb_renewed_get, lmdb_asks_held, lmdb_asked, ASKED, 1, {0}},
+    {"descent, key not held", "BTreeMap", map_descent, ask_free, 0, ASKED, 1, {0}},
+    {"descent, key not held", "SQLite", sqlite_descent, ask_free, 0, ASKED, 1, {0}},
+    {"descent, key not held", "LMDB get", lmdb_get, lmdb_asks_free, lmdb_asked, ASKED, 1, {0}},
+    {"descent, key not held", "LMDB renew + get", lmdb_renewed_get, lmdb_asks_free, lmdb_asked, ASKED, 1, {0}},
+};
+
 static int often(int wanted, uint32_t held) {
     if (wanted == FEW) return 1 + 10000 / (int)held;
     if (wanted == MANY) return 1 + 60000 / (int)held;
@@ -102,7 +129,7 @@ static void measure_checks(scene *s, int rounds) {
     variant variants[MOST_VARIANTS];
     int count = add(variants, 0, checks, sizeof checks, s->of.held);
     if (s->of.others) count = add(variants, count, other_checks, sizeof other_checks, s->of.held);
-    report_keep(variants, count, take_turns(variants, count, s, CHECK_SECONDS, rounds), 0);
+    report_keep(variants, count, take_turns(variants, count, s, NULL, CHECK_SECONDS, rounds), EACH_ORDER);
 }
 
 /* What each call takes beyond the check: the two of them alone, in turns, in many more rounds; so nothing else comes between and fills the cache. */
@@ -110,7 +137,7 @@ static void measure_beyond(const variant *check, scene *s, int rounds) {
     for (const variant *v = check + 1; strcmp(v->who, check->who) == 0; v++) {
         variant pair[2] = {*check, *v};
         if (strcmp(v->operation, "span of all") == 0) continue;
-        report_beyond(pair, take_turns(pair, 2, s, 0, rounds));
+        report_beyond(pair, take_turns(pair, 2, s, NULL, 0, rounds));
     }
 }
 
@@ -118,8 +145,19 @@ static void measure_calls(scene *s, int rounds) {
     variant variants[MOST_VARIANTS];
     int count = add(variants, 0, calls, sizeof calls, s->of.held);
     if (s->of.others) count = add(variants, count, other_calls, sizeof other_calls, s->of.held);
-    report_keep(variants, count, take_turns(variants, count, s, s->of.others ? ALL_SECONDS : CALL_SECONDS, rounds), 1);
+    report_keep(variants, count, take_turns(variants, count, s, NULL, s->of.others ? ALL_SECONDS : CALL_SECONDS, rounds), BEYOND_CHECK);
     measure_beyond(variants, s, rounds ? rounds : MOST_ROUNDS);
+    same_bytes(s);
+}
+
+static void measure_descents(scene *s, int rounds) {
+    variant variants[MOST_VARIANTS];
+    int count = add(variants, 0, descents, sizeof descents, s->of.held);
+    if (s->of.others) count = add(variants, count, other_descents, sizeof other_descents, s->of.held);
+    compare_descents(s);
+    report_keep(variants, count, take_turns(variants, count, s, choose_keys, DESCENT_SECONDS, rounds), EACH_CALL);
+    report_path("descent, key held", mean_path(s, ask_held));
+    report_path("descent, key not held", mean_path(s, ask_free));
     same_bytes(s);
 }
 
@@ -133,7 +171,10 @@ static void measure(configuration of, int strict) {
     }
     report_begin(&s);
     measure_checks(&s, strict ? SMOKE_ROUNDS : 0);
-    if (!of.checks_only) measure_calls(&s, strict ? SMOKE_ROUNDS : 0);
+    if (!of.checks_only) {
+        measure_calls(&s, strict ? SMOKE_ROUNDS : 0);
+        measure_descents(&s, strict ? SMOKE_ROUNDS : 0);
+    }
     report_last(stdout);
     fflush(stdout);
     if (of.others) {
@@ -142,6 +183,23 @@ static void measure(configuration of, int strict) {
         lmdb_close();
     }
     scene_close(&s);
+}
+
+static void compare(configuration of) {
+    scene s;
+    scene_open(&s, of, 1);
+    compare_descents(&s);
+    same_bytes(&s);
+    scene_close(&s);
+}
+
+static int smoke(void) {
+    const size_t tables = sizeof compared / sizeof *compared;
+    measure((configuration){"load 0.80", 16, 16, 1000, 80, RANDOM, 0, 1}, 1);
+    measure((configuration){"full", 2, 2, 300, 100, RANDOM, 0, 0}, 1);
+    for (size_t i = 0; i < tables; i++) compare(compared[i]);
+    printf("\nall answers were right, descents and their paths as in C on %zu tables, and the bytes as before after each cancel and put\n", 2 + tables);
+    return 0;
 }
 
 static FILE *result(const char *directory, const char *name) {
@@ -158,7 +216,7 @@ static FILE *result(const char *directory, const char *name) {
 static void write_results(const char *directory) {
     FILE *text = result(directory, "results.txt"), *csv = result(directory, "results.csv");
     fprintf(text, "One process, variants taking turns, CPU time of the thread; medians of the rounds.\n");
-    fprintf(text, "The checks in C: %s. SQLite %s in memory, secure_delete on. %s.\n\n", PEERS_BY, sqlite_name(), lmdb_name());
+    fprintf(text, "The checks and the descent in C: %s. SQLite %s in memory, secure_delete on. %s.\n\n", PEERS_BY, sqlite_name(), lmdb_name());
     report_summary(text);
     report_all(text);
     report_csv(csv);
@@ -168,12 +226,7 @@ static void write_results(const char *directory) {
 int main(int argc, char **argv) {
     if (argc < 2 || argc > 3) return fprintf(stderr, "bench SCRATCH [RESULTS]\n"), 2;
     scratch = argv[1];
-    if (argc == 2) {
-        measure((configuration){"load 0.80", 16, 16, 1000, 80, RANDOM, 0, 1}, 1);
-        measure((configuration){"full", 2, 2, 300, 100, RANDOM, 0, 0}, 1);
-        printf("\nall answers were right, and the bytes were as before after each cancel and put\n");
-        return 0;
-    }
+    if (argc == 2) return smoke();
     for (size_t i = 0; i < sizeof configurations / sizeof *configurations; i++) measure(configurations[i], 0);
     printf("\n");
     report_summary(stdout);

@@ -33,6 +33,11 @@ static void count_all(configuration of) {
     count(&s, "check", archive_check, NULL, NULL);
     count(&s, "span of all", archive_span, NULL, NULL);
     for (int i = 0; i < KEYS; i++) {
+        choose_keys(&s);
+        count(&s, "descent", archive_descent, ask_held, NULL);
+        count(&s, "descent in C", descent_in_fast_c, ask_held, NULL);
+        count(&s, "descent, not held", archive_descent, ask_free, NULL);
+        count(&s, "the same in C", descent_in_fast_c, ask_free, NULL);
         count(&s, "lookup", archive_lookup, archive_pick, NULL);
         count(&s, "seek", archive_seek, archive_pick, NULL);
         count(&s, "cancel", archive_cancel, archive_pick, archive_back);

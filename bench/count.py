@@ -1,12 +1,13 @@
 #!/usr/bin/env python3
 """count.py DIRECTORY   adds up the dumps of count.c there: for each configuration the check's instructions for each order, and the median of
-the instructions that each other call takes beyond a check of the table that it was made with."""
+the instructions that each other call takes beyond a check of the table that it was made with, or in all if it makes none."""
 import glob
 import re
 import statistics
 import sys
 
 CALLS = ["lookup", "seek", "span of all", "cancel", "put", "put of a held key"]
+UNCHECKED = ["descent", "descent in C", "descent, not held", "the same in C"]
 
 
 def dumps(directory):
@@ -23,11 +24,13 @@ def main():
     for scene, call, instructions in dumps(sys.argv[1]):
         counts.setdefault((scene, call), []).append(instructions)
         scenes[scene] = None
-    print(f"{'instructions':<24} {'check':>10}   beyond the check, median\n{'':<24} {'an order':>10} " + " ".join(f"{call:>17}" for call in CALLS))
+    columns = " ".join(f"{call:>17}" for call in CALLS + UNCHECKED)
+    print(f"{'instructions':<24} {'check':>10}   {'beyond the check, median':<{18 * len(CALLS) - 2}} in all, median\n{'':<24} {'an order':>10} {columns}")
     for title, held in scenes:
         check = counts[(title, held), "check"][0]
         more = [statistics.median(counts[(title, held), call]) - check for call in CALLS]
-        print(f"{title:<16} {held:>7} {check / held:>10.1f} " + " ".join(f"{value:>17,.0f}" for value in more))
+        whole = [statistics.median(counts[(title, held), call]) for call in UNCHECKED]
+        print(f"{title:<16} {held:>7} {check / held:>10.1f} " + " ".join(f"{value:>17,.0f}" for value in more + whole))
 
 
 main()

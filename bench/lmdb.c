@@ -123,6 +123,41 @@ int lmdb_lookup(void *p) {
     return wrong;
 }
 
+/* LMDB wants a transaction even for reading: it may stay open while many keys are asked for, or be renewed for each, which alone sees later changes. */
+static MDB_txn *reading;
+
+void lmdb_asks_held(void *p) {
+    ask_held(p);
+    reading = begin(&main_store, MDB_RDONLY);
+}
+
+void lmdb_asks_free(void *p) {
+    ask_free(p);
+    reading = begin(&main_store, MDB_RDONLY);
+}
+
+void lmdb_asked(void *p) {
+    (void)p;
+    mdb_txn_abort(reading);
+}
+
+int lmdb_get(void *p) {
+    scene *s = p;
+    const order *o = s->asked++;
+    u8 bytes[4];
+    wbe32(bytes, o->key);
+    MDB_val key = {4, bytes}, value;
+    int code = mdb_get(reading, main_store.dbi, &key, &value);
+    if (o->total == 0) return code != MDB_NOTFOUND;
+    return code != 0 || be32(value.mv_data) != o->total || be32((u8 *)value.mv_data + 4) != o->displayed;
+}
+
+int lmdb_renewed_get(void *p) {
+    mdb_txn_reset(reading);
+    need_ok(mdb_txn_renew(reading), "renew");
+    return lmdb_get(p);
+}
+
 static void write_row(void *output, u32 i, const MDB_val *key, const MDB_val *value) {
     u8 *row = (u8 *)output + 12 * (size_t)i;
     memcpy(row, key->mv_data, 4);

@@ -40,7 +40,16 @@ void map_close(void) { book_free(map); }
 int map_lookup(void *p) {
     scene *s = p;
     pick(s);
-    return book_lookup(map, s->picked.key) != s->picked.total;
+    u32 displayed;
+    return book_lookup(map, s->picked.key, &displayed) != s->picked.total;
+}
+
+/* The next key that is asked for, held or not. */
+int map_descent(void *p) {
+    scene *s = p;
+    const order *o = s->asked++;
+    u32 displayed, total = book_lookup(map, o->key, &displayed);
+    return total != o->total || displayed != o->displayed;
 }
 
 int map_span(void *p) {

@@ -2,6 +2,7 @@
 #include "report.h"
 #include "rust/peers.h"
 
+#include <math.h>
 #include <stdlib.h>
 #include <string.h>
 
@@ -13,6 +14,7 @@ typedef struct {
     double median, best;  /* in the unit */
     double ours;          /* the archive's time for each of its own, the median of the rounds */
     double beyond, noise; /* µs beyond the check, and the error to expect */
+    double path;          /* the mean number of blocks on the archive's path; 0 where there is none */
 } row;
 
 static row rows[MOST_ROWS];
@@ -30,18 +32,20 @@ void report_begin(const scene *s) {
     scenes[scene_count++] = *s;
 }
 
-void report_keep(const variant *variants, int count, int rounds, int beyond) {
-    for (int i = beyond; i < count; i++) {
+void report_keep(const variant *variants, int count, int rounds, int figure) {
+    static const char *const units[] = {"ns/order", "us", "ns"};
+    const double unit = figure == EACH_ORDER ? scenes[scene_count - 1].of.held : figure == BEYOND_CHECK ? 1000 : 1;
+    for (int i = figure == BEYOND_CHECK; i < count; i++) {
         const variant *v = variants + i, *first = ours(variants, v);
-        double unit = beyond ? 1000 : scenes[scene_count - 1].of.held, middle = median(v->ns, rounds);
+        double middle = median(v->ns, rounds);
         if (row_count == MOST_ROWS) exit(2);
         rows[row_count++] = (row){.scene = scene_count - 1,
                                   .rounds = rounds,
-                                  .is_beyond = beyond && v == first,
+                                  .is_beyond = figure == BEYOND_CHECK && v == first,
                                   .beyond_rounds = rounds,
                                   .operation = v->operation,
                                   .who = v->who,
-                                  .unit = beyond ? "us" : "ns/order",
+                                  .unit = units[figure],
                                   .median = middle / unit,
                                   .best = least(v->ns, rounds) / unit,
                                   .ours = ratio(first, v, rounds),
@@ -60,6 +64,13 @@ void report_beyond(const variant *pair, int rounds) {
     }
 }
 
+void report_path(const char *operation, double blocks) {
+    for (row *r = rows; r < rows + row_count; r++)
+        if (r->scene == scene_count - 1 && strcmp(r->operation, operation) == 0 && strcmp(r->who, "balluchaw") == 0) r->path = blocks;
+}
+
+static double log_nodes(const scene *s) { return log(s->of.held) / log(s->of.nodes); }
+
 static void print_scene(FILE *to, const scene *s) {
     fprintf(to, "\n%s: γ %u, B %u, %u orders, %u chunks in %u blocks, %zu bytes\n", s->of.title, s->of.gamma, s->of.nodes, s->of.held, s->full,
             s->blocks, s->length);
@@ -68,6 +79,7 @@ static void print_scene(FILE *to, const scene *s) {
 static void print_row(FILE *to, const row *r) {
     fprintf(to, "    %-50s %12.2f %12.2f %10.3f", r->who, r->median, r->best, r->ours);
     if (r->is_beyond) fprintf(to, "   %.2f us beyond the check, +- %.2f, %d rounds", r->beyond, r->noise, r->beyond_rounds);
+    if (r->path > 0) fprintf(to, "   %.2f blocks on the path, mean; log_B n is %.2f", r->path, log_nodes(&scenes[r->scene]));
     fprintf(to, "\n");
 }
 
@@ -132,12 +144,16 @@ static void print_times(FILE *to, const char *operation, const char *who, const 
     fprintf(to, "%s\n", asked);
 }
 
-static void print_all_times(FILE *to) {
-    static const char *asked = "   asked for: 10";
-    fprintf(to, "\n%-60s", "Times as fast as the others");
+static void print_orders(FILE *to, const char *title) {
+    fprintf(to, "\n%-60s", title);
     for (int i = 0; i < scene_count; i++)
         if (scenes[i].of.others) fprintf(to, " %7u", scenes[i].of.held);
     fprintf(to, "   orders\n");
+}
+
+static void print_all_times(FILE *to) {
+    static const char *asked = "   asked for: 10";
+    print_orders(to, "Times as fast as the others");
     print_times(to, "check", "SQLite WITHOUT ROWID integrity_check", asked);
     print_times(to, "check", "SQLite integrity_check", "");
     print_times(to, "check", "reference", "");
@@ -155,24 +171,59 @@ static void print_all_times(FILE *to) {
     }
 }
 
+/* A line of the descents' table: a figure of one row for each scene in which the others were measured. */
+static void print_descent(FILE *to, const char *operation, const char *who, const char *what, double (*figure)(const row *), const char *asked) {
+    fprintf(to, "%-22s %-37s", operation, what);
+    for (int i = 0; i < scene_count; i++) {
+        const row *r = find(i, operation, who);
+        if (r && scenes[i].of.others) fprintf(to, " %7.2f", figure(r));
+        else if (scenes[i].of.others) fprintf(to, " %7s", "");
+    }
+    fprintf(to, "%s\n", asked);
+}
+
+static double in_ns(const row *r) { return r->median; }
+static double over_it(const row *r) { return r->ours; }
+static double on_the_path(const row *r) { return r->path; }
+static double paper(const row *r) { return log_nodes(&scenes[r->scene]); }
+
+static void print_descents(FILE *to) {
+    static const char *operations[] = {"descent, key held", "descent, key not held"};
+    print_orders(to, "Descents: the archive's time, also for each ns of another's");
+    for (int k = 0; k < 2; k++) {
+        print_descent(to, operations[k], "balluchaw", "ns", in_ns, "");
+        print_descent(to, operations[k], "descent_fast", "for each of the descent in C", over_it, "   asked for: at most 1.3");
+        print_descent(to, operations[k], "SQLite", "for each of SQLite's SELECT", over_it, "   asked for: less than 1");
+        print_descent(to, operations[k], "LMDB get", "for each of LMDB's get", over_it, "");
+        print_descent(to, operations[k], "LMDB renew + get", "for each of LMDB's renew and get", over_it, "");
+        print_descent(to, operations[k], "BTreeMap", "for each of a BTreeMap", over_it, "");
+        print_descent(to, operations[k], "balluchaw", "blocks on the path, mean", on_the_path, "");
+        print_descent(to, operations[k], "balluchaw", "log_B n, the paper's", paper, "");
+    }
+}
+
 void report_summary(FILE *to) {
     fprintf(to, "%33s%-13s%-34s%s\n", "", "check,", "as a multiple of", "beyond the check, us");
     fprintf(to, "%-16s %3s %3s  %6s %9s %7s %6s %6s %6s %6s", "", "γ", "B", "orders", "ns/order", "best", "plain", "tuned", "fast", "refer.");
     fprintf(to, " %9s %9s %9s %9s %9s %9s\n", "lookup", "seek", "span", "cancel", "put", "put held");
     for (int i = 0; i < scene_count; i++) print_line(to, i);
     print_all_times(to);
+    print_descents(to);
 }
 
 static void print_csv_row(FILE *to, const row *r) {
     const scene *s = &scenes[r->scene];
-    fprintf(to, "%s,%u,%u,%u,%u,%u,%zu,%s,%s,%s,%d,%.4f,%.4f,%.4f,", s->of.title, s->of.gamma, s->of.nodes, s->of.held, s->blocks, s->full, s->length,
-            r->operation, r->who, r->unit, r->rounds, r->median, r->best, r->ours);
-    if (r->is_beyond) fprintf(to, "%.4f,%.4f,%d\n", r->beyond, r->noise, r->beyond_rounds);
-    else fprintf(to, ",,\n");
+    const char *quote = strchr(r->operation, ',') ? "\"" : "";
+    fprintf(to, "%s,%u,%u,%u,%u,%u,%zu,%s%s%s,%s,%s,%d,%.4f,%.4f,%.4f,", s->of.title, s->of.gamma, s->of.nodes, s->of.held, s->blocks, s->full, s->length,
+            quote, r->operation, quote, r->who, r->unit, r->rounds, r->median, r->best, r->ours);
+    if (r->is_beyond) fprintf(to, "%.4f,%.4f,%d,", r->beyond, r->noise, r->beyond_rounds);
+    else fprintf(to, ",,,");
+    if (r->path > 0) fprintf(to, "%.4f,%.4f\n", r->path, log_nodes(s));
+    else fprintf(to, ",\n");
 }
 
 void report_csv(FILE *to) {
     fprintf(to, "configuration,gamma,nodes,orders,blocks,chunks,bytes,operation,who,unit,rounds,median,best,ours_over_it,");
-    fprintf(to, "us_beyond_check,noise_us,beyond_rounds\n");
+    fprintf(to, "us_beyond_check,noise_us,beyond_rounds,path_blocks,log_b_n\n");
     for (int i = 0; i < row_count; i++) print_csv_row(to, rows + i);
 }

@@ -20,16 +20,26 @@ static void *room_for(size_t bytes) {
 /* The orders, as a span of all writes them. */
 static void read_orders(scene *s) {
     balluchaw_reply all = balluchaw_span(s->table, s->length, 1, P31 - 1, s->output, s->room);
-    if (all.number != 0 || all.total != s->of.held) fail("span: not all orders");
+    if (all.number != 0 || all.count != s->of.held) fail("span: not all orders");
     for (u32 i = 0; i < s->of.held; i++) {
         const u8 *row = s->output + 12 * (size_t)i;
         s->orders[i] = (order){be32(row), be32(row + 4), be32(row + 8)};
     }
 }
 
+/* Another table of the same sizes. h is constant, so all levels are 1, and g is so little below p that the third chunk's place is 0. */
+static void make_near_p(scene *s) {
+    u8 *t = s->table, seed[40] = {[3] = 1};
+    wbe32(seed + 20, P31 - 65536 - 2);
+    if (balluchaw_make(t, s->length, t[5], t[6], be16(t + 7), be16(t + 9), seed, sizeof seed) != 0) fail("make: refused");
+    for (u32 i = 1; i <= s->of.held; i++)
+        if (balluchaw_put(t, s->length, 1000 * i, i + 1, i) != 0) fail("put: refused");
+}
+
 void scene_open(scene *s, configuration of, int strict) {
-    *s = (scene){.of = of, .random = 7, .strict = strict};
-    s->table = sample_new(of.gamma, of.nodes, of.held, of.held, of.percent, of.shape, &s->length);
+    *s = (scene){.of = of, .random = 7, .strict = strict, .key_random = 11};
+    s->table = sample_new(of.gamma, of.nodes, of.held, of.held, of.percent, of.shape == NEAR_P ? FLAT : of.shape, &s->length);
+    if (of.shape == NEAR_P) make_near_p(s);
     s->first_bytes = room_for(s->length);
     memcpy(s->first_bytes, s->table, s->length);
     s->blocks = be16(s->table + 9);
@@ -38,6 +48,12 @@ void scene_open(scene *s, configuration of, int strict) {
     s->output = room_for(s->room);
     s->orders = room_for(of.held * sizeof *s->orders);
     read_orders(s);
+    s->held_keys = room_for(ASKED * sizeof *s->held_keys);
+    s->free_keys = room_for(ASKED * sizeof *s->free_keys);
+    s->path_room = 2 * (size_t)s->blocks;
+    s->path = room_for(s->path_room);
+    choose_keys(s);
+    ask_held(s);
 }
 
 void scene_close(scene *s) {
@@ -45,9 +61,28 @@ void scene_close(scene *s) {
     free(s->first_bytes);
     free(s->output);
     free(s->orders);
+    free(s->held_keys);
+    free(s->free_keys);
+    free(s->path);
 }
 
 void pick(scene *s) { s->picked = s->orders[rng(&s->random) % s->of.held]; }
+
+static int is_held(const scene *s, u32 key) { return bsearch(&key, s->orders, s->of.held, sizeof *s->orders, cmp_u32) != NULL; }
+
+void choose_keys(void *p) {
+    scene *s = p;
+    for (u32 i = 0; i < ASKED; i++) {
+        u32 key;
+        do key = 1 + (u32)(rng(&s->key_random) % (P31 - 1));
+        while (is_held(s, key));
+        s->free_keys[i] = (order){key, 0, 0};
+        s->held_keys[i] = s->orders[rng(&s->key_random) % s->of.held];
+    }
+}
+
+void ask_held(void *p) { ((scene *)p)->asked = ((scene *)p)->held_keys; }
+void ask_free(void *p) { ((scene *)p)->asked = ((scene *)p)->free_keys; }
 
 void same_bytes(const scene *s) {
     if (memcmp(s->table, s->first_bytes, s->length) != 0) fail("the orders are as before, and the bytes are not");

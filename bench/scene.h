@@ -5,7 +5,9 @@
 #include <stddef.h>
 #include <stdint.h>
 
-/* What a table is made of; `shape` as in rust/peers.h. */
+/* What a table is made of; `shape` as in rust/peers.h, or NEAR_P: one partition has every order, and the places of its chunks go past p. */
+enum { NEAR_P = 100 };
+
 typedef struct {
     const char *title;
     uint32_t gamma, nodes, held, percent, shape;
@@ -17,6 +19,9 @@ typedef struct {
     uint32_t key, total, displayed;
 } order;
 
+enum { ASKED = 2000 };
+
+/* An archive.c of before reads this too (make bench-turns), so what is new stands at the end. */
 typedef struct {
     configuration of;
     uint8_t *table, *first_bytes; /* the table, and its bytes as they were made */
@@ -28,6 +33,11 @@ typedef struct {
     uint64_t random;
     order picked; /* the order of the present turn */
     int strict;   /* ask for more than the answers: the check after each change, the bytes after each turn */
+    order *held_keys, *free_keys; /* ASKED orders each, which the descents of a round ask for: held ones; keys not held, with quantities 0 */
+    uint64_t key_random;          /* of its own, so that the orders picked for other calls stay the same */
+    const order *asked;           /* what is asked for next */
+    uint8_t *path;                /* room for any path */
+    size_t path_room;
 } scene;
 
 void scene_open(scene *s, configuration of, int strict);
@@ -35,6 +45,12 @@ void scene_close(scene *s);
 
 /* Picks the next order, at random. */
 void pick(scene *s);
+
+/* Chooses other keys for the descents, at random; all variants of a round ask for the same. */
+void choose_keys(void *p);
+
+/* From the first of the chosen keys on: those that are held, those that are not. */
+void ask_held(void *p), ask_free(void *p);
 
 /* Ends the program unless the table's bytes are as they were made. */
 void same_bytes(const scene *s);

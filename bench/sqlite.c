@@ -92,6 +92,18 @@ int sqlite_lookup(void *p) {
     return wrong;
 }
 
+/* The next key that is asked for, held or not. */
+int sqlite_descent(void *p) {
+    scene *s = p;
+    const order *o = s->asked++;
+    sqlite3_stmt *q = bases[ORDINARY].statement[SELECT];
+    sqlite3_bind_int64(q, 1, o->key);
+    int wrong = sqlite3_step(q) != (o->total ? SQLITE_ROW : SQLITE_DONE);
+    if (o->total) wrong |= sqlite3_column_int64(q, 0) != o->total || sqlite3_column_int64(q, 1) != o->displayed;
+    sqlite3_reset(q);
+    return wrong;
+}
+
 int sqlite_span(void *p) {
     const scene *s = p;
     sqlite3_stmt *q = bases[ORDINARY].statement[SCAN];

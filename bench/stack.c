@@ -7,9 +7,9 @@
 
 #include <ucontext.h>
 
-enum { PAINT = 0xA5, STACK = 4 << 20, KEYS = 4, CALLS = 7, LEVELS = 18, MOST_ORDERS = 65535 };
+enum { PAINT = 0xA5, STACK = 4 << 20, KEYS = 4, CALLS = 8, LEVELS = 18, MOST_ORDERS = 65535 };
 
-static const char *const names[CALLS] = {"make", "check", "lookup", "span", "seek", "put", "cancel"};
+static const char *const names[CALLS] = {"make", "check", "lookup", "span", "seek", "put", "cancel", "descent"};
 
 static u8 stack[STACK] __attribute__((aligned(64)));
 static ucontext_t caller, callee;
@@ -27,6 +27,8 @@ static void span(void) { answer = balluchaw_span(table, length, 1, P31 - 1, outp
 static void seek(void) { answer = balluchaw_seek(table, length, 1, key, UINT32_MAX).number % 12; }
 static void put(void) { answer = balluchaw_put(table, length, key, 2, 1); }
 static void cancel(void) { answer = balluchaw_cancel(table, length, key); }
+
+static void descent(void) { answer = balluchaw_descent(table, length, key, output, length).number; }
 
 static void run_on_stack(void (*function)(void)) {
     memset(stack, PAINT, STACK);
@@ -71,6 +73,7 @@ static void measure(size_t most[CALLS]) {
         key = be32(rows + 12 * (size_t)((u64)i * (held - 1) / (KEYS - 1)));
         keep_most(&most[2], lookup);
         keep_most(&most[4], seek);
+        keep_most(&most[7], descent);
         keep_most(&most[5], put);
         keep_most(&most[6], cancel);
         keep_most(&most[5], put);

@@ -16,6 +16,16 @@ ROWS = [
     ("of that beyond its check", "lookup", "balluchaw", "us_beyond_check"),
     ("SQLite, lookup", "lookup", "SQLite"),
     ("LMDB, lookup", "lookup", "LMDB"),
+    ("**descent**, key held", "descent, key held", "balluchaw"),
+    ("`descent_fast`, the same in C, written for speed", "descent, key held", "descent_fast"),
+    ("SQLite, SELECT by primary key", "descent, key held", "SQLite"),
+    ("LMDB, get in an open transaction", "descent, key held", "LMDB get"),
+    ("Rust's BTreeMap, get", "descent, key held", "BTreeMap"),
+    ("**descent**, key not held", "descent, key not held", "balluchaw"),
+    ("`descent_fast`", "descent, key not held", "descent_fast"),
+    ("SQLite, SELECT by primary key", "descent, key not held", "SQLite"),
+    ("LMDB, get in an open transaction", "descent, key not held", "LMDB get"),
+    ("Rust's BTreeMap, get", "descent, key not held", "BTreeMap"),
     ("**put**", "put", "balluchaw"),
     ("of that beyond its check", "put", "balluchaw", "us_beyond_check"),
     ("SQLite, put", "put", "SQLite alone"),
@@ -39,6 +49,8 @@ def figure(row, column):
         return None
     if column == "us_beyond_check":
         return f"{short(float(row[column]))} ± {short(float(row['noise_us']))}", int(row["beyond_rounds"])
+    if row["unit"] == "ns":
+        return f"{float(row[column]) / 1000:.3f}", int(row["rounds"])
     scale = int(row["orders"]) / 1000 if row["unit"] == "ns/order" else 1
     return short(float(row[column]) * scale), int(row["rounds"])
 

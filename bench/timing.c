@@ -56,13 +56,17 @@ static double one_round(variant *variants, int count, void *scene, int round) {
     return now() - start;
 }
 
-int take_turns(variant *variants, int count, void *scene, double seconds, int rounds) {
+int take_turns(variant *variants, int count, void *scene, void (*fresh)(void *scene), double seconds, int rounds) {
+    if (fresh) fresh(scene);
     double warm = one_round(variants, count, scene, 0);
     if (rounds == 0) {
         double wanted = seconds * 1e9 / warm;
         rounds = wanted > USUAL_ROUNDS ? USUAL_ROUNDS : wanted < LEAST_ROUNDS ? LEAST_ROUNDS : (int)wanted | 1;
     }
-    for (int r = 0; r < rounds; r++) one_round(variants, count, scene, r);
+    for (int r = 0; r < rounds; r++) {
+        if (fresh) fresh(scene);
+        one_round(variants, count, scene, r);
+    }
     return rounds;
 }
 

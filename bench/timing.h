@@ -9,16 +9,16 @@ typedef struct {
     const char *operation;
     const char *who;
     int (*call)(void *scene);    /* what is timed; it gives 0 when its answer is right */
-    void (*before)(void *scene); /* untimed, before each call; NULL: nothing */
-    void (*after)(void *scene);  /* untimed, after each call; NULL: nothing */
-    int batch;                   /* calls between two looks at the clock; 1 where there is a before or an after */
+    void (*before)(void *scene); /* untimed, before each batch; NULL: nothing */
+    void (*after)(void *scene);  /* untimed, after each batch; NULL: nothing */
+    int batch;                   /* calls between two looks at the clock; 1 where each call needs its before or after */
     int turns;                   /* batches in a round */
     double ns[MOST_ROUNDS];      /* one call's time, the mean of a round */
 } variant;
 
 /* Lets the variants take turns for about so many seconds of CPU time, at most the usual rounds; or for exactly so many rounds if that is not 0. Gives their number.
- * The program ends when an answer is wrong. */
-int take_turns(variant *variants, int count, void *scene, double seconds, int rounds);
+ * `fresh` is called untimed before each round; NULL: nothing. The program ends when an answer is wrong. */
+int take_turns(variant *variants, int count, void *scene, void (*fresh)(void *scene), double seconds, int rounds);
 
 double median(const double *values, int count);
 double least(const double *values, int count);

@@ -2,7 +2,8 @@
  *
  *     turns [ROUNDS]      prints, for each table, the median over the rounds of now's time for each ns of before's
  *
- * Each side is bench/archive.c of its own folder with the archive of that folder, so a call may have another shape before than now. */
+ * Each side is bench/archive.c of its own folder with the archive of that folder, so a call may have another shape before than now. What the archive before does
+ * not have is left out. */
 #include "rust/peers.h"
 #include "timing.h"
 #include "variants.h"
@@ -12,7 +13,7 @@
 
 #define SIDE(side)                                                                                                                                     \
     int side##_check(void *p), side##_lookup(void *p), side##_seek(void *p), side##_span(void *p), side##_cancel(void *p), side##_put(void *p);        \
-    int side##_replace(void *p);                                                                                                                       \
+    int side##_replace(void *p), side##_descent(void *p) __attribute__((weak));                                                                        \
     void side##_pick(void *p), side##_away(void *p), side##_back(void *p), side##_kept(void *p);                                                       \
     static const variant side##_calls[] = {                                                                                                            \
         {"check", #side, side##_check, 0, 0, 1, 1, {0}},                                                                                               \
@@ -22,6 +23,8 @@
         {"cancel", #side, side##_cancel, side##_pick, side##_back, 1, 1, {0}},                                                                         \
         {"put", #side, side##_put, side##_away, side##_kept, 1, 1, {0}},                                                                               \
         {"put, held", #side, side##_replace, side##_pick, side##_back, 1, 1, {0}},                                                                     \
+        {"descent", #side, side##_descent, ask_held, 0, ASKED, 1, {0}},                                                                                \
+        {"not held", #side, side##_descent, ask_free, 0, ASKED, 1, {0}},                                                                               \
     }
 
 /* Whatever surrounds a call, untimed, is of its own side too: what ran last is warm. */
@@ -37,24 +40,35 @@ static const configuration configurations[] = {
     {"one partition", 16, 16, 60000, 80, FLAT, 0, 0},
 };
 
-/* The two sides of a call, in turns of their own: so many calls in a batch where nothing surrounds them, else so many batches. */
+static int on_both_sides(int call) { return now_calls[call].call && before_calls[call].call; }
+
+/* The two sides of a call, in turns of their own: so many calls in a batch where nothing surrounds them, else so many batches. Descents have their batches. */
 static double against(int call, scene *s, int rounds) {
     variant both[2] = {now_calls[call], before_calls[call]};
-    for (int i = 0; i < 2; i++) *(both[i].before ? &both[i].turns : &both[i].batch) = 1 + 20000 / (int)s->of.held;
-    return ratio(both, both + 1, take_turns(both, 2, s, 0, rounds));
+    int asks = both->batch == ASKED;
+    for (int i = 0; i < 2 && !asks; i++) *(both[i].before ? &both[i].turns : &both[i].batch) = 1 + 20000 / (int)s->of.held;
+    return ratio(both, both + 1, take_turns(both, 2, s, asks ? choose_keys : NULL, 0, rounds));
+}
+
+static void print_head(int rounds) {
+    for (int i = 0; i < CALLS; i++)
+        if (!on_both_sides(i)) printf("%s has no call for \"%s\", which is left out\n", now_calls[i].call ? "before" : "now", now_calls[i].operation);
+    printf("now / before, median of %d rounds\n%-30s", rounds, "");
+    for (int i = 0; i < CALLS; i++)
+        if (on_both_sides(i)) printf("%12s", now_calls[i].operation);
+    printf("\n");
 }
 
 int main(int argc, char **argv) {
     int rounds = argc > 1 ? atoi(argv[1]) : 301;
     if (rounds < 1 || rounds > MOST_ROUNDS) return fprintf(stderr, "turns [ROUNDS], at most %d\n", MOST_ROUNDS), 2;
-    printf("now / before, median of %d rounds\n%-30s", rounds, "");
-    for (int i = 0; i < CALLS; i++) printf("%12s", now_calls[i].operation);
-    printf("\n");
+    print_head(rounds);
     for (size_t i = 0; i < sizeof configurations / sizeof *configurations; i++) {
         scene s;
         scene_open(&s, configurations[i], 0);
         printf("%-14s γ %2u B %2u %6u", s.of.title, s.of.gamma, s.of.nodes, s.of.held);
         for (int j = 0; j < CALLS; j++) {
+            if (!on_both_sides(j)) continue;
             printf("%12.3f", against(j, &s, j ? 1 + rounds / 6 : rounds));
             fflush(stdout);
         }

@@ -216,7 +216,7 @@ static void measure(const char *name, u32 blocks, void (*choose)(table *)) {
     taken[1] = seconds(), start = now_ns();
     if (balluchaw_put(without, t->length, put, 2, 1) != 0) fail("put: the answer is wrong");
     taken[2] = seconds(), start = now_ns();
-    if (balluchaw_span(t->bytes, t->length, 1, P31 - 1, output, room).total != t->held) fail("span: not all orders");
+    if (balluchaw_span(t->bytes, t->length, 1, P31 - 1, output, room).count != t->held) fail("span: not all orders");
     taken[3] = seconds();
     if (memcmp(without, t->bytes, t->length) != 0) fail("put: the bytes are others");
     double squared = (double)t->blocks * t->blocks;

@@ -13,13 +13,13 @@ uint32_t reference_cancel(uint8_t *table, size_t length, uint32_t key);
 uint32_t reference_lookup(const uint8_t *table, size_t length, uint32_t key);
 uint32_t reference_span(const uint8_t *table, size_t length, uint32_t lo, uint32_t hi, uint8_t *output, size_t room);
 
-/* A BTreeMap. lookup gives the total (0: none). write puts all orders into the output, 12 bytes each, and gives their number. */
+/* A BTreeMap. lookup gives the total and writes the displayed quantity, both 0 where there is no order. write puts all orders into the output, 12 bytes each, and gives their number. */
 typedef struct book book;
 book *book_new(void);
 void book_free(book *b);
 void book_put(book *b, uint32_t key, uint32_t total, uint32_t displayed);
 void book_cancel(book *b, uint32_t key);
-uint32_t book_lookup(const book *b, uint32_t key);
+uint32_t book_lookup(const book *b, uint32_t key, uint32_t *displayed);
 uint32_t book_write(const book *b, uint8_t *output, size_t room);
 
 /* A made-up table of `held` orders, with the chunks `percent` of its blocks. FLAT: one partition has every order. TALL: every order is in all

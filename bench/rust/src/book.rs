@@ -46,13 +46,15 @@ pub unsafe extern "C" fn book_cancel(book: *mut Book, key: u32) {
     (*book).0.remove(&key);
 }
 
-/// The total, or 0 where there is none.
+/// The total, and the displayed quantity where it is to go; 0 where there is no order.
 ///
 /// # Safety
-/// The book is one of `book_new`, not yet freed.
+/// The book is one of `book_new`, not yet freed; `displayed` is lent.
 #[no_mangle]
-pub unsafe extern "C" fn book_lookup(book: *const Book, key: u32) -> u32 {
-    (*book).0.get(&key).map_or(0, |order| order.0)
+pub unsafe extern "C" fn book_lookup(book: *const Book, key: u32, displayed: *mut u32) -> u32 {
+    let (total, shown) = (*book).0.get(&key).copied().unwrap_or((0, 0));
+    *displayed = shown;
+    total
 }
 
 /// Writes all orders and gives their number.

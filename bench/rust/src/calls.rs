@@ -53,5 +53,5 @@ pub unsafe extern "C" fn reference_span(
     room: usize,
 ) -> u32 {
     let table = std::slice::from_raw_parts(table, length);
-    calls::span(table, lo, hi, lent(output, room)).total
+    calls::span(table, lo, hi, lent(output, room)).count
 }
