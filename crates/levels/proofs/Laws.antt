@@ -14,5 +14,6 @@ pub mod Levels
 pub mod Parting
 pub mod Changing
 pub mod Ways
+pub mod Numbers
 pub mod Leading
 pub mod Arriving

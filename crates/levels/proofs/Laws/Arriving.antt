@@ -25,14 +25,8 @@ use Rattle.levels.specs.Ways.{Trek, trek, coming, number-in, along-in, d
 use Rattle.levels.proofs.Laws.Chunking.{pieces-most, pieces-up-to}
 use Rattle.levels.proofs.Laws.Scanning.{chunks-most}
 use Rattle.levels.proofs.Laws.Growing.{rising, there, kept, lower, upper}
-use Rattle.levels.proofs.Laws.Leading.{numbers-in, last-of, last-key, Ends, Landed, told}
-
-pub numbers-append : (o : List ℕ) (c : ℕ) (is js : List ℕ) → numbers-in o c (is ++ js) ≡ numbers-in (numbers-in o c is) (c + length is) js
-unfolding numbers-in
-numbers-append o c [] js = rw add-zero
-numbers-append o c (i ∷ is) js =
-    let e : c + 1 + length is ≡ c + length (i ∷ is) = omega arith in
-    rw (← e) (numbers-append (number-in o c i) (c + 1) is js)
+use Rattle.levels.proofs.Laws.Numbers.{numbers-in, numbers-append}
+use Rattle.levels.proofs.Laws.Leading.{last-of, last-key, Ends, Landed, told}
 
 -- the key y is sought in the image of xs, not above it, and zs, above it
 module _ (s : Sizes) (bs : List ℕ) (y : ℕ) (xs zs : List Order) (w : Way s bs (suc y) xs zs) where

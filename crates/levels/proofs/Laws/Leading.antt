@@ -31,13 +31,9 @@ use Rattle.skiplist.proofs.Laws.Paths.{found-stands}
 use Rattle.levels.specs.declared.Trail.{Trail}
 use Rattle.levels.specs.Edit.{Pieces}
 use Rattle.levels.specs.Ways.{Trek, trek, number-in, upto-in, reached-in, found-upto, found-block, node-place, trod, chunks-in}
+use Rattle.levels.proofs.Laws.Numbers.{numbers-in}
 use Rattle.levels.proofs.Laws.Takes.{none-found, some-found, counted}
 use Rattle.levels.proofs.Laws.Chunking.{pieces-none, pieces-full, drop-past}
-
--- NUMBERS of the path, one after the other
-unfoldable pub numbers-in : (path : List ℕ) → (c : ℕ) → (is : List ℕ) → List ℕ
-numbers-in o c [] = o
-numbers-in o c (i ∷ is) = numbers-in (number-in o c i) (c + 1) is
 
 -- A NODE stands in bytes
 abbrev pub Node-at : List ℕ → (at : ℕ) → Order → Type 0
