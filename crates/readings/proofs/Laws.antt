@@ -8,3 +8,4 @@ pub mod Tallies
 pub mod Answers
 pub mod Replies
 pub mod Descents
+pub mod Shown

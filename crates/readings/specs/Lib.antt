@@ -1,1 +1,2 @@
 pub mod Visit
+pub mod Descent

@@ -4,7 +4,7 @@ use mathlib.Core.Path.{_≡_}
 use mathlib.Core.Bool.{Bool, true, false, _&&_, cond}
 use mathlib.Core.List.{List, [], _∷_, _++_, map}
 use Prim.Native.Nat.{ℕ, zero, suc, _+_, _*_, _-_, _≤_, _<_}
-use lib.Dec.{ltb, leb, eqb}
+use lib.Dec.{ltb, leb}
 use lib.ListN.{length}
 use lib.Seq.{sets}
 use Rattle.sizes.specs.Numbers.{field}
@@ -124,11 +124,6 @@ unfoldable pub first-enough : (least : ℕ) → List Order → Sought
 first-enough l [] = Nothing
 first-enough l (o ∷ os) = cond (leb l (reserve o)) (Is o) (first-enough l os)
 
--- an order as an answer
-abbrev pub reply-of : Order → Reply
-reply-of o = record { number = 0; key = o .key; total = o .total; displayed = o .displayed }
-
--- THE FIRST of some orders, if it has the key
-unfoldable pub with-key : (key : ℕ) → List Order → Sought
-with-key k [] = Nothing
-with-key k (o ∷ os) = cond (eqb (o .key) k) (Is o) Nothing
+-- an order as an answer, with a count
+abbrev pub reply-of : (count : ℕ) → Order → Reply
+reply-of c o = record { number = 0; key = o .key; total = o .total; displayed = o .displayed; count = c }

@@ -17,29 +17,29 @@ use sizes::header::Header;
 use table::Reply;
 use table::checking::check;
 
-// A refusal: all other parts are 0.
-pub fn refused(number: u32) -> Reply
-    ensures { λ r. ⌜ says number 0 0 0 r ⌝ }
+// A refusal: all other parts are 0, but for the count of a descent that shows its path.
+pub fn refused(number: u32, count: u32) -> Reply
+    ensures { λ r. ⌜ says number 0 0 0 count r ⌝ }
 {
     Reply {
         number: number,
         key: 0,
         total: 0,
         displayed: 0,
-        count: 0,
+        count: count,
     }
 }
 
 // An order as an answer.
-fn answered(o: Order) -> Reply
-    ensures { λ r. ⌜ r ≡ reply-of o ⌝ }
+pub fn answered(o: Order, count: u32) -> Reply
+    ensures { λ r. ⌜ r ≡ reply-of count o ⌝ }
 {
     Reply {
         number: 0,
         key: o.key,
         total: o.total,
         displayed: o.displayed,
-        count: 0,
+        count: count,
     }
 }
 
@@ -141,15 +141,15 @@ pub fn lookup(table: &[u8], key: u32) -> Reply
     ensures { λ r. ⌜ Look-says (now (table .entry)) key r × (now (table .exit) ≡ now (table .entry)) ⌝ }
 {
     if check(table) != 0 {
-        return refused(4);
+        return refused(4, 0);
     }
     if !is_key(key) {
-        return refused(5);
+        return refused(5, 0);
     }
     let Sought::Is(o) = order_of(table, geometry_of(table), key) else {
-        return refused(9);
+        return refused(9, 0);
     };
-    answered(o)
+    answered(o, 0)
 }
 
 // Span: 4, 5, 10, 11. Counts before it writes.
@@ -158,11 +158,11 @@ pub fn span(table: &[u8], lo: u32, hi: u32, output: &mut [u8]) -> Reply
 {
     let n = range(table, lo, hi);
     if n != 0 {
-        return refused(n);
+        return refused(n, 0);
     }
     let counted = visit_all(table, lo, hi, 0, false, false, output);
     if output.len() < 12 * (counted.found as usize) {
-        return refused(11);
+        return refused(11, 0);
     }
     let v = visit_all(table, lo, hi, 0, true, false, output);
     Reply {
@@ -180,10 +180,10 @@ pub fn seek(table: &[u8], lo: u32, hi: u32, reserve: u32) -> Reply
 {
     let n = range(table, lo, hi);
     if n != 0 {
-        return refused(n);
+        return refused(n, 0);
     }
     let Sought::Is(o) = first_with(table, lo, hi, reserve) else {
-        return refused(12);
+        return refused(12, 0);
     };
-    answered(o)
+    answered(o, 0)
 }

@@ -1,15 +1,18 @@
-// The way down to one key: it heads a partition of level 1, or stands in the one that the way from the top leads to.
+// The way down to one key: lookup's order, and the call that shows its way.
 ghost use mathlib.Core.Path.{_≡_};
 ghost use mathlib.Core.Bool.{true};
-ghost use Prim.Native.Nat.{_≤_, _<_};
-ghost use lib.ListN.{drop};
+ghost use Prim.Native.Nat.{_+_, _*_, _≤_};
+ghost use lib.ListN.{length};
 ghost use Rattle.sizes.specs.Header.{sizes-in};
 ghost use Rattle.sizes.specs.Geometry.{Reckoned};
+ghost use Rattle.placement.specs.Place.{Shaped};
 ghost use Rattle.skiplist.specs.Image.{is-image, orders-in};
 ghost use Rattle.skiplist.specs.Questions.{between};
-ghost use Rattle.skiplist.specs.Parts.{part};
-ghost use Rattle.readings.specs.Visit.{Known, first-enough, with-key};
+ghost use Rattle.table.specs.Calls.{Descent-says};
+ghost use Rattle.readings.specs.Visit.{Known, first-enough};
+ghost use Rattle.readings.specs.Descent.{way, landed, Written};
 use crate::calls::Sought;
+use crate::calls::answered;
 use crate::calls::is_key;
 use crate::calls::refused;
 use levels::ways::descend;
@@ -30,7 +33,7 @@ pub fn geometry_of(table: &[u8]) -> Geometry
     reckon(h.sizes)
 }
 
-// The order at a place that the way down to a key has come to, if it has the key.
+// The order at the place where a way has ended, if it has the key.
 fn order_at(table: &[u8], at: usize, key: u32) -> Sought
     requires { ⌜ at + 12 ≤ length (now table) ⌝ }
     ensures { λ r. ⌜ r ≡ landed (now (table .entry)) at key ⌝ }
@@ -55,8 +58,11 @@ pub fn order_of(table: &[u8], q: Geometry, key: u32) -> Sought
     order_at(table, t.at, key)
 }
 
-// The path that was found, to the output: a short one stands in `short`, a longer one is gone once more.
-fn write_path(table: &[u8], q: Geometry, key: u32, count: u32, short: &[u8], path: &mut [u8]) {
+// The path to a key, to an output that has room for it: a short one was kept, a longer one is gone once more.
+fn write_path(table: &[u8], q: Geometry, key: u32, count: u32, short: &[u8], path: &mut [u8])
+    requires { ⌜ Shaped (q .sizes) (now table) × Reckoned q × Written q (now table) key count (now short) × (2 * count ≤ length (now path)) ⌝ }
+    ensures { λ r. ⌜ now (path .exit) ≡ way q (now (table .entry)) key (now (path .entry)) .path ⌝ }
+{
     let long = 2 * (count as usize);
     if long <= short.len() {
         bring(path, 0, short, 0, long);
@@ -65,39 +71,29 @@ fn write_path(table: &[u8], q: Geometry, key: u32, count: u32, short: &[u8], pat
     }
 }
 
-// Descent: 4 of the header and the length alone, 5, 11, 9.
-pub fn descent(table: &[u8], key: u32, path: &mut [u8]) -> Reply {
+// Descent: 4 of the header and the length alone, 5, 11, 9. No byte of the output is written before 11 is answered for the whole path.
+pub fn descent(table: &[u8], key: u32, path: &mut [u8]) -> Reply
+    ensures { λ r. ⌜ Descent-says (now (table .entry)) key r (now (path .entry)) (now (path .exit)) × (now (table .exit) ≡ now (table .entry)) ⌝ }
+{
     if table.len() < Header::LENGTH {
-        return refused(4);
+        return refused(4, 0);
     }
     let h = Header::read(table);
     if !rule_of(table, h) {
-        return refused(4);
+        return refused(4, 0);
     }
     if !is_key(key) {
-        return refused(5);
+        return refused(5, 0);
     }
     let q = reckon(h.sizes);
     let mut short = [0u8; 128];
     let t = descend(table, q, 0, key, &mut short);
     if path.len() < 2 * (t.count as usize) {
-        return refused(11);
+        return refused(11, 0);
     }
     write_path(table, q, key, t.count, &short, path);
     let Sought::Is(o) = order_at(table, t.at, key) else {
-        return Reply {
-            number: 9,
-            key: 0,
-            total: 0,
-            displayed: 0,
-            count: t.count,
-        };
+        return refused(9, t.count);
     };
-    Reply {
-        number: 0,
-        key: o.key,
-        total: o.total,
-        displayed: o.displayed,
-        count: t.count,
-    }
+    answered(o, t.count)
 }

@@ -1,5 +1,6 @@
 -- The way down in an image: the path that its definition tells, and the node with the greatest key not above the one sought.
 use mathlib.Core.Path.{_≡_, refl, sym, ap, _∙_}
+use mathlib.Core.Bool.{Bool}
 use mathlib.Core.List.{List, [], _∷_, _++_, map, map-append}
 use Prim.Native.Nat.{ℕ, zero, suc, _+_, _*_, _≤_, _<_}
 use native.Mathlib.Nat.{add-zero}
@@ -9,14 +10,16 @@ use Rattle.sizes.specs.Sizes.{beta}
 use Rattle.sizes.specs.declared.Sizes.{Sizes}
 use Rattle.placement.specs.declared.Order.{Order}
 use Rattle.sizes.proofs.Laws.Sizes.{some-nodes}
-use Rattle.skiplist.specs.Lists.{front, masked, first-key, blocks}
+use Rattle.placement.proofs.Laws.Cells.{cond-valid}
+use Rattle.skiplist.specs.Lists.{front, starts-one, masked, first-key, blocks}
 use Rattle.placement.specs.declared.Label.{Label}
 use Rattle.skiplist.specs.Paths.{labels-from, path-labels, stands-in}
 use Rattle.skiplist.proofs.Laws.Parts.{up-front}
+use Rattle.skiplist.proofs.Laws.Runs.{opened}
 use Rattle.skiplist.proofs.Laws.Edits.{head-part, tail-part, head-part-long}
-use Rattle.skiplist.proofs.Laws.Descent.{last-from, step-down}
+use Rattle.skiplist.proofs.Laws.Descent.{last-from, step-down, all-there}
 use Rattle.skiplist.proofs.Laws.Count.{pieces}
-use Rattle.skiplist.proofs.Laws.Masks.{last-masked}
+use Rattle.skiplist.proofs.Laws.Masks.{last-masked, masked-one}
 use Rattle.skiplist.proofs.Laws.Paths.{path-step}
 use Rattle.skiplist.proofs.Laws.PathsKept.{length-labels}
 use Rattle.levels.specs.declared.Trail.{Trail}
@@ -26,7 +29,7 @@ use Rattle.levels.proofs.Laws.Chunking.{pieces-most, pieces-up-to}
 use Rattle.levels.proofs.Laws.Scanning.{chunks-most}
 use Rattle.levels.proofs.Laws.Growing.{rising, there, kept, lower, upper}
 use Rattle.levels.proofs.Laws.Numbers.{numbers-in, numbers-append}
-use Rattle.levels.proofs.Laws.Leading.{last-of, last-key, Ends, Landed, told}
+use Rattle.levels.proofs.Laws.Leading.{last-of, last-append, last-key, Ends, Landed, told}
 
 -- the key y is sought in the image of xs, not above it, and zs, above it
 module _ (s : Sizes) (bs : List ℕ) (y : ℕ) (xs zs : List Order) (w : Way s bs (suc y) xs zs) where
@@ -115,3 +118,15 @@ module _ (s : Sizes) (bs : List ℕ) (y : ℕ) (xs zs : List Order) (w : Way s b
   arrives (suc (suc k)) h x e o =
       let a = arrives (suc k) (omega arith) (one (suc k) h x e o .trail) (next-first (suc k) h x e o) (after (suc k) h x e o) in
       arrived-more (suc k) h x e o a (a .ends (omega arith))
+
+-- THE LAST NODE of level 1 is the last of all orders that are not above the key, or the front
+last-opened : (st : Order → Bool) (z : Order) (p xs : List Order) → last-of z (opened st p xs) ≡ last-of (last-of z p) xs
+unfolding opened last-of
+last-opened st z p [] = refl
+last-opened st z p (x ∷ xs) =
+    cond-valid (λ (q : List Order). last-of z q ≡ last-of x xs) (st x) (last-opened st z (x ∷ []) xs)
+    (last-opened st z (p ++ x ∷ []) xs ∙ rw (last-append z p (x ∷ [])))
+
+pub last-listed : (s : Sizes) (xs : List Order) → last-of front (map (masked 1) (head-part s 1 xs)) ≡ last-of front xs
+unfolding head-part last-of
+last-listed s xs = rw (masked-one, all-there) (last-opened (starts-one s 1) front (front ∷ []) xs)

@@ -120,34 +120,43 @@ none-held k (o ∷ os) e = go (none-held k os) (leb k (o .key)) refl (leb (o .ke
     go ih true p false q e = rw (ne-eqb (o .key) k (λ z. omega (arith, leb-false (o .key) k q))) (ih e)
     go ih false p b q e = rw (ne-eqb (o .key) k (λ z. omega (arith, leb-false k (o .key) p))) (ih e)
 
+-- WHAT THE SEARCH FOR A KEY FOUND: the order that has it, or that it is not held
+module _ (bs : List ℕ) (image : is-image bs ≡ true) (k : ℕ) (q : Sought) (eq : q ≡ first-enough 0 (between k k (orders-in bs))) where
+  pub sought-absent : q ≡ Nothing → held k (orders-in bs) ≡ false
+  sought-absent z = none-held k (orders-in bs) (first-empty (between k k (orders-in bs)) (sym z ∙ eq))
+
+  pub sought-there : (o : Order) → q ≡ Is o → (o .key ≡ k) × Tells k (o .total) (o .displayed) (orders-in bs)
+  sought-there o z =
+      let f = first-is 0 (between k k (orders-in bs)) o (sym z ∙ eq) in
+      let w = spot-inside k k o (orders-in bs) (f .spot) in
+      let s : o .key ≡ k = omega (arith, w .low, w .high) in
+      (s, rw s at (spot-tells (orders-in bs) 1 (orders-up (sizes-in bs) bs (known-image bs image)) o (w .spot)))
+
 -- LOOKUP
 module _ (bs : List ℕ) (k : ℕ) (r : Reply) where
-  look-by : (a b c : Bool) → is-image bs ≡ a → is-key k ≡ b → held k (orders-in bs) ≡ c → Look-as (cond a (cond b (cond c 0 9) 5) 4) k (orders-in bs) r → Look-says bs k r
+  look-by : (a b c : Bool) → is-image bs ≡ a → is-key k ≡ b → held k (orders-in bs) ≡ c → Look-as (cond a (cond b (cond c 0 9) 5) 4) 0 k (orders-in bs) r → Look-says bs k r
   unfolding Look-says refusal asks first-no asks-image asks-key
   look-by a b c ea eb ec h = rw (ea, eb, ec) h
 
-  pub look-4 : is-image bs ≡ false → says 4 0 0 0 r → Look-says bs k r
+  pub look-4 : is-image bs ≡ false → says 4 0 0 0 0 r → Look-says bs k r
   unfolding Look-as
   look-4 e h = look-by false _ _ e refl refl h
 
   module _ (image : is-image bs ≡ true) (b : Bool) (eb : b ≡ is-key k) where
-    pub look-5 : b ≡ false → says 5 0 0 0 r → Look-says bs k r
+    pub look-5 : b ≡ false → says 5 0 0 0 0 r → Look-says bs k r
     unfolding Look-as
     look-5 e h = look-by true false _ image (sym eb ∙ e) refl h
 
     module _ (e : b ≡ true) (q : Sought) (eq : q ≡ first-enough 0 (between k k (orders-in bs))) where
-      pub look-9 : q ≡ Nothing → says 9 0 0 0 r → Look-says bs k r
+      pub look-9 : q ≡ Nothing → says 9 0 0 0 0 r → Look-says bs k r
       unfolding Look-as
-      look-9 z h = look-by true true false image (sym eb ∙ e) (none-held k (orders-in bs) (first-empty (between k k (orders-in bs)) (sym z ∙ eq))) h
+      look-9 z h = look-by true true false image (sym eb ∙ e) (sought-absent bs image k q eq z) h
 
-      pub look-found : (o : Order) → q ≡ Is o → r ≡ reply-of o → Look-says bs k r
+      pub look-found : (o : Order) → q ≡ Is o → r ≡ reply-of 0 o → Look-says bs k r
       unfolding Look-as says
       look-found o z h =
-          let f = first-is 0 (between k k (orders-in bs)) o (sym z ∙ eq) in
-          let w = spot-inside k k o (orders-in bs) (f .spot) in
-          let s : o .key ≡ k = omega (arith, w .low, w .high) in
-          let t = rw s at (spot-tells (orders-in bs) 1 (orders-up (sizes-in bs) bs (known-image bs image)) o (w .spot)) in
-          look-by true true true image (sym eb ∙ e) (t .0) (rw h (refl, s, sym (t .1), sym (t .2)))
+          let t = sought-there bs image k q eq o z in
+          look-by true true true image (sym eb ∙ e) (t .1 .0) (rw h (refl, t .0, sym (t .1 .1), sym (t .1 .2), refl))
 
 -- THE QUESTIONS OF A RANGE, which span and seek share
 module _ (bs : List ℕ) (lo hi : ℕ) where
@@ -183,19 +192,19 @@ module _ (bs : List ℕ) (lo hi least : ℕ) (r : Reply) (n : ℕ) (en : n ≡ f
   unfolding Seek-says refusal asks asks-seek
   seek-by i e h = subst (λ (j : ℕ). Seek-as j (orders-in bs) lo hi least r) (sym (range-more bs lo hi n en 12 _ ∙ e)) h
 
-  refused-seek : (i : ℕ) → (i ≡ 0 → ⊥) → says i 0 0 0 r → Seek-as i (orders-in bs) lo hi least r
+  refused-seek : (i : ℕ) → (i ≡ 0 → ⊥) → says i 0 0 0 0 r → Seek-as i (orders-in bs) lo hi least r
   unfolding Seek-as
   refused-seek zero z h = absurd (z refl)
   refused-seek (suc i) z h = h
 
-  pub seek-turned : (n ≡ 0 → ⊥) → says n 0 0 0 r → Seek-says bs lo hi least r
+  pub seek-turned : (n ≡ 0 → ⊥) → says n 0 0 0 0 r → Seek-says bs lo hi least r
   seek-turned z h = seek-by n (rw (ne-eqb n 0 z)) (refused-seek n z h)
 
   module _ (z : n ≡ 0) (q : Sought) (eq : q ≡ first-enough least (between lo hi (orders-in bs))) where
-    pub seek-12 : q ≡ Nothing → says 12 0 0 0 r → Seek-says bs lo hi least r
+    pub seek-12 : q ≡ Nothing → says 12 0 0 0 0 r → Seek-says bs lo hi least r
     seek-12 e h = seek-by 12 (rw (eq-eqb n 0 z, first-none least (between lo hi (orders-in bs)) (sym e ∙ eq))) (refused-seek 12 (omega arith) h)
 
-    pub seek-found : (o : Order) → q ≡ Is o → r ≡ reply-of o → Seek-says bs lo hi least r
+    pub seek-found : (o : Order) → q ≡ Is o → r ≡ reply-of 0 o → Seek-says bs lo hi least r
     unfolding Seek-as
     seek-found o e h =
         let g = first-is least (between lo hi (orders-in bs)) o (sym e ∙ eq) in
@@ -207,6 +216,7 @@ module _ (bs : List ℕ) (lo hi least : ℕ) (r : Reply) (n : ℕ) (en : n ≡ f
           held-there = spot-held o (between lo hi (orders-in bs)) (g .spot);
           own-total = sym (t .1);
           own-displayed = sym (t .2);
+          none-counted = refl;
           enough = g .enough;
         }))
 
@@ -217,12 +227,12 @@ module _ (bs : List ℕ) (lo hi : ℕ) (r : Reply) (x : List ℕ) (n : ℕ) (en 
   unfolding Span-says refusal asks asks-span
   span-by z i e h = subst (λ (j : ℕ). Span-as j (between lo hi (orders-in bs)) r x z) (sym (range-more bs lo hi n en 11 _ ∙ e)) h
 
-  refused-span : (i : ℕ) → (i ≡ 0 → ⊥) → says i 0 0 0 r → (z : List ℕ) → z ≡ x → Span-as i (between lo hi (orders-in bs)) r x z
+  refused-span : (i : ℕ) → (i ≡ 0 → ⊥) → says i 0 0 0 0 r → (z : List ℕ) → z ≡ x → Span-as i (between lo hi (orders-in bs)) r x z
   unfolding Span-as
   refused-span zero p h z e = absurd (p refl)
   refused-span (suc i) p h z e = (h, e)
 
-  pub span-turned : (n ≡ 0 → ⊥) → says n 0 0 0 r → Span-says bs lo hi r x x
+  pub span-turned : (n ≡ 0 → ⊥) → says n 0 0 0 0 r → Span-says bs lo hi r x x
   span-turned p h = span-by x n (rw (ne-eqb n 0 p)) (refused-span n p h x refl)
 
   -- it counts, and then writes into the output that it has left as it was
@@ -230,18 +240,18 @@ module _ (bs : List ℕ) (lo hi : ℕ) (r : Reply) (x : List ℕ) (n : ℕ) (en 
     many : (v .found ≡ length (between lo hi (orders-in bs))) × (y ≡ x)
     many = counted-all bs (range-asked bs lo hi n en p .0) lo hi v x y ev
 
-    pub span-11 : length y < 12 * v .found → says 11 0 0 0 r → Span-says bs lo hi r x y
+    pub span-11 : length y < 12 * v .found → says 11 0 0 0 0 r → Span-says bs lo hi r x y
     span-11 h g =
         let short : length x < 12 * length (between lo hi (orders-in bs)) = omega (arith, many .0, ap length (many .1)) in
         span-by y 11 (rw (eq-eqb n 0 p, lt-leb _ _ short)) (refused-span 11 (omega arith) g y (many .1))
 
     pub span-written : 12 * v .found ≤ length y → (w : Visit) (z : List ℕ) → scan w z ≡ steps (orders-in bs) (scan (starting lo hi 0 true false) y) →
-        r ≡ record { number = 0; key = 0; total = w .found; displayed = 0 } → Span-says bs lo hi r x z
+        r ≡ record { number = 0; key = 0; total = 0; displayed = 0; count = w .found } → Span-says bs lo hi r x z
     unfolding Span-as says
     span-written h w z ew er =
         let room : 12 * length (between lo hi (orders-in bs)) ≤ length x = omega (arith, many .0, ap length (many .1)) in
         let g = written-all bs (range-asked bs lo hi n en p .0) lo hi w x z room (rw (many .1) at ew) in
         span-by z 0 (rw (eq-eqb n 0 p, le-leb _ _ room)) (
-          rw er (refl, refl, g .0, refl),
+          rw er (refl, refl, refl, refl, g .0),
           g .1,
         )

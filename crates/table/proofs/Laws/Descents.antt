@@ -46,11 +46,11 @@ look-same zero c d k os r q v w = (v .0 ∙ sym (w .0), v .1 ∙ sym (w .1), v .
 look-same (suc n) c d k os r q v w = (v .0 ∙ sym (w .0), v .1 ∙ sym (w .1), v .2 ∙ sym (w .2), v .3 ∙ sym (w .3))
 
 -- WITHIN ITS OUTPUT, where that has room for what is shown
-path-long : (is : List ℕ) → length (path-bytes is) ≡ 2 * length is
+pub path-long : (is : List ℕ) → length (path-bytes is) ≡ 2 * length is
 unfolding path-bytes
 path-long is = length-rows 2 (big 2) (length-big 2) is
 
-as-within : (n k : ℕ) (os : List Order) (path : List ℕ) (r : Reply) (o z : List ℕ) → 2 * length (shown n path) ≤ length o → Descent-as n k os path r o z → Within r o z
+pub as-within : (n k : ℕ) (os : List Order) (path : List ℕ) (r : Reply) (o z : List ℕ) → 2 * length (shown n path) ≤ length o → Descent-as n k os path r o z → Within r o z
 unfolding Descent-as
 as-within n k os path r o z h w =
     let is = shown n path in
@@ -79,7 +79,7 @@ image-room x k o e = rw e (go (is-key k) (leb (2 * length path) (length o)) refl
 abbrev Answered : (table : List ℕ) → (key : ℕ) → (output : List ℕ) → Type 0
 Answered x k o = (r : Reply) × (now : List ℕ) × Descent-says x k r o now
 
-image-rule : (x : List ℕ) → is-image x ≡ true → rule-1 x ≡ true
+pub image-rule : (x : List ℕ) → is-image x ≡ true → rule-1 x ≡ true
 unfolding is-image
 image-rule x e = and-parts (rule-1 x) _ e .0
 

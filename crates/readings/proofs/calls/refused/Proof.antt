@@ -6,4 +6,4 @@ use Rattle.readings.proofs.calls.refused.Tie as tie
 
 pub refused-spec : {M : Type 1} → statement M
 unfolding says
-refused-spec = tie.close (tie.spec (λ c. (refl, refl, refl, refl)))
+refused-spec = tie.close (tie.spec (λ c. (refl, refl, refl, refl, refl)))
