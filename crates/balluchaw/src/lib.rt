@@ -1,6 +1,6 @@
-// The C interface: each call as document 01 has it, on numbers and byte slices. include/balluchaw.h says the same in C.
+// The C interface: each call as documents 01 and 02 have it, on numbers and byte slices. include/balluchaw.h says the same in C.
 ghost use mathlib.Core.Path.{_≡_};
-ghost use Rattle.table.specs.Calls.{parameters, Make-says, check-number, Put-says, Cancel-says, Look-says, Span-says, Seek-says};
+ghost use Rattle.table.specs.Calls.{parameters, Make-says, check-number, Put-says, Cancel-says, Look-says, Descent-says, Span-says, Seek-says};
 use table::Reply;
 
 #[no_mangle]

@@ -39,7 +39,7 @@ module _ (old : List ℕ) (used : ℕ) (new : List ℕ) (p : ℕ) where
     unfolding show-lines Look-says Look-as says answer-lines
     show-is = go (refusal (lookup k) x) h
       where
-        go : (n : ℕ) → Look-as n k (orders-in x) r
+        go : (n : ℕ) → Look-as n 0 k (orders-in x) r
             → answer-lines n (total-of k (orders-in x) ∷ displayed-of k (orders-in x) ∷ []) [] ≡ answer-lines (r .number) (r .total ∷ r .displayed ∷ []) []
         go zero s = rw (s .0, s .2, s .3)
         go (suc n) s = rw (s .0)
@@ -60,33 +60,33 @@ module _ (old : List ℕ) (used : ℕ) (new : List ℕ) (p : ℕ) where
 
 -- SPAN
 module _ (x : List ℕ) (lo hi : ℕ) (r : Reply) (o z : List ℕ) (h : Span-says x lo hi r o z) where
-  span-is : span-lines x lo hi (length o) ≡ answer-lines (r .number) (r .total ∷ []) (map order-line (nodes-from (r .total) z))
+  span-is : span-lines x lo hi (length o) ≡ answer-lines (r .number) (r .count ∷ []) (map order-line (nodes-from (r .count) z))
   unfolding span-lines Span-says refusal asks Span-as says answer-lines
   span-is = go (refusal (span lo hi o) x) refl h
     where
       go : (n : ℕ) → refusal (span lo hi o) x ≡ n → Span-as n (between lo hi (orders-in x)) r o z
           → answer-lines n (length (between lo hi (orders-in x)) ∷ []) (map order-line (between lo hi (orders-in x)))
-          ≡ answer-lines (r .number) (r .total ∷ []) (map order-line (nodes-from (r .total) z))
-      go zero e s = rw (s .0 .0, s .0 .2, s .1, span-back x lo hi _ (taken (span lo hi o) x e .0))
+          ≡ answer-lines (r .number) (r .count ∷ []) (map order-line (nodes-from (r .count) z))
+      go zero e s = rw (s .0 .0, s .0 .4, s .1, span-back x lo hi _ (taken (span lo hi o) x e .0))
       go (suc n) e s = rw (s .0 .0)
 
   -- what it found fits the output that it was lent
-  pub span-room : 12 * r .total ≤ length o
+  pub span-room : 12 * r .count ≤ length o
   unfolding Span-says Span-as says book-refusal asks asks-span asks-range first-no
   span-room = go (refusal (span lo hi o) x) refl h
     where
-      go : (n : ℕ) → refusal (span lo hi o) x ≡ n → Span-as n (between lo hi (orders-in x)) r o z → 12 * r .total ≤ length o
+      go : (n : ℕ) → refusal (span lo hi o) x ≡ n → Span-as n (between lo hi (orders-in x)) r o z → 12 * r .count ≤ length o
       go zero e s =
           let a = passes 4 (is-key lo && is-key hi) _ (taken (span lo hi o) x e .1) in
           let b = passes 9 (leb lo hi) _ (a .1) in
           let c = passes 10 (leb (12 * length (between lo hi (orders-in x))) (length o)) 0 (b .1) in
-          omega (arith, s .0 .2, leb-true (12 * length (between lo hi (orders-in x))) (length o) (c .0))
-      go (suc n) e s = omega (arith, s .0 .2)
+          omega (arith, s .0 .4, leb-true (12 * length (between lo hi (orders-in x))) (length o) (c .0))
+      go (suc n) e s = omega (arith, s .0 .4)
 
   module _ (old : List ℕ) (used : ℕ) (new : List ℕ) (p : ℕ) where
     pub span-no : r .number ≢ 0 → Said old used (row (r .number) [] ∷ []) new p → Said old used (span-lines x lo hi (length o)) new p
     span-no e s = rw (span-is, no-lines) s
 
-    pub span-yes : r .number ≡ 0 → (mid : List ℕ) (q : ℕ) → Said old used (row 0 (r .total ∷ []) ∷ []) mid q
-        → Said mid q (map order-line (nodes-from (r .total) z)) new p → Said old used (span-lines x lo hi (length o)) new p
+    pub span-yes : r .number ≡ 0 → (mid : List ℕ) (q : ℕ) → Said old used (row 0 (r .count ∷ []) ∷ []) mid q
+        → Said mid q (map order-line (nodes-from (r .count) z)) new p → Said old used (span-lines x lo hi (length o)) new p
     span-yes e mid q a b = rw (span-is, yes-lines) (said-on old mid new used q p _ _ a b)
