@@ -15,6 +15,7 @@ pub mod Cells
 pub mod Rows
 pub mod Coded
 pub mod Loops
+pub mod Behind
 pub mod Bridge
 pub mod Pulling
 pub mod Settling

@@ -6,7 +6,8 @@ use Prim.Native.Nat.{ℕ, zero, suc, _+_, _*_, _-_, _%_, _≤_, _<_}
 use lib.Dec.{ltb, leb, eqb}
 use lib.ListN.{length, getD, replicate}
 use Rattle.sizes.specs.Numbers.{field, big}
-use Rattle.sizes.specs.Sizes.{seed-good}
+use Rattle.sizes.specs.Sizes.{prime, seed-good}
+use Rattle.sizes.specs.Hash.{g}
 use Rattle.sizes.specs.Header.{block-long}
 use Rattle.sizes.specs.Parts.{put-block, clear-in, copy-in, swap-in}
 use Rattle.sizes.specs.declared.Sizes.{Sizes}
@@ -42,10 +43,21 @@ probe look m w (suc k) i =
 unfoldable pub search-in : Sizes → List ℕ → Label → Found
 search-in s bs w = probe (label-in (block-long s) bs) (s .blocks) w (s .blocks) (home s w)
 
+-- block i, or each of four from there on, holds a chunk of a level below l
+unfoldable pub is-lower : (look : ℕ → Label) → (l i : ℕ) → Bool
+is-lower look l i = ltb 0 (look i .level) && ltb (look i .level) l
+
+unfoldable pub four-lower : (look : ℕ → Label) → (l i : ℕ) → Bool
+four-lower look l i = is-lower look l i && (is-lower look l (i + 1) && (is-lower look l (i + 2) && is-lower look l (i + 3)))
+
 -- the first of so many blocks from block i on that is empty or has a chunk of level l or more
 unfoldable pub past-lower : (look : ℕ → Label) → (l : ℕ) → (count i : ℕ) → ℕ
 past-lower look l zero i = i
-past-lower look l (suc k) i = cond (ltb 0 (look i .level) && ltb (look i .level) l) (past-lower look l k (suc i)) i
+past-lower look l (suc k) i = cond (is-lower look l i) (past-lower look l k (suc i)) i
+
+-- where the search for a chunk w may start if the one before it was found in block i
+unfoldable pub behind : Sizes → Label → (i : ℕ) → ℕ
+behind s w i = cond (eqb (g s (w .first) + 65536 * w .level + w .number) prime) 0 ((i + 1) % s .blocks)
 
 -- REMOVAL: how far it is from block a on to block b; a chunk stays if its home lies past the hole, up to its block
 unfoldable pub distance-of : (m a b : ℕ) → ℕ

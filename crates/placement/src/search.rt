@@ -7,7 +7,7 @@ ghost use Rattle.sizes.specs.Numbers.{over};
 ghost use Rattle.sizes.specs.Hash.{hash-from};
 ghost use Rattle.sizes.specs.Header.{block-long};
 ghost use Rattle.placement.specs.Labels.{home};
-ghost use Rattle.placement.specs.Place.{Shaped, label-in, probe, past-lower, search-in, free-in};
+ghost use Rattle.placement.specs.Place.{Shaped, label-in, probe, is-lower, four-lower, past-lower, search-in, behind, free-in};
 use crate::Found;
 use crate::Label;
 use crate::labels::home;
@@ -52,23 +52,63 @@ fn find_from(table: &[u8], s: Sizes, start: u32, most: u32, want: Label) -> Foun
     found
 }
 
-// The first block from one on, up to the last of the table, that is empty or whose chunk is not of a lower level. One byte of each tells.
+// Does a block hold a chunk of a lower level? One byte tells.
+fn lower(table: &[u8], s: Sizes, i: u32, level: u32) -> bool
+    requires { ⌜ Shaped s (now table) × (i < s .blocks) ⌝ }
+    ensures { λ r. ⌜ r ≡ is-lower (label-in (block-long s) (now (table .entry))) level i ⌝ }
+{
+    let l = sizes::numbers::wide(table[offset(s, i)]);
+    0 < l && l < level
+}
+
+// Do four in a row?
+fn four_lower(table: &[u8], s: Sizes, i: u32, level: u32) -> bool
+    requires { ⌜ Shaped s (now table) × (i + 4 ≤ s .blocks) ⌝ }
+    ensures { λ r. ⌜ r ≡ four-lower (label-in (block-long s) (now (table .entry))) level i ⌝ }
+{
+    lower(table, s, i, level)
+        && (lower(table, s, i + 1, level)
+            && (lower(table, s, i + 2, level) && lower(table, s, i + 3, level)))
+}
+
+// Past blocks from one on, four in a turn, as far as all four hold chunks of lower levels: most of a search on a way down.
+fn past_fours(table: &[u8], s: Sizes, start: u32, level: u32) -> u32
+    requires { ⌜ Shaped s (now table) × (start < s .blocks) ⌝ }
+    ensures { λ r. ⌜ (past-lower (label-in (block-long s) (now (table .entry))) level (s .blocks - r) r ≡ past-lower (label-in (block-long s) (now (table .entry))) level (s .blocks - start) start) × (start ≤ r) × (r ≤ s .blocks) ⌝ }
+{
+    let mut i = start;
+    while i + 4 <= s.blocks {
+        if !four_lower(table, s, i, level) {
+            return i;
+        }
+        i += 4;
+    }
+    i
+}
+
+// The first block from one on, up to the last of the table, that is empty or whose chunk is not of a lower level.
 fn past_lower(table: &[u8], s: Sizes, start: u32, level: u32) -> u32
     requires { ⌜ Shaped s (now table) × (start < s .blocks) ⌝ }
     ensures { λ r. ⌜ (r ≡ past-lower (label-in (block-long s) (now (table .entry))) level (s .blocks - start) start) × (start ≤ r) × (r ≤ s .blocks) ⌝ }
 {
-    let mut i = start;
+    let mut i = past_fours(table, s, start, level);
     while i < s.blocks {
-        let l = sizes::numbers::wide(table[offset(s, i)]);
-        if l == 0 {
-            return i;
-        }
-        if level <= l {
+        if !lower(table, s, i, level) {
             return i;
         }
         i += 1;
     }
     i
+}
+
+// The search for a label from a block on, once around at most, on a way down, where most labels are of high levels: such a chunk may stand far behind its
+// home, and all chunks of lower levels in between are passed first.
+pub fn find_past(table: &[u8], s: Sizes, start: u32, want: Label) -> Found
+    requires { ⌜ Shaped s (now table) × (start < s .blocks) ⌝ }
+    ensures { λ r. ⌜ r ≡ probe (label-in (block-long s) (now (table .entry))) (s .blocks) want (s .blocks) start ⌝ }
+{
+    let i = past_lower(table, s, start, want.level);
+    find_from(table, s, around(i, s.blocks), s.blocks - (i - start), want)
 }
 
 // The block with a label, or nothing: from home on, once around at most.
@@ -87,15 +127,24 @@ pub fn find_over(table: &[u8], s: Sizes, round: u64, g: u32, want: Label) -> Fou
     find_from(table, s, home_over(s, round, g, want), s.blocks, want)
 }
 
-// The same on a way down, where most labels are of high levels: such a chunk may stand far behind its home, and all chunks of lower levels in between
-// are passed first.
+// The same on a way down.
 pub fn find_high(table: &[u8], s: Sizes, round: u64, g: u32, want: Label) -> Found
     requires { ⌜ Shaped s (now table) × (round ≡ over (s .blocks)) × (g ≡ hash-from 5 5 (s .seed) (want .first)) × (want .level ≤ 19) × (want .number ≤ 65535) ⌝ }
     ensures { λ r. ⌜ r ≡ search-in s (now (table .entry)) want ⌝ }
 {
-    let start = home_over(s, round, g, want);
-    let i = past_lower(table, s, start, want.level);
-    find_from(table, s, around(i, s.blocks), s.blocks - (i - start), want)
+    find_past(table, s, home_over(s, round, g, want), want)
+}
+
+// Where the search for a chunk may start once the chunk before it was found in block i: behind that, for all on the way from its home are smaller. Only
+// where its place comes to p is its home another: the first block.
+pub fn behind(s: Sizes, g: u32, want: Label, i: u32) -> u32
+    requires { ⌜ (i < s .blocks) × (g ≡ hash-from 5 5 (s .seed) (want .first)) × (g < 2147483647) × (want .level ≤ 19) × (want .number ≤ 65535) ⌝ }
+    ensures { λ r. ⌜ (r ≡ behind s want i) × (r < s .blocks) ⌝ }
+{
+    if g + 65536 * want.level + want.number == 2147483647 {
+        return 0;
+    }
+    around(i + 1, s.blocks)
 }
 
 // Does the search for a label start at an empty block, and end there?

@@ -1,7 +1,7 @@
 -- What the loops of this crate keep, and their turns.
 use mathlib.Core.Path.{_≡_, refl, sym, ap, _∙_}
 use mathlib.Core.List.{List, [], _∷_, _++_}
-use mathlib.Core.Bool.{Bool, true, false, _&&_, _||_, cond, and-false, false≢true}
+use mathlib.Core.Bool.{Bool, true, false, _&&_, _||_, cond, false≢true}
 use Prim.Native.Nat.{ℕ, zero, suc, _+_, _*_, _-_, _/_, _%_, _≤_, _<_}
 use native.Mathlib.Nat.{le-refl, add-zero, sub-zero, sub-eq-zero-of-le, pos-of-ne-zero, mod-lt, mod-eq-of-lt, mod-eq-sub-mod, mod-self, lt-of-lt-of-le}
 use native.Mathlib.Omega.{arith}
@@ -19,7 +19,7 @@ use Rattle.sizes.specs.declared.Sizes.{Sizes}
 use Rattle.placement.specs.declared.Label.{Label}
 use Rattle.placement.specs.declared.Found.{Found}
 use Rattle.placement.specs.declared.Found.the-variants.{At, Nothing}
-use Rattle.placement.specs.Place.{Shaped, label-in, passes-label, probe, past-lower, search-in, distance-of, stays-at, bytes, Pulled, pull, settle, found-at, taken-out, free-in, head-bytes, block-with, inserted}
+use Rattle.placement.specs.Place.{Shaped, label-in, passes-label, probe, is-lower, four-lower, past-lower, search-in, behind, distance-of, stays-at, bytes, Pulled, pull, settle, found-at, taken-out, free-in, head-bytes, block-with, inserted}
 use Rattle.sizes.proofs.Laws.Parts.{sets-append}
 use Rattle.sizes.proofs.Laws.Sizes.{and-parts}
 use Rattle.placement.specs.Labels.{before, same-label, home}
@@ -36,7 +36,7 @@ one-on : (i k : ℕ) → i + (k + 1) ≡ suc (i + k)
 one-on i k = omega arith
 
 -- the search goes by where it stands on the way round
-probe-round : (look : ℕ → Label) (m : ℕ) (w : Label) (k i j : ℕ) → i % m ≡ j % m → probe look m w k i ≡ probe look m w k j
+pub probe-round : (look : ℕ → Label) (m : ℕ) (w : Label) (k i j : ℕ) → i % m ≡ j % m → probe look m w k i ≡ probe look m w k j
 unfolding probe
 probe-round look m w zero i j e = refl
 probe-round look m w (suc k) i j e = rw (e, probe-round look m w k (suc i) (suc j) (suc-mod-same m i j e))
@@ -88,14 +88,11 @@ around-first i m h l =
 
 -- A SEARCH PASSES all blocks of lower levels
 module _ (look : ℕ → Label) (m : ℕ) (w : Label) where
-  abbrev lower : (i : ℕ) → Bool
-  lower i = ltb 0 (look i .level) && ltb (look i .level) (w .level)
-
-  lower-passes : (i : ℕ) → lower i ≡ true → passes-label (look i) w ≡ true
-  unfolding passes-label before
+  lower-passes : (i : ℕ) → is-lower look (w .level) i ≡ true → passes-label (look i) w ≡ true
+  unfolding passes-label before is-lower
   lower-passes i e = let p = and-parts (ltb 0 (look i .level)) (ltb (look i .level) (w .level)) e in rw (p .0, p .1)
 
-  passed-one : (f i : ℕ) → i < m → 0 < f → lower i ≡ true → probe look m w f i ≡ probe look m w (f - 1) (suc i)
+  passed-one : (f i : ℕ) → i < m → 0 < f → is-lower look (w .level) i ≡ true → probe look m w f i ≡ probe look m w (f - 1) (suc i)
   unfolding probe
   passed-one f i h some e =
       let n : f ≡ suc (f - 1) = omega arith in
@@ -104,19 +101,27 @@ module _ (look : ℕ → Label) (m : ℕ) (w : Label) where
   past-least : (c i : ℕ) → i ≤ past-lower look (w .level) c i
   unfolding past-lower
   past-least zero i = le-refl i
-  past-least (suc c) i = cond-valid (λ n. i ≤ n) (lower i) (omega (arith, past-least c (suc i))) (le-refl i)
+  past-least (suc c) i = cond-valid (λ n. i ≤ n) (is-lower look (w .level) i) (omega (arith, past-least c (suc i))) (le-refl i)
 
   past-probe : (c f i : ℕ) → i + c ≤ m → c ≤ f →
       probe look m w f i ≡ probe look m w (f - (past-lower look (w .level) c i - i)) (past-lower look (w .level) c i)
   unfolding past-lower
   past-probe zero f i h g = ap (λ (k : ℕ). probe look m w k i) (omega arith)
-  past-probe (suc c) f i h g = go (lower i) refl (past-least c (suc i)) (past-probe c (f - 1) (suc i) (omega arith) (omega arith))
+  past-probe (suc c) f i h g = go (is-lower look (w .level) i) refl (past-least c (suc i)) (past-probe c (f - 1) (suc i) (omega arith) (omega arith))
     where
-      go : (b : Bool) → lower i ≡ b → suc i ≤ past-lower look (w .level) c (suc i) →
+      go : (b : Bool) → is-lower look (w .level) i ≡ b → suc i ≤ past-lower look (w .level) c (suc i) →
           probe look m w (f - 1) (suc i) ≡ probe look m w (f - 1 - (past-lower look (w .level) c (suc i) - suc i)) (past-lower look (w .level) c (suc i)) →
           probe look m w f i ≡ probe look m w (f - (cond b (past-lower look (w .level) c (suc i)) i - i)) (cond b (past-lower look (w .level) c (suc i)) i)
       go true e l r = passed-one f i (omega arith) (omega arith) e ∙ r ∙ ap (λ (n : ℕ). probe look m w n (past-lower look (w .level) c (suc i))) (omega arith)
       go false e l r = ap (λ (k : ℕ). probe look m w k i) (omega arith)
+
+  -- .. and goes on from the first block that is not of a lower level
+  pub past-search : (start i j : ℕ) (r : Found) → start < m → i ≡ past-lower look (w .level) (m - start) start → j ≡ i % m → j < m →
+      r ≡ probe look m w (m - (i - start)) j → r ≡ probe look m w m start
+  past-search start i j r h ei ej hj er =
+      let there : probe look m w m start ≡ probe look m w (m - (i - start)) i =
+      past-probe (m - start) m start (omega arith) (omega arith) ∙ ap (λ (x : ℕ). probe look m w (m - (x - start)) x) (sym ei) in
+      er ∙ probe-round look m w (m - (i - start)) j i (mod-eq-of-lt hj ∙ ej) ∙ sym there
 
 -- the search for a label is the one from home on, round the whole table
 pub home-search : (s : Sizes) (bs : List ℕ) (w : Label) (start : ℕ) (r : Found) → start ≡ home s w →
@@ -124,58 +129,91 @@ pub home-search : (s : Sizes) (bs : List ℕ) (w : Label) (start : ℕ) (r : Fou
 unfolding search-in
 home-search s bs w start r eh er = er ∙ ap (probe (label-in (block-long s) bs) (s .blocks) w (s .blocks)) eh
 
--- .. and goes on from the first block that is not of a lower level
-pub past-search : (s : Sizes) (bs : List ℕ) (w : Label) (start i j : ℕ) (r : Found) → start ≡ home s w → start < s .blocks →
-    i ≡ past-lower (label-in (block-long s) bs) (w .level) (s .blocks - start) start → j ≡ i % s .blocks → j < s .blocks →
-    r ≡ probe (label-in (block-long s) bs) (s .blocks) w (s .blocks - (i - start)) j → r ≡ search-in s bs w
-past-search s bs w start i j r eh h ei ej hj er =
-    let look = label-in (block-long s) bs in
-    let m = s .blocks in
-    let there : probe look m w m start ≡ probe look m w (m - (i - start)) i =
-    past-probe look m w (m - start) m start (omega arith) (omega arith) ∙ ap (λ (x : ℕ). probe look m w (m - (x - start)) x) (sym ei) in
-    home-search s bs w start r eh (er ∙ probe-round look m w (m - (i - start)) j i (mod-eq-of-lt hj ∙ ej) ∙ sym there)
-
--- what the loop of `past_lower` keeps
+-- what the loops of `past_fours` and `past_lower` keep
 pub record Lowering (look : ℕ → Label) (l m start i : ℕ) : Type 0 where
+  pub rest : past-lower look l (m - i) i ≡ past-lower look l (m - start) start
   pub least : start ≤ i
   pub most : i ≤ m
-  pub rest : past-lower look l (m - start) start ≡ past-lower look l (m - i) i
 
 module _ (look : ℕ → Label) (l m start : ℕ) where
   pub lowering-start : start < m → Lowering look l m start start
-  lowering-start h = record { least = le-refl start; most = omega arith; rest = refl }
+  lowering-start h = record { rest = refl; least = le-refl start; most = omega arith }
 
   module _ (i : ℕ) (q : Lowering look l m start i) where
     pub lowering-end : m ≤ i → i ≡ past-lower look l (m - start) start
     unfolding past-lower
-    lowering-end h = sym (q .rest ∙ ap (λ (k : ℕ). past-lower look l k i) (sub-eq-zero-of-le h))
+    lowering-end h = ap (λ (k : ℕ). past-lower look l k i) (sym (sub-eq-zero-of-le h)) ∙ q .rest
 
-    module _ (v : ℕ) (ev : v ≡ look i .level) (h : i < m) where
-      stops : (ltb 0 v && ltb v l) ≡ false → i ≡ past-lower look l (m - start) start
+    module _ (h : i < m) (t : Bool) (et : t ≡ is-lower look l i) where
+      one : past-lower look l (m - i) i ≡ cond t (past-lower look l (m - (i + 1)) (suc i)) i
       unfolding past-lower
-      stops z = sym (q .rest ∙ ap (λ (k : ℕ). past-lower look l k i) (one-left h) ∙ rw (← ev, z))
+      one = ap (λ (k : ℕ). past-lower look l k i) (one-left h) ∙ rw et
 
-      pub lowering-empty : v ≡ 0 → i ≡ past-lower look l (m - start) start
-      lowering-empty z = stops (rw z)
+      pub lowering-stop : t ≡ false → i ≡ past-lower look l (m - start) start
+      lowering-stop z = sym (one ∙ rw z) ∙ q .rest
 
-      pub lowering-high : l ≤ v → i ≡ past-lower look l (m - start) start
-      lowering-high g = stops (rw (le-ltb v l g) (and-false (ltb 0 v)))
+      pub lowering-more : t ≡ true → Lowering look l m start (i + 1)
+      lowering-more z = record { rest = ap (past-lower look l (m - (i + 1))) (add-one i) ∙ sym (one ∙ rw z) ∙ q .rest; least = omega (arith, q .least); most = omega arith }
 
-      pub lowering-more : (v ≡ 0 → ⊥) → v < l → Lowering look l m start (i + 1)
-      unfolding past-lower
-      lowering-more ne g =
-          let b : (ltb 0 v && ltb v l) ≡ true = rw (lt-ltb 0 v (pos-of-ne-zero ne), lt-ltb v l g) in
-          let one : past-lower look l (suc (m - (i + 1))) i ≡ past-lower look l (m - (i + 1)) (suc i) = rw (← ev, b) in
-          record {
-            least = let a = q .least in omega arith;
-            most = omega arith;
-            rest = q .rest ∙ ap (λ (k : ℕ). past-lower look l k i) (one-left h) ∙ one ∙ ap (past-lower look l (m - (i + 1))) (sym (add-one i));
-          }
+  lowering-on : (i n : ℕ) → Lowering look l m start i → n ≤ m → n ≡ i + 1 → is-lower look l i ≡ true → Lowering look l m start n
+  lowering-on i n q h e z = rw e (lowering-more i q (omega arith) true (sym z) refl)
 
--- the level of the label in block i
-pub level-there : (w : ℕ) (bs : List ℕ) (i a v : ℕ) → a ≡ 53 + i * w → v ≡ getD bs a 0 → v ≡ label-in w bs i .level
-unfolding label-in
-level-there w bs i a v ea ev = ev ∙ ap (λ (x : ℕ). getD bs x 0) ea
+  -- four in one turn
+  pub lowering-four : (i : ℕ) → Lowering look l m start i → i + 4 ≤ m → (t : Bool) → t ≡ four-lower look l i → t ≡ true → Lowering look l m start (i + 4)
+  unfolding four-lower
+  lowering-four i q h t et z =
+      let low : (k : ℕ) → Bool = λ k. is-lower look l (i + k) in
+      let a = and-parts (is-lower look l i) (low 1 && (low 2 && low 3)) (sym et ∙ z) in
+      let b = and-parts (low 1) (low 2 && low 3) (a .1) in
+      let c = and-parts (low 2) (low 3) (b .1) in
+      let one = lowering-on i (i + 1) q (omega arith) refl (a .0) in
+      let two = lowering-on (i + 1) (i + 2) one (omega arith) (omega arith) (b .0) in
+      let three = lowering-on (i + 2) (i + 3) two (omega arith) (omega arith) (c .0) in
+      lowering-on (i + 3) (i + 4) three h (omega arith) (c .1)
+
+-- as `four_lower` asks: the first block that is not lower tells, or the last
+module _ (look : ℕ → Label) (l i : ℕ) (a : Bool) (ea : a ≡ is-lower look l i) where
+  pub four-first : a ≡ false → a ≡ four-lower look l i
+  unfolding four-lower
+  four-first z = rw (← ea, z)
+
+  module _ (ha : a ≡ true) (b : Bool) (eb : b ≡ is-lower look l (i + 1)) where
+    pub four-second : b ≡ false → b ≡ four-lower look l i
+    unfolding four-lower
+    four-second z = rw (← ea, ha, ← eb, z)
+
+    module _ (hb : b ≡ true) (c : Bool) (ec : c ≡ is-lower look l (i + 2)) where
+      pub four-third : c ≡ false → c ≡ four-lower look l i
+      unfolding four-lower
+      four-third z = rw (← ea, ha, ← eb, hb, ← ec, z)
+
+      pub four-fourth : c ≡ true → (d : Bool) → d ≡ is-lower look l (i + 3) → d ≡ four-lower look l i
+      unfolding four-lower
+      four-fourth z d ed = rw (← ea, ha, ← eb, hb, ← ec, z) ed
+
+-- as `lower` asks: one byte tells
+module _ (w : ℕ) (bs : List ℕ) (i a v l : ℕ) (ea : a ≡ 53 + i * w) (ev : v ≡ getD bs a 0) where
+  level-there : v ≡ label-in w bs i .level
+  unfolding label-in
+  level-there = ev ∙ ap (λ (x : ℕ). getD bs x 0) ea
+
+  pub lower-none : v ≤ 0 → ltb 0 v ≡ is-lower (label-in w bs) l i
+  unfolding is-lower
+  lower-none h = rw (← level-there, le-ltb 0 v h)
+
+  pub lower-some : 0 < v → ltb v l ≡ is-lower (label-in w bs) l i
+  unfolding is-lower
+  lower-some h = rw (← level-there, lt-ltb 0 v h)
+
+-- as `behind` asks
+module _ (s : Sizes) (w : Label) (i h : ℕ) (e : h ≡ hash-from 5 5 (s .seed) (w .first)) where
+  pub behind-first : h + 65536 * w .level + w .number ≡ 2147483647 → 0 ≡ behind s w i
+  unfolding behind g
+  behind-first z = rw (← e, eq-eqb _ _ z)
+
+  pub behind-next : (h + 65536 * w .level + w .number ≡ 2147483647 → ⊥) → (r : ℕ) → r ≡ (i + 1) % s .blocks → r ≡ behind s w i
+  unfolding behind g
+  behind-next z r er = rw (← e, ne-eqb _ _ z) er
 
 -- a block that the search finds is one of the table
 abbrev below : Found → (m : ℕ) → Type 0

@@ -1,13 +1,14 @@
 -- `placement::search::past_lower` meets its contract: each need follows from the laws listed.
 use borrow.Author.Needs.{needs}
+use borrow.Author.Tests.{not-true, not-false}
 use Prim.Native.Nat.{_-_}
 use Rattle.sizes.specs.Header.{block-long}
 use Rattle.placement.specs.Place.{label-in}
-use Rattle.placement.proofs.Laws.Loops.{Lowering, lowering-start, lowering-end, lowering-empty, lowering-high, lowering-more, level-there}
+use Rattle.placement.proofs.Laws.Loops.{Lowering, lowering-end, lowering-stop, lowering-more}
 use Rattle.placement.proofs.search.past_lower.Statement.{statement}
 use Rattle.placement.proofs.search.past_lower.Tie as tie
 
-ruleset laws = (needs, lowering-start, lowering-end, lowering-empty, lowering-high, lowering-more, level-there)
+ruleset laws = (needs, not-true, not-false, lowering-end, lowering-stop, lowering-more)
 
 abbrev Inv-loop : tie.InvT-loop
 Inv-loop table s start level i₀ i = Lowering (label-in (block-long s) table) level (s .blocks) start i
@@ -18,5 +19,5 @@ abbrev μ-loop : tie.MeasureT-loop
 pub past-lower-spec : {M : Type 1} → statement M
 past-lower-spec =
     tie.close
-    (tie.spec Inv-loop μ-loop (λ c. search laws) (λ c κs. search laws) (λ c. search laws) (λ c κs. search laws) (λ c. search laws) (λ c. search laws)
-    (λ c. search laws) (λ c. search laws) (λ c. search laws) (λ c. search laws))
+    (tie.spec Inv-loop μ-loop (λ c κs. search laws) (λ c. search laws) (λ c κs. search laws) (λ c. search laws) (λ c. search laws) (λ c. search laws)
+    (λ c. search laws) (λ c. search laws))
