@@ -54,7 +54,7 @@ fn pass_nodes(table: &[u8], at: usize, n: u32, y: u32, x: Spot) -> Spot
 }
 
 // A chunk's block, by the hash g of the first key.
-pub fn chunk(table: &[u8], q: Geometry, g: u32, level: u32, first: u32, number: u32) -> Found
+fn chunk(table: &[u8], q: Geometry, g: u32, level: u32, first: u32, number: u32) -> Found
     requires { ⌜ Shaped (q .sizes) (now table) × Reckoned q × (g ≡ hash-from 5 5 (q .sizes .seed) first) × (level ≤ q .top) × (number ≤ 65535) ⌝ }
     ensures { λ r. ⌜ r ≡ search-in (q .sizes) (now (table .entry)) (label level first number) ⌝ }
 {

@@ -4,14 +4,18 @@ ghost use mathlib.Core.Path.{_≡_};
 ghost use Prim.Native.Nat.{_+_, _*_, _-_, _≤_, _<_};
 ghost use lib.ListN.{length};
 ghost use Rattle.sizes.specs.Geometry.{Reckoned};
+ghost use Rattle.sizes.specs.Hash.{hash-from};
 ghost use Rattle.sizes.specs.Header.{block-long};
 ghost use Rattle.placement.specs.Place.{Shaped};
 ghost use Rattle.levels.specs.Ways.{starting, trek, number-in, upto-in, reached-in, trod, along-in, down-in};
 use crate::Trail;
-use crate::spots::chunk;
 use placement::Found;
+use placement::Label;
+use placement::labels::home_over;
 use placement::labels::offset;
+use placement::search::behind;
 use placement::search::count_at;
+use placement::search::find_past;
 use sizes::Geometry;
 use sizes::Sizes;
 use sizes::hash::hash;
@@ -71,20 +75,24 @@ fn tread(table: &[u8], s: Sizes, i: u32, n: u32, t: Trail, path: &mut [u8]) -> T
 
 // One level: chunk after chunk of the partition that is to be gone through. A chunk that is looked at only to see that its first key is larger is not on
 // the way.
-fn along(table: &[u8], q: Geometry, level: u32, y: u32, t: Trail, path: &mut [u8]) -> Trail
-    requires { ⌜ Shaped (q .sizes) (now table) × Reckoned q × (level ≤ q .top) × (t .count + 65535 ≤ 4294967295) ⌝ }
+fn along(table: &[u8], q: Geometry, g: u32, level: u32, y: u32, t: Trail, path: &mut [u8]) -> Trail
+    requires { ⌜ Shaped (q .sizes) (now table) × Reckoned q × (g ≡ hash-from 5 5 (q .sizes .seed) (t .first)) × (0 < level) × (level ≤ q .top) × (t .count + 65535 ≤ 4294967295) ⌝ }
     ensures { λ r. ⌜ (trek r (now (path .exit)) ≡ along-in (q .sizes) (now (table .entry)) level y (trek t (now (path .entry)))) × (r .count ≤ t .count + 65535) × (r .at + 12 ≤ length (now (table .entry))) ⌝ }
 {
     let s = q.sizes;
-    let g = hash(s, 5, t.first);
     let mut w = Trail {
         count: t.count,
         first: t.first,
         at: 0,
     };
-    let mut number: u32 = 0;
-    while number < s.blocks {
-        let Found::At(i) = chunk(table, q, g, level, t.first, number) else {
+    let mut want = Label {
+        level: level,
+        first: t.first,
+        number: 0,
+    };
+    let mut start = home_over(s, q.round, g, want);
+    while want.number < s.blocks {
+        let Found::At(i) = find_past(table, s, start, want) else {
             return w;
         };
         let n = reached(table, s, i, y);
@@ -95,7 +103,8 @@ fn along(table: &[u8], q: Geometry, level: u32, y: u32, t: Trail, path: &mut [u8
         if n < s.nodes {
             return w;
         }
-        number += 1;
+        want.number += 1;
+        start = behind(s, g, want, i);
     }
     w
 }
@@ -110,9 +119,16 @@ pub fn descend(table: &[u8], q: Geometry, l: u32, y: u32, path: &mut [u8]) -> Tr
         first: 0,
         at: 0,
     };
+    // One hash for a key: where the way stays with a partition's first key, the hash is that of the level above.
+    let mut first: u32 = 0;
+    let mut g = hash(q.sizes, 5, 0);
     let mut level = q.top;
     while l < level {
-        t = along(table, q, level, y, t, path);
+        if t.first != first {
+            first = t.first;
+            g = hash(q.sizes, 5, first);
+        }
+        t = along(table, q, g, level, y, t, path);
         level -= 1;
     }
     t

@@ -1,22 +1,26 @@
 -- Laws of the way down on any bytes: the nodes of a chunk, the chunks of a level, the levels.
 use mathlib.Core.Path.{_≡_, refl, sym, ap, _∙_}
-use mathlib.Core.Bool.{Bool, true, false}
 use mathlib.Core.List.{List}
-use Prim.Native.Nat.{ℕ, zero, suc, _+_, _*_, _-_, _≤_, _<_}
+use Prim.Native.Nat.{ℕ, suc, _+_, _*_, _-_, _≤_, _<_}
 use native.Mathlib.Nat.{zero-add}
 use native.Mathlib.Omega.{arith}
-use borrow.Author.Tests.{eq-eqb, ne-eqb, le-leb, lt-leb, le-ltb, lt-ltb}
-use lib.Dec.{ltb, leb, eqb}
+use borrow.Author.Tests.{ne-eqb, le-leb, lt-leb, le-ltb, lt-ltb}
+use lib.Dec.{leb}
 use lib.ListN.{length, getD}
 use lib.Seq.{sets, length-sets}
 use Rattle.sizes.specs.Numbers.{big, field}
 use Rattle.sizes.specs.Header.{block-long}
-use Rattle.placement.specs.Labels.{label}
-use Rattle.placement.specs.Place.{Shaped, search-in}
+use Rattle.sizes.specs.Hash.{hash-from}
+use Rattle.placement.specs.Labels.{label, home}
+use Rattle.placement.specs.Place.{Shaped, label-in, probe, search-in, behind}
 use Rattle.sizes.specs.declared.Sizes.{Sizes}
+use Rattle.placement.specs.declared.Label.{Label}
 use Rattle.placement.specs.declared.Found.{Found}
 use Rattle.placement.specs.declared.Found.the-variants.{At, Nothing}
+use Rattle.sizes.proofs.Laws.Hashes.{hash-below}
 use Rattle.placement.proofs.Laws.Cells.{cond-valid}
+use Rattle.placement.proofs.Laws.Loops.{search-below}
+use Rattle.placement.proofs.Laws.Behind.{search-behind}
 use Rattle.levels.specs.declared.Trail.{Trail}
 use Rattle.levels.specs.Ways.{Trek, trek, coming, starting, number-in, upto-in, reached-in, found-upto, found-block, node-place, trod, chunks-in, along-in, down-in}
 
@@ -92,70 +96,100 @@ pub trod-is : (s : Sizes) (bs : List ℕ) (i n : ℕ) (t : Trail) (o : List ℕ)
 unfolding trod node-place
 trod-is s bs i n t o a ea k ek z ez = rw (ek, ez, ea)
 
--- THE CHUNKS of a level
-pub record Along (s : Sizes) (bs : List ℕ) (l y : ℕ) (t : Trail) (o : List ℕ) (j : ℕ) (w : Trail) (z : List ℕ) : Type 0 where
-  pub within : j ≤ s .blocks
-  pub few : w .count ≤ t .count + j
+-- the search for the next chunk
+search-next : (s : Sizes) (bs : List ℕ) (l f l′ f′ j i start : ℕ) → l′ ≡ l → f′ ≡ f → 0 < l → l ≤ 19 → j + 1 ≤ 65535 → search-in s bs (label l f j) ≡ At i
+    → start ≡ behind s (label l′ f′ (j + 1)) i
+    → probe (label-in (block-long s) bs) (s .blocks) (label l′ f′ (j + 1)) (s .blocks) start ≡ search-in s bs (label l f (j + 1))
+search-next s bs l f l′ f′ j i start el ef some high few e es = rw (es, el, ef) (search-behind s bs l f j i some high few e)
+
+-- THE CHUNKS of a level: chunk v comes next, and is found from block `start` on
+pub record Along (s : Sizes) (bs : List ℕ) (l y c f : ℕ) (o : List ℕ) (v : Label) (start : ℕ) (w : Trail) (z : List ℕ) : Type 0 where
+  pub level : v .level ≡ l
+  pub first : v .first ≡ f
+  pub within : v .number ≤ s .blocks
+  pub few : w .count ≤ c + v .number
   pub inside : w .at + 12 ≤ length bs
   pub long : length z ≡ length o
-  pub rest : along-in s bs l y (trek t o) ≡ chunks-in s bs l (t .first) y (s .blocks - j) j (trek w z)
+  pub rest : along-in s bs l y (trek (coming c f) o) ≡ chunks-in s bs l f y (s .blocks - v .number) (v .number) (trek w z)
+  pub below : start < s .blocks
+  pub next : probe (label-in (block-long s) bs) (s .blocks) v (s .blocks) start ≡ search-in s bs (label l f (v .number))
 
 module _ (s : Sizes) (bs : List ℕ) (l y : ℕ) (t : Trail) (o : List ℕ) (g : Shaped s bs) where
   -- what is said of the way when the level is done
   abbrev Gone : (r : Trail) → (z : List ℕ) → Type 0
   Gone r z = (trek r z ≡ along-in s bs l y (trek t o)) × (r .count ≤ t .count + 65535) × (r .at + 12 ≤ length bs)
 
-  pub along-start : Along s bs l y t o 0 (coming (t .count) (t .first)) o
-  unfolding along-in
-  along-start =
+  pub along-start : (start : ℕ) → start ≡ home s (label l (t .first) 0) → start < s .blocks
+      → Along s bs l y (t .count) (t .first) o (label l (t .first) 0) start (coming (t .count) (t .first)) o
+  unfolding along-in search-in
+  along-start start e h =
       let c : s .blocks - 0 ≡ s .blocks = omega arith in
-      record { within = omega arith; few = omega arith; inside = omega (arith, g .long); long = refl; rest = rw c }
+      record { level = refl; first = refl; within = omega arith; few = omega arith; inside = omega (arith, g .long); long = refl; rest = rw c; below = h; next = rw e }
 
-  module _ (j : ℕ) (w : Trail) (z : List ℕ) (p : Along s bs l y t o j w z) where
-    stop : chunks-in s bs l (t .first) y (s .blocks - j) j (trek w z) ≡ trek w z → Gone w z
+  module _ (v : Label) (start : ℕ) (w : Trail) (z : List ℕ) (p : Along s bs l y (t .count) (t .first) o v start w z) where
+    stop : chunks-in s bs l (t .first) y (s .blocks - v .number) (v .number) (trek w z) ≡ trek w z → Gone w z
+    unfolding along-in
     stop e = (sym (p .rest ∙ e), omega (arith, p .few, p .within, g .most), p .inside)
 
-    pub along-end : s .blocks ≤ j → Gone w z
+    pub along-end : s .blocks ≤ v .number → Gone w z
     unfolding chunks-in
     along-end h =
-        let c : s .blocks - j ≡ 0 = omega arith in
+        let c : s .blocks - v .number ≡ 0 = omega arith in
         stop (rw c)
 
-    module _ (h : j < s .blocks) (r : Found) (er : r ≡ search-in s bs (label l (t .first) j)) where
-      step : s .blocks - j ≡ suc (s .blocks - (j + 1))
+    module _ (h : v .number < s .blocks) (r : Found) (ep : r ≡ probe (label-in (block-long s) bs) (s .blocks) v (s .blocks) start) where
+      er : r ≡ search-in s bs (label l (t .first) (v .number))
+      er = ep ∙ p .next
+
+      step : s .blocks - v .number ≡ suc (s .blocks - (v .number + 1))
       step = omega arith
 
       pub along-none : r ≡ Nothing → Gone w z
       unfolding chunks-in found-upto
       along-none e = stop (rw (step, ← er, e))
 
-      module _ (i : ℕ) (e : r ≡ At i) (n : ℕ) (en : n ≡ reached-in s bs i y) where
-        pub along-short : n ≡ 0 → Gone w z
-        unfolding chunks-in found-upto
-        along-short q = stop (rw (step, ← er, e, ← en, q))
+      module _ (i : ℕ) (e : r ≡ At i) where
+        pub along-below : i < s .blocks
+        along-below = search-below s bs _ r i e er g
 
-        module _ (q : n ≡ 0 → ⊥) (w′ : Trail) (z′ : List ℕ) (ew : trek w′ z′ ≡ trod s bs i n (trek w z)) (c : w′ .count ≡ w .count + 1) (a : w′ .at + 12 ≤ length bs) where
-          -- the output keeps its length
-          pub trod-long : length z′ ≡ length o
-          unfolding trod
-          trod-long = ap (λ (x : Trek). length (x .path)) ew ∙ number-long z (w .count) i ∙ p .long
+        -- as `behind` asks
+        pub along-behind : (x : ℕ) → x ≡ hash-from 5 5 (s .seed) (t .first) → l ≤ 19
+            → (i < s .blocks) × (x ≡ hash-from 5 5 (s .seed) (v .first)) × (x < 2147483647) × (v .level ≤ 19) × (v .number + 1 ≤ 65535)
+        along-behind x ex high =
+            (along-below, ex ∙ ap (hash-from 5 5 (s .seed)) (sym (p .first)), hash-below s 5 (t .first) x ex, omega (arith, p .level), omega (arith, g .most))
 
-          pub along-last : n < s .nodes → Gone w′ z′
-          unfolding chunks-in found-upto found-block
-          along-last b =
-              (sym (p .rest ∙ rw (step, ← er, e, ← en, ne-eqb n 0 q, lt-ltb n (s .nodes) b, ew)), omega (arith, p .few, p .within, g .most), a)
+        module _ (n : ℕ) (en : n ≡ reached-in s bs i y) where
+          pub along-short : n ≡ 0 → Gone w z
+          unfolding chunks-in found-upto
+          along-short q = stop (rw (step, ← er, e, ← en, q))
 
-          pub along-more : s .nodes ≤ n → Along s bs l y t o (j + 1) w′ z′
-          unfolding chunks-in found-upto found-block
-          along-more b =
-              let d : j + 1 ≡ suc j = omega arith in
-              record {
-                within = omega arith;
-                few = omega (arith, p .few);
-                inside = a;
-                long = trod-long;
-                rest = p .rest ∙ rw (step, ← er, e, ← en, ne-eqb n 0 q, le-ltb n (s .nodes) b, ew, d);
-              }
+          module _ (q : n ≡ 0 → ⊥) (w′ : Trail) (z′ : List ℕ) (ew : trek w′ z′ ≡ trod s bs i n (trek w z)) (c : w′ .count ≡ w .count + 1) (a : w′ .at + 12 ≤ length bs) where
+            -- the output keeps its length
+            pub trod-long : length z′ ≡ length o
+            unfolding trod
+            trod-long = ap (λ (x : Trek). length (x .path)) ew ∙ number-long z (w .count) i ∙ p .long
+
+            pub along-last : n < s .nodes → Gone w′ z′
+            unfolding chunks-in found-upto found-block along-in
+            along-last b =
+                (sym (p .rest ∙ rw (step, ← er, e, ← en, ne-eqb n 0 q, lt-ltb n (s .nodes) b, ew)), omega (arith, p .few, p .within, g .most), a)
+
+            pub along-more : s .nodes ≤ n → 0 < l → l ≤ 19 → (start′ : ℕ) → start′ ≡ behind s (label (v .level) (v .first) (v .number + 1)) i → start′ < s .blocks
+                → Along s bs l y (t .count) (t .first) o (label (v .level) (v .first) (v .number + 1)) start′ w′ z′
+            unfolding chunks-in found-upto found-block
+            along-more b some high start′ es h′ =
+                let d : v .number + 1 ≡ suc (v .number) = omega arith in
+                record {
+                  level = p .level;
+                  first = p .first;
+                  within = omega arith;
+                  few = omega (arith, p .few);
+                  inside = a;
+                  long = trod-long;
+                  rest = p .rest ∙ rw (step, ← er, e, ← en, ne-eqb n 0 q, le-ltb n (s .nodes) b, ew, d);
+                  below = h′;
+                  next = search-next s bs l (t .first) (v .level) (v .first) (v .number) i start′ (p .level) (p .first) some high (omega (arith, g .most)) (sym er ∙ e) es;
+                }
 
 -- THE LEVELS
 pub record Down (s : Sizes) (bs : List ℕ) (top l y : ℕ) (o : List ℕ) (k : ℕ) (t : Trail) (z : List ℕ) : Type 0 where
