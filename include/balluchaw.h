@@ -4,24 +4,26 @@
  * buffers that it is lent. A pointer may be NULL where its length is 0. A buffer that a call writes must not overlap another buffer of the
  * same call, and nobody else may write a buffer while a call runs. Keys are order numbers.
  *
- * Every call but make and descent first reads the whole table, for question 4. Under a random seed that those who choose keys do not know, and with blocks to
- * spare, that takes time in proportion to the table's length. Whoever sends a table can choose seed and keys to make it slow: M blocks are then
- * looked at up to about M * M times, which is seconds for 65,535. balluchaw(3), NOTES, says what a receiver can do.
+ * Every call but make and descent first reads the whole table, for question 4. Under a random seed that those who choose keys do not know,
+ * and with blocks to spare, that takes time in proportion to the table's length. Whoever sends a table can choose seed and keys to make it
+ * slow: M blocks are then looked at up to about M * M times, which is seconds for 65,535. balluchaw(3), NOTES, says what a receiver can do.
+ * A descent reads the header and the way down to one key. It is fast, and does not find out that a table was damaged.
  *
  * Each call answers the number of the first question that turns it down, or 0. On a refusal no lent byte changes and all other parts of the
- * answer are 0; only a descent that answers 9 has written its path and says how many blocks that has.
+ * answer are 0. There is one exception: a descent that answers 9 has written its path, and says how many blocks that has.
  *
  *    1  is the seed 40 bytes, each of its ten big-endian numbers below 2,147,483,647?
  *    2  are the sizes allowed?
  *    3  is the table exactly of the length that the sizes ask for?
- *    4  are the bytes an image: a table that some make, puts and cancels give? A descent asks this of the header and the length alone
+ *    4  are the bytes an image: a table that some make, puts and cancels give?
+ *       A descent asks less: are the numbers of the header allowed, and is the length the one that they ask for?
  *    5  is each key 1 to 2,147,483,646?
  *    6  is total at least 1 and displayed at most total?
  *    7  is the key held, or are there fewer orders than the table may hold?
  *    8  do the resulting orders have at most as many chunks as the table has blocks?
  *    9  is the key held?
  *   10  is lo at most hi?
- *   11  has the output 12 bytes for each held key in lo..hi? For a descent: two bytes for each block of its path?
+ *   11  has the output 12 bytes for each held key in lo..hi? Of a descent: two bytes for each block of its path?
  *   12  is there an order in lo..hi with total - displayed at least the reserve?
  */
 #ifndef BALLUCHAW_H
@@ -34,13 +36,13 @@
 extern "C" {
 #endif
 
-/* The answer of a reading. The caller owns it. */
+/* The answer of a reading. The caller owns it. Parts that a call does not give are 0. */
 typedef struct {
     uint32_t number;    /* 0, or the number of the question that turned the call down */
     uint32_t key;       /* lookup, descent, seek: the order's number */
     uint32_t total;     /* lookup, descent, seek: its total quantity */
     uint32_t displayed; /* lookup, descent, seek: its displayed quantity */
-    uint32_t count;     /* span: how many orders were written; descent: how many blocks its path has */
+    uint32_t count;     /* span: how many orders it wrote; descent: how many blocks of its path it wrote, with 9 too */
 } balluchaw_reply;
 
 /* The bytes of a table of these sizes: the length that make asks for. */
@@ -64,14 +66,21 @@ uint32_t balluchaw_cancel(uint8_t *table, size_t length, uint32_t key);
 /* The quantities of an order. Asks 4, 5, 9. */
 balluchaw_reply balluchaw_lookup(const uint8_t *table, size_t length, uint32_t key);
 
-/* The quantities of an order, by the way down to it: no more of the table is read than that takes, so a table that was damaged behind its
- * header is not found out. Asks 4 of the header and the length alone, 5, 11, 9.
- * It writes the path, the numbers of the blocks on the way, two bytes each, big-endian, from the path's front on, and their number in count;
- * bytes of the path beyond them keep their values. From the highest level down to level 1 these are the blocks of chunks 0, 1, .. of one
- * partition, as far as the chunk with the greatest key not above the one sought; that key's partition one level down comes next. The path is
- * written for a key that is not held too; 9 is the one refusal that writes. A path has at most as many blocks as the table.
- * On an image the quantities are those of lookup. On other bytes that pass 4 and 5 here the call ends, the table stays as it is, and of the
- * path no more than its first count numbers are written; what else it answers there means nothing. */
+/* The quantities of an order, and its path: the blocks on the way down to it. Asks 4 as far as header and length go, 5, 11, 9.
+ * On an image the quantities are those that lookup gives. But no more is read than the header and the way down, so this call does not find out
+ * that a table was damaged or is no image. Use it on a table that this process made or checked and that nobody else wrote since; on any
+ * other use lookup.
+ *
+ * The path is the number of each block, two bytes, big-endian, from the front of path on; count says how many. The bytes behind them keep
+ * their values. At the highest level it has chunks 0, 1, .. of the one partition there, up to the chunk with the greatest key not above the
+ * one sought; then the same one level down, in the partition that this key heads; and so on to level 1. A chunk that is looked at only to see
+ * that its first key is larger is not on the path.
+ *
+ * A key that is not held has a path too: 9 comes after it is written and counted. 11 is asked of the whole path, of such a key too, and then
+ * nothing is written and count is 0. A path has at most as many blocks as the table, so on an image 2 * blocks bytes are always enough.
+ *
+ * On bytes that pass 4 and 5 here but are no image, only this holds: the call ends, the table keeps its bytes, 2 * count is at most
+ * path_length, and the bytes of path behind 2 * count keep their values. What else it answers there means nothing. */
 balluchaw_reply balluchaw_descent(const uint8_t *table, size_t length, uint32_t key, uint8_t *path, size_t path_length);
 
 /* The orders with keys in lo..hi, by rising key: key, total, displayed, four bytes each, big-endian, from the output's front on, and
