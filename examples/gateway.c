@@ -1,4 +1,4 @@
-/* A small order gateway: a day's orders go into a table, the table into a file, and the open orders are read back from it.
+/* A small order gateway: a day's orders go into a table, the table into a file, and the open orders are read back from it, all and one by one.
  *
  *     cc gateway.c $(pkg-config --cflags --libs balluchaw) -o gateway
  *     ./gateway orders.table
@@ -87,9 +87,20 @@ static void print_span(uint32_t lo, uint32_t hi) {
     static uint8_t rows[12 * ORDERS]; /* room for every order, so question 11 is always answered yes */
     balluchaw_reply span = balluchaw_span(table, sizeof table, lo, hi, rows, sizeof rows);
     must(span.number == 0, answers[span.number]);
-    printf("%u open orders from %u to %u\n", (unsigned)span.total, (unsigned)lo, (unsigned)hi);
-    for (const uint8_t *row = rows; row < rows + 12 * span.total; row += 12)
+    printf("%u open orders from %u to %u\n", (unsigned)span.count, (unsigned)lo, (unsigned)hi);
+    for (const uint8_t *row = rows; row < rows + 12 * span.count; row += 12)
         printf("%8u: %u of %u displayed\n", number_at(row), number_at(row + 8), number_at(row + 4));
+}
+
+/* What the desk asks all day. The table was checked when it was loaded and nobody else writes it, so a descent will do: it reads the blocks on the
+ * way down to the order, where a lookup would check the whole table again. Bytes that others may have written need the lookup. */
+static void print_order(uint32_t order) {
+    uint8_t path[2 * BLOCKS]; /* no path has more blocks than the table, so question 11 is always answered yes */
+    balluchaw_reply found = balluchaw_descent(table, sizeof table, order, path, sizeof path);
+    must(found.number == 0 || found.number == 9, answers[found.number]);
+    printf("order %u, by %u blocks: ", (unsigned)order, (unsigned)found.count); /* there is a way to an order that is not open too */
+    if (found.number == 0) printf("%u of %u displayed\n", (unsigned)found.displayed, (unsigned)found.total);
+    else printf("%s\n", answers[found.number]);
 }
 
 int main(int count, char **words) {
@@ -99,6 +110,8 @@ int main(int count, char **words) {
     save(name);
     load(name);
     print_span(4711, 4719);
+    print_order(4716);
+    print_order(4712);
     balluchaw_reply hidden = balluchaw_seek(table, sizeof table, 1, 2147483646, 1500);
     printf("1500 or more in reserve: %s", answers[hidden.number]);
     if (hidden.number == 0) printf(", order %u", (unsigned)hidden.key);

@@ -1,8 +1,9 @@
 #!/usr/bin/env bash
-# Installs into build/prefix, compiles the example gateway and the code that the README and the manual show by what pkg-config says alone, runs them and
-# the program, and uninstalls: no file may be left, nor any touched that was there before.
+# Installs into build/prefix, compiles the examples and the code that the README and the manual show by what pkg-config says alone, runs them and the
+# program, and uninstalls: no file may be left, nor any touched that was there before.
 set -euo pipefail
 cd "$(dirname "$0")/.."
+scripts/need python3:python3
 prefix=$PWD/build/prefix
 rm -rf "$prefix"
 mkdir -p "$prefix/lib" "$prefix/share/man/man3"
@@ -44,6 +45,22 @@ for chance in '' "$kit/chance"; do
     timeout 20 "$kit/manual" | diff <(echo "100 of 500 displayed") -
 done
 
+# The ways down that the kit's descents write, beside those of the reader in Python, which searches by docs/format.md: in the gateway's file, and in a
+# table whose partitions have many chunks. There the way to each order has to give its quantities too.
+cp examples/way.c "$kit/"
+compile "$kit/way"
+ways() { "$kit/way" "$@" | sed 's/;.*//'; }
+read_ways() { for key in "${@:2}"; do echo "$key: $(examples/reader.py "$1" path "$key")"; done; }
+build/reference/release/sample 10 2 400 400 80 >"$kit/sample.table"
+examples/reader.py "$kit/sample.table" >"$kit/orders"
+read -ra held <<<"$(cut -d ' ' -f 1 "$kit/orders" | tr '\n' ' ')"
+"$kit/way" "$kit/sample.table" "${held[@]}" | sed 's/^\(.*\): .*; \(.*\) of \(.*\) displayed$/\1 \3 \2/' | diff "$kit/orders" -
+[ ${#held[@]} -eq 400 ]
+some=(1 2147483646)
+for i in 0 57 114 171 228 285 342 399; do some+=("${held[i]}" $((held[i] - 1)) $((held[i] + 1))); done
+ways "$kit/sample.table" "${some[@]}" | diff <(read_ways "$kit/sample.table" "${some[@]}") -
+ways "$kit/orders.table" 4711 4712 4716 | diff <(read_ways "$kit/orders.table" 4711 4712 4716) -
+
 # The header by itself, as older C and as C++.
 for language in "c -std=c99" "c++ -std=c++11"; do
     read -ra words <<<"$language"
@@ -76,4 +93,4 @@ MAKEFLAGS= make --no-print-directory --silent uninstall PREFIX="$prefix"
 left=$(find "$prefix" ! -type d ! -name 'other.*')
 [ -z "$left" ] || { echo "left behind: $left"; exit 1; }
 [ "$(cat "$prefix"/lib/other.a "$prefix"/share/man/man3/other.3)" = $'not ours\nnot ours' ]
-echo "install: $installed files put in place, the examples compiled with pkg-config and run, all $installed taken away again"
+echo "install: $installed files put in place, the examples compiled with pkg-config and run, ${#some[@]} ways down as the reader finds them, all $installed files taken away again"
