@@ -92,8 +92,8 @@ static void print_span(uint32_t lo, uint32_t hi) {
         printf("%8u: %u of %u displayed\n", number_at(row), number_at(row + 8), number_at(row + 4));
 }
 
-/* What the desk asks all day. The table was checked when it was loaded and nobody else writes it, so a descent will do: it reads the blocks on the
- * way down to the order, where a lookup would check the whole table again. Bytes that others may have written need the lookup. */
+/* What the desk asks all day. The table was checked when it was loaded and nobody else writes it, so a descent will do: it goes straight down to the
+ * order, where a lookup would check the whole table again. Bytes that others may have written need the lookup. */
 static void print_order(uint32_t order) {
     uint8_t path[2 * BLOCKS]; /* no path has more blocks than the table, so question 11 is always answered yes */
     balluchaw_reply found = balluchaw_descent(table, sizeof table, order, path, sizeof path);

@@ -1,4 +1,4 @@
-/* The way down to orders of a table in a file: the blocks that a descent reads, from the highest level down to level 1, and what it finds.
+/* The way down to orders of a table in a file: the numbers of its blocks, from the highest level down to level 1, and what it leads to.
  *
  *     cc way.c $(pkg-config --cflags --libs balluchaw) -o way
  *     ./way orders.table 4711 4712
