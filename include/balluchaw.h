@@ -67,17 +67,18 @@ uint32_t balluchaw_cancel(uint8_t *table, size_t length, uint32_t key);
 balluchaw_reply balluchaw_lookup(const uint8_t *table, size_t length, uint32_t key);
 
 /* The quantities of an order, and its path: the blocks on the way down to it. Asks 4 as far as header and length go, 5, 11, 9.
- * On an image the quantities are those that lookup gives. But no more is read than the header and the way down, so this call does not find out
- * that a table was damaged or is no image. Use it on a table that this process made or checked and that nobody else wrote since; on any
- * other use lookup.
+ * On an image, unless 11 turns it down, the quantities are those that lookup gives. But no more is read than the header and the way down, so
+ * this call does not find out that a table was damaged or is no image. Use it on a table that this process made or checked and that nobody
+ * else wrote since; on any other use lookup.
  *
  * The path is the number of each block, two bytes, big-endian, from the front of path on; count says how many. The bytes behind them keep
  * their values. At the highest level it has chunks 0, 1, .. of the one partition there, up to the chunk with the greatest key not above the
  * one sought; then the same one level down, in the partition that this key heads; and so on to level 1. A chunk that is looked at only to see
  * that its first key is larger is not on the path.
  *
- * A key that is not held has a path too: 9 comes after it is written and counted. 11 is asked of the whole path, of such a key too, and then
- * nothing is written and count is 0. A path has at most as many blocks as the table, so on an image 2 * blocks bytes are always enough.
+ * A key that is not held has a path too: 9 comes after it is written and counted. 11 is asked of the whole path, of such a key too; a call
+ * that it turns down writes nothing, and count is 0. A path has at most as many blocks as the table, so on an image 2 * blocks bytes are
+ * always enough.
  *
  * On bytes that pass 4 and 5 here but are no image, only this holds: the call ends, the table keeps its bytes, 2 * count is at most
  * path_length, and the bytes of path behind 2 * count keep their values. What else it answers there means nothing. */
