@@ -46,7 +46,9 @@ pub extern "C" fn balluchaw_lookup(table: &[u8], key: u32) -> Reply
 }
 
 #[no_mangle]
-pub extern "C" fn balluchaw_descent(table: &[u8], key: u32, path: &mut [u8]) -> Reply {
+pub extern "C" fn balluchaw_descent(table: &[u8], key: u32, path: &mut [u8]) -> Reply
+    ensures { λ r. ⌜ Descent-says (now (table .entry)) key r (now (path .entry)) (now (path .exit)) × (now (table .exit) ≡ now (table .entry)) ⌝ }
+{
     readings::descent::descent(table, key, path)
 }
 

@@ -23,7 +23,7 @@ use sizes::numbers::be4;
 use sizes::numbers::put2;
 
 // How many nodes at the front of a chunk are not above a key.
-fn upto(table: &[u8], at: usize, n: u32, y: u32) -> u32
+pub fn upto(table: &[u8], at: usize, n: u32, y: u32) -> u32
     requires { ⌜ at + 12 * n ≤ length (now table) ⌝ }
     ensures { λ r. ⌜ (r ≡ upto-in (now (table .entry)) n at y) × (r ≤ n) ⌝ }
 {

@@ -17,6 +17,7 @@ use Rattle.skiplist.specs.Lists.{list-at, masked}
 use Rattle.skiplist.specs.Image.{image, orders-in, orders-good, fits}
 use Rattle.skiplist.specs.Questions.{reserve}
 use Rattle.skiplist.specs.Parts.{each, spread}
+use Rattle.levels.specs.Ways.{upto-in}
 use Rattle.table.specs.declared.Reply.{Reply}
 use Rattle.readings.specs.declared.Visit.{Visit}
 use Rattle.readings.specs.declared.calls.Sought.{Sought}
@@ -103,14 +104,10 @@ pub record Whole (bs : List ℕ) (a j : ℕ) (v : Visit) (room : ℕ) : Type 0 w
   pub few : v .found + j ≤ most-orders
   pub held : v .writes ≡ true → 12 * (v .found + j) ≤ room
 
--- the next node of a chunk does not come after the lowest key
-unfoldable pub passed-in : List ℕ → (at left lo : ℕ) → Bool
-passed-in bs a j lo = leb 2 j && leb (field (a + 12) 4 bs) lo
-
--- how many nodes at the front of a chunk are such
+-- at how many nodes at the front of a chunk the next one does not come after the lowest key
 unfoldable pub passed-front : List ℕ → (left at lo : ℕ) → ℕ
 passed-front bs zero a lo = 0
-passed-front bs (suc j) a lo = cond (passed-in bs a (suc j) lo) (suc (passed-front bs j (a + 12) lo)) 0
+passed-front bs (suc j) a lo = upto-in bs j (a + 12) lo
 
 -- WHAT A NODE OPENS, at a level and below: the orders under it; and what some nodes open
 unfoldable pub under : Sizes → List ℕ → (level : ℕ) → Order → List Order

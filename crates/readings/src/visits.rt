@@ -6,7 +6,7 @@ ghost use lib.ListN.{length, drop};
 ghost use Rattle.sizes.specs.Sizes.{beta};
 ghost use Rattle.placement.specs.Decode.{nodes-from};
 ghost use Rattle.skiplist.specs.Image.{orders-in};
-ghost use Rattle.readings.specs.Visit.{most-rows, scan, next-found, more-found, ended-visit, wanted-by, row-in, step-by, steps, Known, Row, Whole, passed-in, passed-front, under, all-under};
+ghost use Rattle.readings.specs.Visit.{most-rows, scan, next-found, more-found, ended-visit, wanted-by, row-in, step-by, steps, Known, Row, Whole, passed-front, under, all-under};
 use crate::Visit;
 use placement::Found;
 use placement::Label;
@@ -260,28 +260,14 @@ pub fn visit_nodes(
     w
 }
 
-// The next node of the chunk does not come after the lowest key: all orders under this one are below it.
-fn passed(table: &[u8], at: usize, left: u32, lo: u32) -> bool
-    requires { ⌜ at + 12 * left ≤ length (now table) ⌝ }
-    ensures { λ r. ⌜ r ≡ passed-in (now (table .entry)) at left lo ⌝ }
-{
-    if left < 2 {
-        return false;
-    }
-    sizes::numbers::be4(table, at + 12) <= lo
-}
-
-// How many nodes at the front of a chunk end before the range starts.
+// How many nodes at the front of a chunk end before the range starts: the node behind each does not come after the lowest key, so all orders under it are below
+// that.
 fn skipped(table: &[u8], at: usize, left: u32, lo: u32) -> u32
     requires { ⌜ at + 12 * left ≤ length (now table) ⌝ }
     ensures { λ r. ⌜ (r ≡ passed-front (now (table .entry)) left at lo) × (r ≤ left) ⌝ }
 {
-    let mut i: u32 = 0;
-    while i < left {
-        if !passed(table, at + 12 * (i as usize), left - i, lo) {
-            return i;
-        }
-        i += 1;
+    if left == 0 {
+        return 0;
     }
-    i
+    levels::ways::upto(table, at + 12, left - 1, lo)
 }

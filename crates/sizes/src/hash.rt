@@ -134,11 +134,3 @@ pub fn has_level(s: Sizes, ratio: u64, top: u32, l: u32, key: u32) -> bool
     }
     1 + divides(h, s.gamma, ratio, l) == l
 }
-
-// Is the level of a key, which is not the front's, 1? `ratio` is 2^32 over gamma, rounded up.
-pub fn is_lowest(s: Sizes, ratio: u64, key: u32) -> bool
-    requires { ⌜ (seed-good (s .seed) ≡ true) × (0 < s .gamma) × (ratio ≡ over (s .gamma)) × (0 < key) ⌝ }
-    ensures { λ r. ⌜ r ≡ eqb (level s key) 1 ⌝ }
-{
-    !divisible(hash(s, 0, key), s.gamma, ratio)
-}

@@ -8,34 +8,11 @@ use native.Mathlib.Omega.{arith}
 use lib.ListN.{length, take, drop, length-drop, take-append-drop, drop-of-length-le}
 use lib.Seq.{drop-drop, take-nil}
 use Rattle.placement.specs.declared.Order.{Order}
-use Rattle.skiplist.proofs.Laws.Count.{pieces, pieces-less}
+unfoldable pub use Rattle.skiplist.proofs.Laws.Count.{pieces}
+pub use Rattle.skiplist.proofs.Laws.Count.{pieces-none, pieces-full, pieces-under, pieces-over, pieces-most, pieces-up-to}
 use Rattle.placement.specs.Maps.{Map}
 use Rattle.levels.specs.Edit.{Pieces}
 use Rattle.levels.specs.Pour.{one}
-
-pub pieces-none : (b : ℕ) → pieces b 0 ≡ 0
-unfolding pieces
-pieces-none b = refl
-
--- a full chunk, or some nodes, more
-pub pieces-full : (b n : ℕ) → 0 < b → 0 < n → pieces b n ≡ suc (pieces b (n - b))
-pieces-full b zero h g = absurd (omega arith)
-pieces-full b (suc n) h g = pieces-less b n h
-
-pub pieces-under : (b n i : ℕ) → 0 < b → i < pieces b n → i * b < n
-unfolding pieces
-pieces-under b zero i h g = absurd (omega arith)
-pieces-under b (suc n) i h g = omega (arith, le-div-iff-mul-le {x = i} {y = n} h .0 (omega arith))
-
-pub pieces-over : (b n i : ℕ) → 0 < b → pieces b n ≤ i → n ≤ i * b
-unfolding pieces
-pieces-over b zero i h g = omega arith
-pieces-over b (suc n) i h g = omega (arith, div-lt-iff-lt-mul {x = n} {y = i} h .0 (omega arith))
-
-pub pieces-most : (b n i : ℕ) → 0 < b → n ≤ i * b → pieces b n ≤ i
-unfolding pieces
-pieces-most b zero i h g = omega arith
-pieces-most b (suc n) i h g = omega (arith, div-lt-iff-lt-mul {x = n} {y = i} h .1 (omega arith))
 
 -- i chunks, of those that there are, and the others
 pub pieces-pass : (b n i : ℕ) → 0 < b → i ≤ pieces b n → pieces b n ≡ i + pieces b (n - i * b)
@@ -48,9 +25,6 @@ pieces-pass b n (suc i) h g =
 
 pub pieces-skip : (b n i : ℕ) → 0 < b → i * b ≤ n → pieces b n ≡ i + pieces b (n - i * b)
 pieces-skip b n i h g = pieces-pass b n i h (le-of-mul-le-mul-right {k = b} (omega (arith, pieces-over b n (pieces b n) h (omega arith))) h)
-
-pub pieces-up-to : (b n m : ℕ) → 0 < b → n ≤ m → pieces b n ≤ pieces b m
-pieces-up-to b n m h g = pieces-most b n (pieces b m) h (omega (arith, pieces-over b m (pieces b m) h (omega arith)))
 
 pub pieces-pos : (b n : ℕ) → 0 < b → 0 < n → 0 < pieces b n
 pieces-pos b n h g = omega (arith, pieces-full b n h g)

@@ -6,8 +6,8 @@ use Prim.Native.Nat.{ℕ, zero, suc, _+_, _*_, _-_, _≤_, _<_}
 use native.Mathlib.Omega.{arith}
 use native.Mathlib.Nat.{zero-add, zero-mul, suc-mul}
 use native.Mathlib.Numerals.{add-one}
-use lib.Dec.{leb}
-use borrow.Author.Tests.{leb-true}
+use lib.Dec.{ltb}
+use borrow.Author.Tests.{ltb-false}
 use lib.ListN.{length, getD, drop, length-take, take-append-drop, drop-of-length-le}
 use lib.Seq.{drop-drop}
 use Rattle.sizes.specs.Numbers.{field, rows-in}
@@ -19,15 +19,15 @@ use Rattle.sizes.specs.declared.Sizes.{Sizes}
 use Rattle.placement.specs.declared.Order.{Order}
 use Rattle.placement.specs.declared.Found.{Found}
 use Rattle.placement.specs.declared.Found.the-variants.{At, Nothing}
-use Rattle.sizes.proofs.Laws.Sizes.{and-parts}
 use Rattle.skiplist.specs.Lists.{masked}
 use Rattle.skiplist.specs.Image.{orders-in}
 use Rattle.skiplist.proofs.Laws.Parts.{part}
 use Rattle.skiplist.proofs.Laws.Walk.{each, spread, each-append, each-one}
+use Rattle.levels.specs.Ways.{upto-in}
 use Rattle.readings.specs.declared.Visit.{Visit}
 use Rattle.table.specs.Walk.{node-of}
 use Rattle.table.proofs.Laws.Steps.{node-key}
-use Rattle.readings.specs.Visit.{Scan, scan, step-by, steps, Known, Row, passed-in, passed-front, under, all-under}
+use Rattle.readings.specs.Visit.{Scan, scan, step-by, steps, Known, Row, passed-front, under, all-under}
 use Rattle.readings.proofs.Laws.Visits.{steps-append, steps-ended, Keeps, keeps-all, keeps-on, steps-keep, steps-below}
 use Rattle.readings.proofs.Laws.Rows.{row-piece, row-tail, row-below, each-masked}
 use Rattle.readings.proofs.Laws.Chunked.{nodes-first, orders-up, Read, piece, chunk-none, chunk-end, chunk-read}
@@ -62,22 +62,18 @@ row-one s os l ns e r = rw e at r
 
 -- where the next node is not above the lowest key, nothing under this one is in the range
 module _ (s : Sizes) (bs : List ℕ) (l a j : ℕ) (x : Scan) (k : Known s bs) (low : 1 ≤ l) (range : x .visit .lo ≤ x .visit .hi)
-    (row : Row s (orders-in bs) l (nodes-from j (drop a bs))) (t : passed-in bs a j (x .visit .lo) ≡ true) where
-  tests : (2 ≤ j) × (field (a + 12) 4 bs ≤ x .visit .lo)
-  unfolding passed-in
-  tests = let w = and-parts (leb 2 j) (leb (field (a + 12) 4 bs) (x .visit .lo)) t in (leb-true _ _ (w .0), leb-true _ _ (w .1))
-
+    (row : Row s (orders-in bs) l (nodes-from j (drop a bs))) (more : 2 ≤ j) (next : field (a + 12) 4 bs ≤ x .visit .lo) where
   two : nodes-from j (drop a bs) ≡ node-of bs a ∷ node-of bs (a + 12) ∷ nodes-from (j - 1 - 1) (drop (a + 12 + 12) bs)
   two =
-      nodes-first bs a j (omega (arith, tests .0))
-      ∙ ap (λ (ns : List Order). node-of bs a ∷ ns) (nodes-first bs (a + 12) (j - 1) (omega (arith, tests .0)))
+      nodes-first bs a j (omega arith)
+      ∙ ap (λ (ns : List Order). node-of bs a ∷ ns) (nodes-first bs (a + 12) (j - 1) (omega arith))
 
   nothing-under : steps (under s bs (l - 1) (node-of bs a)) x ≡ x
   unfolding under
   nothing-under =
       let e : l ≡ suc (l - 1) = omega arith in
       let r : Row s (orders-in bs) (suc (l - 1)) (nodes-from j (drop a bs)) = subst (λ (i : ℕ). Row s (orders-in bs) i (nodes-from j (drop a bs))) e row in
-      steps-below (spread s (orders-in bs) (l - 1) (node-of bs a)) (node-of bs (a + 12) .key) x range (omega (arith, tests .1, node-key bs (a + 12) _ refl))
+      steps-below (spread s (orders-in bs) (l - 1) (node-of bs a)) (node-of bs (a + 12) .key) x range (omega (arith, node-key bs (a + 12) _ refl))
       (row-below s (orders-in bs) (orders-up s bs k) (l - 1) (node-of bs a) (node-of bs (a + 12)) _ (subst (Row s (orders-in bs) (suc (l - 1))) two r))
 
 -- NODES in a loop: k of the j nodes from a on are left, from a place on; F is what nodes open
@@ -135,70 +131,51 @@ pub record Begun (s : Sizes) (bs : List ℕ) (l a j : ℕ) (x : Scan) (k place :
   pub nodes : Nodding (all-under s bs (l - 1)) bs a j x k place x
 
 module _ (s : Sizes) (bs : List ℕ) (l a j : ℕ) (x : Scan) (known : Known s bs) (low : 1 ≤ l) (range : x .visit .lo ≤ x .visit .hi) where
-  begun-passed : (k place : ℕ) → Begun s bs l a j x k place → 0 < k → passed-in bs place k (x .visit .lo) ≡ true → Begun s bs l a j x (k - 1) (place + 12)
-  begun-passed k place b h t =
-      record {
-        row = row-tail s (orders-in bs) l (node-of bs place) _ (subst (Row s (orders-in bs) l) (nodes-first bs place k h) (b .row));
-        nodes = nodding-more s bs l a j x k place x (b .nodes) h _ refl x (sym (nothing-under s bs l place k x known low range (b .row) t));
-      }
+  begun-passed : (k place : ℕ) → Begun s bs l a j x (suc (suc k)) place → field (place + 12) 4 bs ≤ x .visit .lo → Begun s bs l a j x (suc k) (place + 12)
+  begun-passed k place b t =
+      let c : suc (suc k) - 1 ≡ suc k = omega arith in
+      let w : Begun s bs l a j x (suc (suc k) - 1) (place + 12) = record {
+        row = row-tail s (orders-in bs) l (node-of bs place) _ (subst (Row s (orders-in bs) l) (nodes-first bs place (suc (suc k)) (omega arith)) (b .row));
+        nodes = nodding-more s bs l a j x (suc (suc k)) place x (b .nodes) (omega arith) _ refl x (sym (nothing-under s bs l place (suc (suc k)) x known low range (b .row) (omega arith) t));
+      } in
+      rw c at w
 
   begun-front : (k place : ℕ) → Begun s bs l a j x k place →
       Begun s bs l a j x (k - passed-front bs k place (x .visit .lo)) (place + 12 * passed-front bs k place (x .visit .lo))
-  unfolding passed-front
+  unfolding passed-front upto-in
   begun-front zero place b = let e : place + 12 * 0 ≡ place = omega arith in rw e b
-  begun-front (suc k) place b = go (λ c. begun-front k (place + 12) c) (passed-in bs place (suc k) (x .visit .lo)) refl
+  begun-front (suc zero) place b = let e : place + 12 * 0 ≡ place = omega arith in rw e b
+  begun-front (suc (suc k)) place b = go (λ c. begun-front (suc k) (place + 12) c) (ltb (x .visit .lo) (field (place + 12) 4 bs)) refl
     where
       n : ℕ
-      n = passed-front bs k (place + 12) (x .visit .lo)
+      n = upto-in bs k (place + 12 + 12) (x .visit .lo)
 
-      go : (Begun s bs l a j x k (place + 12) → Begun s bs l a j x (k - n) (place + 12 + 12 * n)) →
-          (t : Bool) → passed-in bs place (suc k) (x .visit .lo) ≡ t → Begun s bs l a j x (suc k - cond t (suc n) 0) (place + 12 * cond t (suc n) 0)
-      go on false e =
-          let c : suc k - 0 ≡ suc k = omega arith in
+      go : (Begun s bs l a j x (suc k) (place + 12) → Begun s bs l a j x (suc k - n) (place + 12 + 12 * n)) →
+          (t : Bool) → ltb (x .visit .lo) (field (place + 12) 4 bs) ≡ t → Begun s bs l a j x (suc (suc k) - cond t 0 (suc n)) (place + 12 * cond t 0 (suc n))
+      go on true e =
+          let c : suc (suc k) - 0 ≡ suc (suc k) = omega arith in
           let h : place + 12 * 0 ≡ place = omega arith in
           rw (c, h) b
-      go on true e =
-          let c : suc k - 1 ≡ k = omega arith in
-          let d : suc k - suc n ≡ k - n = omega arith in
+      go on false e =
+          let d : suc (suc k) - suc n ≡ suc k - n = omega arith in
           let f : place + 12 * suc n ≡ place + 12 + 12 * n = omega arith in
-          rw (d, f) (on (rw c at (begun-passed (suc k) place b (omega arith) e)))
+          rw (d, f) (on (begun-passed k place b (ltb-false (x .visit .lo) (field (place + 12) 4 bs) e)))
 
   pub begun : a + 12 * j ≤ length bs → Row s (orders-in bs) l (nodes-from j (drop a bs)) → (n : ℕ) → n ≡ passed-front bs j a (x .visit .lo) →
       Begun s bs l a j x (j - n) (a + 12 * n)
   begun h r n e = rw e (begun-front j a (record { row = r; nodes = nodding-start (all-under s bs (l - 1)) bs a j x h }))
 
--- the count of those nodes, one after the other
-pub record Skipping (bs : List ℕ) (j a lo i : ℕ) : Type 0 where
-  pub within : i ≤ j
-  pub rest : passed-front bs j a lo ≡ i + passed-front bs (j - i) (a + 12 * i) lo
-
+-- the count of those nodes
 module _ (bs : List ℕ) (j a lo : ℕ) where
-  pub skipping-start : Skipping bs j a lo 0
-  skipping-start =
-      let c : j - 0 ≡ j = omega arith in
-      let d : a + 12 * 0 ≡ a = omega arith in
-      record { within = omega arith; rest = rw (c, d, zero-add) }
+  pub skipped-none : j ≡ 0 → 0 ≡ passed-front bs j a lo
+  unfolding passed-front
+  skipped-none e = rw e
 
-  module _ (i : ℕ) (p : Skipping bs j a lo i) where
-    one-more : i < j → (b : Bool) → b ≡ passed-in bs (a + 12 * i) (j - i) lo →
-        passed-front bs (j - i) (a + 12 * i) lo ≡ cond b (suc (passed-front bs (j - (i + 1)) (a + 12 * (i + 1)) lo)) 0
-    unfolding passed-front
-    one-more h b e =
-        let c : j - i ≡ suc (j - (i + 1)) = omega arith in
-        let d : a + 12 * (i + 1) ≡ a + 12 * i + 12 = omega arith in
-        rw (e, c, d)
-
-    pub skipping-stop : i < j → (b : Bool) → b ≡ passed-in bs (a + 12 * i) (j - i) lo → b ≡ false → i ≡ passed-front bs j a lo
-    skipping-stop h b e f = omega (arith, p .rest, rw f at (one-more h b e))
-
-    pub skipping-more : i < j → (b : Bool) → b ≡ passed-in bs (a + 12 * i) (j - i) lo → b ≡ true → Skipping bs j a lo (i + 1)
-    skipping-more h b e f = record { within = omega arith; rest = omega (arith, p .rest, rw f at (one-more h b e)) }
-
-    pub skipping-end : j ≤ i → i ≡ passed-front bs j a lo
-    unfolding passed-front
-    skipping-end h =
-        let c : j - i ≡ 0 = omega arith in
-        omega (arith, p .rest, ap (λ (q : ℕ). passed-front bs q (a + 12 * i) lo) c)
+  pub skipped-some : (j ≡ 0 → ⊥) → (r : ℕ) → r ≡ upto-in bs (j - 1) (a + 12) lo → r ≡ passed-front bs j a lo
+  unfolding passed-front
+  skipped-some h r e =
+      let c : j ≡ suc (j - 1) = omega arith in
+      e ∙ ap (λ (i : ℕ). passed-front bs i a lo) (sym c)
 
 -- CHUNKS
 abbrev left-of : Sizes → List ℕ → (l : ℕ) → Order → (i : ℕ) → List Order

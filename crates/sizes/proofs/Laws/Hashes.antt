@@ -247,21 +247,3 @@ module _ (s : Sizes) (b l v x d : ℕ) (nz : 0 < x) (eb : b ≡ beta s) (ev : v 
       rw zero-add at (divides-capped (l - 1) (b - 2) 0 (s .gamma) v (omega (arith, ne))) in
       let q : d ≡ divides-from (suc (l - 1)) 0 (s .gamma) v = f ∙ ap (λ (z : ℕ). divides-from z 0 (s .gamma) v) k in
       rw (one-add, is, e) (one-less d l lo ∙ rw q (sym r) ∙ sym (one-less _ l lo))
-
--- THE LOWEST LEVEL by one remainder: there is always a higher one
-beta-two : (s : Sizes) → 2 ≤ beta s
-unfolding beta
-beta-two s = omega arith
-
-power-one : (c v : ℕ) (t : Bool) → t ≡ eqb (v % c) 0 → divides-from 1 0 c v ≡ cond t 1 0
-unfolding divides-from
-power-one c v t e = rw (pow-succ', pow-zero, mul-one, ← e)
-
-pub lowest-says : (s : Sizes) (v x : ℕ) (t : Bool) → 0 < s .gamma → 0 < x → v ≡ hash-from 5 0 (s .seed) x → t ≡ eqb (v % s .gamma) 0 → not t ≡ eqb (level s x) 1
-lowest-says s v x t pos nz ev et =
-    let b = beta-two s in
-    go t ∙ level-below s (beta s) 1 v x (cond t 1 0) nz refl ev (omega arith) (omega arith) (λ e. omega arith) (sym (power-one (s .gamma) v t et))
-  where
-    go : (t : Bool) → not t ≡ eqb (1 + cond t 1 0) 1
-    go true = refl
-    go false = refl

@@ -2,7 +2,7 @@
 use mathlib.Core.Path.{_≡_, refl, sym}
 use mathlib.Core.Bool.{Bool, true, false}
 use mathlib.Core.List.{List, [], _∷_, _++_, map}
-use Prim.Native.Nat.{ℕ, zero, suc, _+_, _-_, _/_, _≤_, _<_}
+use Prim.Native.Nat.{ℕ, zero, suc, _+_, _*_, _-_, _/_, _≤_, _<_}
 use native.Mathlib.Nat.{add-suc, suc-add, add-zero, div-eq-of-lt, zero-div, div-eq-sub-div, lt-div-mul-add, div-lt-iff-lt-mul, div-mul-le-self, le-div-iff-mul-le}
 use native.Mathlib.Omega.{arith}
 use borrow.Author.Tests.{ltb-true, ltb-false}
@@ -28,6 +28,33 @@ pieces-less b n h = go (ltb n b) refl
     go false e =
         let z : suc n - b ≡ suc (n - b) = omega (arith, ltb-false n b e) in
         rw (z, div-eq-sub-div h (ltb-false n b e)) (omega arith)
+
+pub pieces-none : (b : ℕ) → pieces b 0 ≡ 0
+unfolding pieces
+pieces-none b = refl
+
+-- a full chunk, or some nodes, more
+pub pieces-full : (b n : ℕ) → 0 < b → 0 < n → pieces b n ≡ suc (pieces b (n - b))
+pieces-full b zero h g = absurd (omega arith)
+pieces-full b (suc n) h g = pieces-less b n h
+
+pub pieces-under : (b n i : ℕ) → 0 < b → i < pieces b n → i * b < n
+unfolding pieces
+pieces-under b zero i h g = absurd (omega arith)
+pieces-under b (suc n) i h g = omega (arith, le-div-iff-mul-le {x = i} {y = n} h .0 (omega arith))
+
+pub pieces-over : (b n i : ℕ) → 0 < b → pieces b n ≤ i → n ≤ i * b
+unfolding pieces
+pieces-over b zero i h g = omega arith
+pieces-over b (suc n) i h g = omega (arith, div-lt-iff-lt-mul {x = n} {y = i} h .0 (omega arith))
+
+pub pieces-most : (b n i : ℕ) → 0 < b → n ≤ i * b → pieces b n ≤ i
+unfolding pieces
+pieces-most b zero i h g = omega arith
+pieces-most b (suc n) i h g = omega (arith, div-lt-iff-lt-mul {x = n} {y = i} h .1 (omega arith))
+
+pub pieces-up-to : (b n m : ℕ) → 0 < b → n ≤ m → pieces b n ≤ pieces b m
+pieces-up-to b n m h g = pieces-most b n (pieces b m) h (omega (arith, pieces-over b m (pieces b m) h (omega arith)))
 
 pub pieces-up : (b n : ℕ) → 0 < b → pieces b n ≤ pieces b (suc n)
 unfolding pieces

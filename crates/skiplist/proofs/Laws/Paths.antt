@@ -116,9 +116,3 @@ module _ (s : Sizes) (F : Map) (n : ℕ) (hd bs : List ℕ) (t : Table s F n hd 
 
   pub found-stands : (w : Label) (i : ℕ) → 0 < w .level → search-in s bs w ≡ At i → stands-in (t .blocks) w ≡ i
   found-stands w i pos e = let f = found-there s F n hd bs t w i pos e in stands-there (labelled w (nodes-of F w)) i (f .1) ∙ mod-eq-of-lt (f .0)
-
--- of an image
-pub image-stands : (s : Sizes) (os : List Order) (w : Label) (i : ℕ) → made s ≡ true → orders-good 1 os ≡ true → fits s os ≡ true → 0 < w .level →
-    search-in s (image s os) w ≡ At i → stands-in (blocks s os) w ≡ i
-unfolding image-keeps
-image-stands s os w i m g f = found-stands s (map-of (chunks s os)) (length (chunks s os)) (header s (length os)) (image s os) (image-keeps s os m g f) w i

@@ -4,7 +4,7 @@ use mathlib.Core.Bool.{true}
 use mathlib.Core.List.{List, [], _∷_, _++_, map}
 use mathlib.Core.Logic.{_⊎_, inl, inr}
 use Prim.Native.Nat.{ℕ, zero, suc, _+_, _*_, _≤_, _<_}
-use native.Mathlib.Nat.{add-zero, add-suc, le-div-iff-mul-le}
+use native.Mathlib.Nat.{add-zero}
 use native.Mathlib.Omega.{arith}
 use borrow.Author.Tests.{le-leb}
 use lib.ListN.{length, getD, take, drop, length-append, length-map}
@@ -25,7 +25,7 @@ use Rattle.skiplist.specs.Rules.{Piece, Chunks-are}
 use Rattle.skiplist.specs.Paths.{labels-from, path-labels, stands-in, descent-path, Path-fits, goes-down, One-way, Path-one-way}
 use Rattle.skiplist.proofs.Laws.Parts.{Up, good-up, below}
 use Rattle.skiplist.proofs.Laws.Edits.{head-part, tail-part, parts-before, parts-after, parts-split, head-part-first, part-at}
-use Rattle.skiplist.proofs.Laws.Count.{pieces-up, count-split, length-chunks}
+use Rattle.skiplist.proofs.Laws.Count.{pieces-under, pieces-up-to, count-split, length-chunks}
 use Rattle.skiplist.proofs.Laws.Kept.{fits-parts}
 use Rattle.skiplist.proofs.Laws.Pieces.{among-append, among-right, chunks-are}
 use Rattle.skiplist.proofs.Laws.Image.{image-keeps}
@@ -37,22 +37,12 @@ unfolding labels-from
 length-labels zero l f i = refl
 length-labels (suc n) l f i = ap suc (length-labels n l f (suc i))
 
-pieces-most : (b p q : ℕ) → 0 < b → pieces b p ≤ pieces b (p + q)
-pieces-most b p zero h = rw add-zero (omega arith)
-pieces-most b p (suc q) h = rw add-suc (omega (arith, pieces-most b p q h, pieces-up b (p + q) h))
-
 counts-last : (k l : ℕ) (s : Sizes) (os : List Order) → counts (suc k) l s os ≡ counts k l s os + count s (l + k) os
 unfolding counts
 counts-last zero l s os = rw (add-zero l) (omega arith)
 counts-last (suc k) l s os =
     let e : l + suc k ≡ suc l + k = omega arith in
     rw (counts-last k (suc l) s os, e) (omega arith)
-
--- chunk j of n nodes
-pieces-inside : (b n j : ℕ) → 0 < b → j < pieces b n → j * b < n
-unfolding pieces
-pieces-inside b zero j h g = absurd (omega arith)
-pieces-inside b (suc n) j h g = omega (arith, le-div-iff-mul-le {x = j} {y = n} h .0 (omega arith))
 
 record Counted (l f i n : ℕ) (w : Label) : Type 0 where
   pub level : w .level ≡ l
@@ -114,7 +104,7 @@ module _ (s : Sizes) (m : made s ≡ true) (y : ℕ) (xs zs : List Order) (u : U
   path-few (suc k) =
       let e : 1 + k ≡ suc k = omega arith in
       rw (path-step s y xs zs u f g k, length-append, length-labels, counts-last k 1 s (xs ++ zs), e, count-split s (suc k) xs zs)
-      (omega (arith, path-few k, pieces-most (s .nodes) (length (head-part s (suc k) xs)) (length (tail-part s (suc k) zs)) some))
+      (omega (arith, path-few k, pieces-up-to (s .nodes) (length (head-part s (suc k) xs)) (length (head-part s (suc k) xs) + length (tail-part s (suc k) zs)) some (omega arith)))
 
   on-here : (k : ℕ) (w : Label) → 1 ≤ k → Among w (here k) → On s xs k w
   unfolding here
@@ -124,7 +114,7 @@ module _ (s : Sizes) (m : made s ≡ true) (y : ℕ) (xs zs : List Order) (u : U
         low = omega (arith, v .level);
         high = omega (arith, v .level);
         first = rw (v .level) (v .first);
-        inside = rw (v .level) (pieces-inside (s .nodes) (length (head-part s k xs)) (w .number) some (omega (arith, v .number)));
+        inside = rw (v .level) (pieces-under (s .nodes) (length (head-part s k xs)) (w .number) some (omega (arith, v .number)));
       }
 
   on-path : (k : ℕ) (w : Label) → Among w (path-labels s (xs ++ zs) y k) → On s xs k w

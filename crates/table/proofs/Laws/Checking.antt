@@ -40,9 +40,6 @@ module _ (bs : List ℕ) (t : Bool) (et : t ≡ rule-1 bs) where
   passes-unruled e r er = rw er (record { passes = rw (← et, e); count = λ z. absurd (true≢false (sym z)) })
 
   module _ (e : t ≡ true) where
-    pub ruled-long : 53 ≤ length bs
-    ruled-long = ruled bs (sym et ∙ e) .long
-
     module _ (s : Sizes) (es : s ≡ sizes-in bs) where
       pub ruled-walkable : Walkable s bs
       ruled-walkable =
