@@ -70,8 +70,8 @@ def worst(directory):
     """The lines of the larger tables."""
     with open(f"{directory}/worst.txt", encoding="utf-8") as source:
         lines = [(line[:46].strip(), line[46:].split()) for line in source.read().splitlines()[2:]]
-    yield "| seconds for one call | M | bytes | looks of a check, over M² | check | lookup | put | span of all |"
-    yield "|---" * 8 + "|"
+    yield "| seconds for one call | M | bytes | looks of a check, over M² | check | lookup | put | span of all | descent |"
+    yield "|---" * 9 + "|"
     for name, (blocks, _, _, length, _, looks, _, *seconds) in lines:
         if int(blocks) > 32000:
             yield f"| {name} | {int(blocks):,} | {int(length):,} | {looks} | " + " | ".join(seconds) + " |"

@@ -195,15 +195,15 @@ static void usual(table *t) {
 static double start;
 static double seconds(void) { return (now_ns() - start) / 1e9; }
 
-/* Check, lookup of the last order, put of one, span of all. Asks whether each answer is right. */
+/* Check, lookup of the last order, put of one, span of all, descent to the last order. Asks whether each answer is right. */
 static void measure(const char *name, u32 blocks, void (*choose)(table *)) {
     table *t = table_new(blocks);
     choose(t);
     u32 put = t->keys[0], last = t->keys[t->held - 1];
     for (u32 i = 0; i < t->held; i++)
         if (level_of(t, t->keys[i]) > level_of(t, put)) put = t->keys[i];
-    double taken[4];
-    size_t room = 12 * (size_t)t->held;
+    double taken[5];
+    size_t room = 12 * (size_t)t->held + 2 * (size_t)t->blocks; /* for every order, and for every block */
     u8 *without = malloc(t->length), *output = malloc(room);
     if (!without || !output) fail("no memory");
     write_table(t, put);
@@ -217,11 +217,14 @@ static void measure(const char *name, u32 blocks, void (*choose)(table *)) {
     if (balluchaw_put(without, t->length, put, 2, 1) != 0) fail("put: the answer is wrong");
     taken[2] = seconds(), start = now_ns();
     if (balluchaw_span(t->bytes, t->length, 1, P31 - 1, output, room).count != t->held) fail("span: not all orders");
-    taken[3] = seconds();
+    taken[3] = seconds(), start = now_ns();
+    if (balluchaw_descent(t->bytes, t->length, last, output, room).total != 2) fail("descent: the answer is wrong");
+    taken[4] = seconds();
     if (memcmp(without, t->bytes, t->length) != 0) fail("put: the bytes are others");
     double squared = (double)t->blocks * t->blocks;
-    printf("%-46s %6u %6u %6u %8zu %11llu %5.2f %7.2f %9.3f %9.3f %9.3f %9.3f\n", name, t->blocks, t->full, t->held, t->length, (unsigned long long)t->looks,
-           (double)t->looks / squared, (double)t->looks_behind / squared, taken[0], taken[1], taken[2], taken[3]);
+    printf("%-46s %6u %6u %6u %8zu %11llu %5.2f %7.2f %9.3f %9.3f %9.3f %9.3f %9.6f\n", name, t->blocks, t->full, t->held, t->length, (unsigned long long)t->looks,
+           (double)t->looks / squared, (double)t->looks_behind / squared, taken[0], taken[1], taken[2], taken[3],
+           taken[4]);
     fflush(stdout);
     free(without);
     free(output);
@@ -234,7 +237,8 @@ int main(int argc, char **argv) {
     u32 half = argc > 1 ? blocks : MOST / 2 + 1; /* the others are as slow as a constant g, so smaller tables do */
     printf("%-46s  %6s %6s %6s %8s %11s %5s %7s %39s\n", "γ = B = 2", "blocks", "full", "orders", "bytes", "looks of", "over", "behind,",
            "seconds for one call, CPU time");
-    printf("%-46s %6s %6s %6s %8s %11s  %5s  %7s %9s %9s %9s %9s\n", "", "M", "", "", "", "a check", "M²", "M²", "check", "lookup", "put", "span");
+    printf("%-46s %6s %6s %6s %8s %11s  %5s  %7s %9s %9s %9s %9s %9s\n", "", "M", "", "", "", "a check", "M²", "M²", "check", "lookup", "put", "span",
+           "descent");
     measure("random seed, random keys", blocks, usual);
     for (u32 m = 8192; argc == 1 && m < MOST; m *= 2) measure("g constant, keys 1, 2, 3, ..", m, constant);
     measure("g constant, keys 1, 2, 3, ..", blocks, constant);
