@@ -1,4 +1,4 @@
--- P1 to P9 of document 01, "Checked examples", and what they leave open, as two lists of claims, each with a test that is computed.
+-- P1 to P9 of document 01, "Checked examples", and what they leave open, as two lists of claims, each with a test that is computed. The second has paths too.
 use mathlib.Core.Path.{_≡_}
 use mathlib.Core.Bool.{Bool, true, false, _&&_}
 use mathlib.Core.List.{List, [], _∷_, _++_}
@@ -10,9 +10,10 @@ use Rattle.sizes.specs.Hash.{h, g, level}
 use Rattle.sizes.specs.Header.{seed-bytes, table-long, header}
 use Rattle.placement.specs.Labels.{label, home}
 use Rattle.sizes.specs.declared.Sizes.{Sizes}
-use Rattle.skiplist.specs.Image.{image, is-image, same}
+use Rattle.skiplist.specs.Image.{image, is-image, orders-in, same}
 use Rattle.skiplist.specs.Questions.{Parameters, parameters, sizes}
-use Rattle.skiplist.specs.Book.{Call, put, cancel, lookup, span, seek, check, make-refusal, refusal, after}
+use Rattle.skiplist.specs.Paths.{descent-path}
+use Rattle.skiplist.specs.Book.{Call, put, cancel, lookup, descent, span, seek, check, make-refusal, refusal, after}
 
 -- the sizes and seed of document 01's run: γ, B, N, M are 2, 2, 2, 4, and both hashes are the key itself
 unfoldable pub run-seed : List ℕ
@@ -41,6 +42,7 @@ pub data Example : Type 0 where
   answers : (calls : List Call) → (last : Call) → (is : ℕ) → Example
   alike : (one other : List Call) → Example
   has-home : (level first number is : ℕ) → Example
+  goes : (calls : List Call) → (key : ℕ) → (path : List ℕ) → Example
 
 -- a block's bytes, against what is shown
 unfoldable pub keys-at : (left : ℕ) → List ℕ → List ℕ → Bool
@@ -68,6 +70,7 @@ true-of (leaves-bytes cs i bs) = same (take (length bs) (drop i (after cs empty-
 true-of (answers cs c l) = eqb (refusal c (after cs empty-table)) l
 true-of (alike cs ds) = same (after cs empty-table) (after ds empty-table)
 true-of (has-home l f n i) = eqb (home run-sizes (label l f n)) i
+true-of (goes cs k path) = same (descent-path run-sizes (orders-in (after cs empty-table)) k) path
 
 unfoldable pub every : List Example → Bool
 every [] = true
@@ -166,6 +169,12 @@ left-open =
     -- the chunk number counts in a home, and quantities above level 1 are zero
     ∷ has-home 1 0 1 1 ∷ has-home 2 6 3 1
     ∷ leaves-bytes (put-3 ∷ put-6 ∷ []) 85 (2 ∷ 2 ∷ replicate 18 0 ++ (0 ∷ 0 ∷ 0 ∷ 6 ∷ replicate 8 0))
+    -- A.1 of document 02: a key held above level 1 heads its own partition; a key that is not held; a chunk whose first key is larger is not on the path
+    ∷ goes (put-3 ∷ put-6 ∷ []) 6 (3 ∷ 1 ∷ 2 ∷ []) ∷ goes (put-3 ∷ put-6 ∷ []) 5 (3 ∷ 1 ∷ 0 ∷ []) ∷ goes [] 9 (2 ∷ 1 ∷ 0 ∷ [])
+    ∷ goes (put-3 ∷ put 1 1 1 ∷ []) 2 (3 ∷ 2 ∷ 0 ∷ []) ∷ goes (put-3 ∷ put 1 1 1 ∷ []) 3 (3 ∷ 2 ∷ 0 ∷ 1 ∷ [])
+    -- .. and 5, 11, 9, in this order
+    ∷ answers (put-3 ∷ []) (descent 0 []) 5 ∷ answers (put-3 ∷ []) (descent 6 (replicate 5 0)) 11 ∷ answers (put-3 ∷ []) (descent 6 (replicate 6 0)) 9
+    ∷ answers (put-3 ∷ []) (descent 3 (replicate 6 0)) 0
     ∷ seed-limits 10
 
 unfoldable pub Examples-hold : Type 0
