@@ -5,7 +5,6 @@ ghost use Prim.Native.Nat.{_+_, _*_, _-_, _≤_, _<_};
 ghost use lib.ListN.{length};
 ghost use Rattle.sizes.specs.Geometry.{Reckoned};
 ghost use Rattle.sizes.specs.Hash.{hash-from};
-ghost use Rattle.sizes.specs.Header.{block-long};
 ghost use Rattle.placement.specs.Place.{Shaped};
 ghost use Rattle.levels.specs.Ways.{starting, trek, number-in, upto-in, reached-in, trod, along-in, down-in};
 use crate::Trail;

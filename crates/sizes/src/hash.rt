@@ -1,7 +1,7 @@
 // The hashes h and g, β, and the levels of keys.
 ghost use mathlib.Core.Path.{_≡_};
 ghost use mathlib.Core.Bool.{true};
-ghost use Prim.Native.Nat.{_+_, _*_, _-_, _%_, _^_, _<_, _≤_};
+ghost use Prim.Native.Nat.{_+_, _*_, _-_, _%_, _<_, _≤_};
 ghost use lib.Dec.{eqb};
 ghost use Rattle.sizes.specs.Numbers.{over};
 ghost use Rattle.sizes.specs.Sizes.{least-power, beta, seed-good};

@@ -2,8 +2,7 @@
 use mathlib.Core.Path.{_≡_, refl, sym, ap, _∙_}
 use mathlib.Core.Bool.{Bool}
 use mathlib.Core.List.{List, [], _∷_, _++_, map, map-append}
-use Prim.Native.Nat.{ℕ, zero, suc, _+_, _*_, _≤_, _<_}
-use native.Mathlib.Nat.{add-zero}
+use Prim.Native.Nat.{ℕ, zero, suc, _+_, _≤_, _<_}
 use native.Mathlib.Omega.{arith}
 use lib.ListN.{length, length-append, length-map}
 use Rattle.sizes.specs.Sizes.{beta}
@@ -24,8 +23,8 @@ use Rattle.skiplist.proofs.Laws.Paths.{path-step}
 use Rattle.skiplist.proofs.Laws.PathsKept.{length-labels}
 use Rattle.levels.specs.declared.Trail.{Trail}
 use Rattle.levels.specs.Edit.{Way}
-use Rattle.levels.specs.Ways.{Trek, trek, coming, number-in, along-in, down-in}
-use Rattle.levels.proofs.Laws.Chunking.{pieces-most, pieces-up-to}
+use Rattle.levels.specs.Ways.{Trek, trek, coming, along-in, down-in}
+use Rattle.levels.proofs.Laws.Chunking.{pieces-most}
 use Rattle.levels.proofs.Laws.Scanning.{chunks-most}
 use Rattle.levels.proofs.Laws.Growing.{rising, there, kept, lower, upper}
 use Rattle.levels.proofs.Laws.Numbers.{numbers-in, numbers-append}

@@ -3,7 +3,7 @@ use mathlib.Core.Path.{_≡_, refl, sym, ap, _∙_}
 use mathlib.Core.List.{List, [], _∷_, _++_, append-assoc}
 use Prim.Native.Nat.{ℕ, zero, suc, _+_, _*_, _-_, _/_, _≤_, _<_}
 use native.Mathlib.Decide.{decLt}
-use native.Mathlib.Nat.{le-of-mul-le-mul-right, le-div-iff-mul-le, suc-mul, add-mul, zero-add, zero-mul, sub-zero, div-eq-of-lt, div-eq-sub-div, div-lt-iff-lt-mul, div-mul-le-self}
+use native.Mathlib.Nat.{le-of-mul-le-mul-right, suc-mul, add-mul, zero-add, zero-mul, sub-zero, div-eq-of-lt, div-eq-sub-div, div-lt-iff-lt-mul, div-mul-le-self}
 use native.Mathlib.Omega.{arith}
 use lib.ListN.{length, take, drop, length-drop, take-append-drop, drop-of-length-le}
 use lib.Seq.{drop-drop, take-nil}

@@ -6,11 +6,11 @@ use Prim.Native.Nat.{ℕ, zero, suc, _+_, _*_, _-_, _≤_, _<_}
 use native.Mathlib.Decide.{decLt}
 use native.Mathlib.Nat.{add-zero, zero-mul, suc-mul, add-comm}
 use native.Mathlib.Omega.{arith}
-use borrow.Author.Tests.{ltb-true, eq-eqb, ne-eqb, le-ltb, lt-ltb}
+use borrow.Author.Tests.{ltb-true, ne-eqb, le-ltb, lt-ltb}
 use lib.Dec.{ltb}
 use lib.ListN.{length, getD, take, drop, length-append, length-take, length-drop, take-append-drop, List·getD-append}
-use lib.Seq.{take-all, take-append-le, drop-append-le, drop-drop, sets}
-use Rattle.sizes.specs.Numbers.{big, field}
+use lib.Seq.{drop-append-le, drop-drop}
+use Rattle.sizes.specs.Numbers.{field}
 use Rattle.sizes.specs.Header.{block-long}
 use Rattle.placement.specs.Blocks.{Block}
 use Rattle.placement.specs.Chunks.{Chunk}
@@ -30,7 +30,7 @@ use Rattle.skiplist.proofs.Laws.Descent.{last-from}
 use Rattle.skiplist.proofs.Laws.Paths.{found-stands}
 use Rattle.levels.specs.declared.Trail.{Trail}
 use Rattle.levels.specs.Edit.{Pieces}
-use Rattle.levels.specs.Ways.{Trek, trek, number-in, upto-in, reached-in, found-upto, found-block, node-place, trod, chunks-in}
+use Rattle.levels.specs.Ways.{Trek, trek, upto-in, reached-in, found-upto, found-block, node-place, trod, chunks-in}
 use Rattle.levels.proofs.Laws.Numbers.{numbers-in}
 use Rattle.levels.proofs.Laws.Takes.{none-found, some-found, counted}
 use Rattle.levels.proofs.Laws.Chunking.{pieces-none, pieces-full, drop-past}

@@ -1,8 +1,8 @@
 -- The way down to one key: the order where it ends, and the path that is written.
 use mathlib.Core.Path.{_≡_, refl, sym, ap, _∙_, subst}
-use mathlib.Core.Bool.{Bool, true, false, cond}
+use mathlib.Core.Bool.{true, cond}
 use mathlib.Core.List.{List, [], _∷_, _++_, append-assoc}
-use Prim.Native.Nat.{ℕ, zero, suc, _+_, _*_, _-_, _≤_, _<_}
+use Prim.Native.Nat.{ℕ, suc, _+_, _*_, _-_, _≤_, _<_}
 use native.Mathlib.Nat.{zero-add}
 use native.Mathlib.Omega.{arith}
 use borrow.Author.Tests.{ltb-true, lt-ltb, eq-eqb, ne-eqb, le-leb, lt-leb}
@@ -20,7 +20,7 @@ use Rattle.sizes.proofs.Laws.Sizes.{and-parts}
 use Rattle.skiplist.specs.Lists.{front}
 use Rattle.skiplist.specs.Image.{orders-in}
 use Rattle.skiplist.specs.Questions.{between, reserve}
-use Rattle.skiplist.specs.Paths.{descent-path, path-labels, path-bytes}
+use Rattle.skiplist.specs.Paths.{descent-path, path-bytes}
 use Rattle.skiplist.proofs.Laws.Parts.{Up, up-from, up-front, below, below-here}
 use Rattle.skiplist.proofs.Laws.Shapes.{Place, there, absent, place, up-behind}
 use Rattle.skiplist.proofs.Laws.Segment.{between-above}
@@ -33,7 +33,7 @@ use Rattle.levels.specs.Edit.{Way}
 use Rattle.levels.specs.Ways.{Trek, trek, starting, down-in}
 use Rattle.levels.proofs.Laws.Numbers.{numbers-in, numbers-long, numbers-room, Goes, goes-down}
 use Rattle.levels.proofs.Laws.Leading.{last-of, last-append, Ends}
-use Rattle.levels.proofs.Laws.Arriving.{Arrived, arrives, last-listed}
+use Rattle.levels.proofs.Laws.Arriving.{arrives, last-listed}
 use Rattle.readings.specs.Visit.{Known, first-enough}
 use Rattle.readings.specs.Descent.{way, landed, Written}
 use Rattle.readings.specs.declared.calls.Sought.{Sought}

@@ -1,11 +1,11 @@
 -- Laws of hashes and levels.
 use mathlib.Core.Path.{_≡_, refl, sym, ap, _∙_}
 use mathlib.Core.List.{List, [], _∷_}
-use mathlib.Core.Bool.{Bool, true, false, not, cond}
+use mathlib.Core.Bool.{Bool, true, false, cond}
 use Prim.Native.Nat.{ℕ, zero, suc, _+_, _*_, _-_, _/_, _%_, _^_, _≤_, _<_}
 use native.Mathlib.Omega.{arith}
 use native.Mathlib.Numerals.{add-one, one-add, unary-clauses}
-use native.Mathlib.Nat.{zero-add, pow-zero, mul-one, mod-lt, add-zero, add-mul, mul-assoc, mul-add-mod-self-left, div-add-mod, add-mod, mod-mod, pow-succ', one-le-pow, mul-comm, div-div-eq-div-mul, div-one, mod-one, sub-zero, zero-mul, mul-le-mul, le-refl}
+use native.Mathlib.Nat.{zero-add, mod-lt, add-zero, add-mul, mul-assoc, mul-add-mod-self-left, div-add-mod, add-mod, mod-mod, pow-succ', one-le-pow, mul-comm, div-div-eq-div-mul, div-one, mod-one, sub-zero, zero-mul, mul-le-mul, le-refl}
 use lib.Arith.{mod-mul}
 use lib.Dec.{leb, ltb, eqb}
 use lib.ListN.{getD}

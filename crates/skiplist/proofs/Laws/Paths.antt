@@ -8,12 +8,10 @@ use native.Mathlib.Omega.{arith}
 use borrow.Author.Tests.{ltb-true, le-leb, lt-leb}
 use lib.Dec.{ltb}
 use lib.ListN.{length, getD}
-use Rattle.sizes.specs.Sizes.{made}
-use Rattle.sizes.specs.Header.{header}
 use Rattle.sizes.specs.declared.Sizes.{Sizes}
 use Rattle.placement.specs.Blocks.{Block, empty, holds, around}
 use Rattle.placement.specs.Chunks.{Chunk}
-use Rattle.placement.specs.Maps.{Map, Table, nodes-of, labelled, map-of}
+use Rattle.placement.specs.Maps.{Map, Table, nodes-of, labelled}
 use Rattle.placement.specs.Place.{search-in}
 use Rattle.placement.specs.declared.Order.{Order}
 use Rattle.placement.specs.declared.Label.{Label}
@@ -25,14 +23,12 @@ use Rattle.placement.proofs.Laws.Kinds.{one-place}
 use Rattle.placement.proofs.Laws.Tables.{found-there}
 use Rattle.sizes.proofs.Laws.Sizes.{some-blocks}
 use Rattle.skiplist.specs.Lists.{front, at-least, list-at, first-key, last-from, pieces, chunks, blocks}
-use Rattle.skiplist.specs.Image.{image, orders-good, fits}
 use Rattle.skiplist.specs.Questions.{between}
 use Rattle.skiplist.specs.Paths.{greatest, nodes-upto, labels-from, path-labels, stands-in}
 use Rattle.skiplist.proofs.Laws.Parts.{Up, up-from, up-front, and-left, and-right, at-least-append, at-least-up, below, below-here}
 use Rattle.skiplist.proofs.Laws.Edits.{head-part, tail-part, part-at}
 use Rattle.skiplist.proofs.Laws.Descent.{first-opened, below-at-least, head-below, tail-above}
 use Rattle.skiplist.proofs.Laws.Shapes.{Place, there, absent, place, up-behind}
-use Rattle.skiplist.proofs.Laws.Image.{image-keeps}
 
 -- THE CUT: what is not above y, and what is
 pub data Cut (y : ℕ) (os : List Order) : Type 0 where

@@ -72,8 +72,8 @@ image-room x k o e = rw e (go (is-key k) (leb (2 * length path) (length o)) refl
     go : (a b : Bool) → leb (2 * length path) (length o) ≡ b → (c : Bool) → 2 * length (shown (cond a (cond b (cond c 0 9) 11) 5) path) ≤ length o
     go false b f c = omega arith
     go true false f c = omega arith
-    go true true f true = leb-true _ _ f
-    go true true f false = leb-true _ _ f
+    go true true f true = omega (arith, leb-true (2 * length path) (length o) f)
+    go true true f false = omega (arith, leb-true (2 * length path) (length o) f)
 
 -- AN ANSWER TO EVERY DESCENT: 4 or 5 on any bytes, and on an image all that its orders say
 abbrev Answered : (table : List ℕ) → (key : ℕ) → (output : List ℕ) → Type 0

@@ -1,7 +1,7 @@
 -- `readings::descent::descent` meets its contract: each need follows from the laws listed.
 use borrow.Author.Needs.{needs}
 use borrow.Author.Tests.{not-true, not-false}
-use mathlib.Core.Path.{refl, sym, ap, _∙_}
+use mathlib.Core.Path.{refl, ap, _∙_}
 use Rattle.levels.specs.Ways.{Trek}
 use Rattle.table.proofs.Laws.Checking.{ruled-shaped, ruled-gamma, ruled-blocks, ruled-base-most, ruled-orders}
 use Rattle.readings.proofs.Laws.Shown.{descent-short, descent-4, descent-5, descent-11, descent-9, descent-found}
