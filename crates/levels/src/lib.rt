@@ -1,4 +1,4 @@
-// One level of an edit: where a key comes in a partition, a partition split and merged, and how many chunks more that makes.
+// The way down to a key; and one level of an edit: where a key comes in a partition, a partition split and merged, and how many chunks more that makes.
 pub mod edit;
 pub mod growth;
 pub mod pour;

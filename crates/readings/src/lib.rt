@@ -1,4 +1,4 @@
-// Lookup, span and seek: a visit of the orders in a range, by rising key.
+// Lookup and descent: the way down to one key. Span and seek: a visit of the orders in a range, by rising key.
 pub mod calls;
 pub mod descent;
 pub mod visits;

@@ -93,7 +93,7 @@ Demand-3-check =
 unfoldable pub Runs-exist : Type 0
 Runs-exist = (cs : List Call) (x : List ℕ) → (z : List ℕ) × Runs cs x z
 
--- and they fix what a run leaves, though a seek is free in what it gives
+-- and they fix what a run leaves, though a seek is free in what it gives, and a descent on bytes that are no image
 unfoldable pub Runs-fixed : Type 0
 Runs-fixed = (cs : List Call) (x v w : List ℕ) → Runs cs x v → Runs cs x w → v ≡ w
 

@@ -1,4 +1,4 @@
-// The open-order table: make, and the check that answers question 4; what each call of document 01 has to answer (specs/Calls.antt).
+// The open-order table: make, and the check that answers question 4; what each call of documents 01 and 02 has to answer (specs/Calls.antt).
 pub mod checking;
 pub mod making;
 pub mod sweep;
