@@ -6,6 +6,7 @@ ghost use lib.ListN.{length, drop};
 ghost use Rattle.sizes.specs.Sizes.{beta};
 ghost use Rattle.placement.specs.Decode.{nodes-from};
 ghost use Rattle.skiplist.specs.Image.{orders-in};
+ghost use Rattle.skiplist.specs.Questions.{reserve};
 ghost use Rattle.readings.specs.Visit.{most-rows, scan, next-found, more-found, ended-visit, wanted-by, row-in, step-by, steps, Known, Row, Whole, passed-front, under, all-under};
 use crate::Visit;
 use placement::Found;
@@ -55,7 +56,17 @@ fn more_found(o: Order, v: Visit) -> Visit
     }
 }
 
-// Is the order one that is looked for?
+// What an order keeps in reserve.
+fn reserve_of(o: Order) -> u32
+    ensures { λ r. ⌜ r ≡ reserve o ⌝ }
+{
+    if o.total < o.displayed {
+        return 0;
+    }
+    o.total - o.displayed
+}
+
+// Is the order one that is looked for? A seek asks for the reserve.
 fn wanted(v: Visit, o: Order) -> bool
     ensures { λ r. ⌜ r ≡ wanted-by v o ⌝ }
 {
@@ -65,10 +76,7 @@ fn wanted(v: Visit, o: Order) -> bool
     if !v.seeks {
         return true;
     }
-    if o.total < o.displayed {
-        return v.least == 0;
-    }
-    v.least <= o.total - o.displayed
+    v.least <= reserve_of(o)
 }
 
 // A row of the output, where it has room.

@@ -94,17 +94,17 @@ module _ (v : Visit) (x : List ℕ) (goes-on : v .ended ≡ false) where
   -- SEEKING
   module _ (p : v .seeks ≡ true) (f : v .found ≡ 0) where
     sought-within : (ns : List Order) → Within (v .lo) (v .hi) ns → answer-of (steps ns (scan v x) .visit) ≡ first-enough (v .least) ns
-    unfolding steps first-enough more-found reserve
+    unfolding steps first-enough more-found
     sought-within [] w = rw (eq-eqb (v .found) 0 f)
     sought-within (o ∷ os) w = go (sought-within os (w .2)) (leb (v .least) (reserve o)) refl
       where
         go : answer-of (steps os (scan v x) .visit) ≡ first-enough (v .least) os → (t : Bool) → leb (v .least) (reserve o) ≡ t →
             answer-of (steps os (step-by o (scan v x)) .visit) ≡ cond t (Is o) (first-enough (v .least) os)
-        go ih false q = rw (told o v x false false false _ goes-on (le-ltb _ _ (w .1)) (sym (wanted-some v o (w .0) p) ∙ q) refl) ih
+        go ih false q = rw (told o v x false false false _ goes-on (le-ltb _ _ (w .1)) (sym (wanted-some v o (w .0) p (reserve o) refl) ∙ q) refl) ih
         go ih true q =
             let n : next-found (v .found) ≡ 1 = ap next-found f ∙ sym (next-more 0 (omega arith)) in
             ap (λ (y : Scan). answer-of (y .visit))
-            (ap (steps os) (told o v x false false true _ goes-on (le-ltb _ _ (w .1)) (sym (wanted-some v o (w .0) p) ∙ q) refl) ∙ steps-ended os _ p)
+            (ap (steps os) (told o v x false false true _ goes-on (le-ltb _ _ (w .1)) (sym (wanted-some v o (w .0) p (reserve o) refl) ∙ q) refl) ∙ steps-ended os _ p)
             ∙ rw n
 
     pub sought : (os : List Order) (a : ℕ) → Up a os → answer-of (steps os (scan v x) .visit) ≡ first-enough (v .least) (between (v .lo) (v .hi) os)

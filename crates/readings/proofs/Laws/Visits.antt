@@ -28,9 +28,14 @@ pub next-same : (n : ℕ) → 65535 ≤ n → n ≡ next-found n
 unfolding next-found
 next-same n h = rw (le-ltb n 65535 h)
 
-least-none : (a : ℕ) → eqb a 0 ≡ leb a 0
-least-none zero = refl
-least-none (suc a) = ne-eqb (suc a) 0 (omega arith) ∙ sym (lt-leb (suc a) 0 (omega arith))
+module _ (o : Order) where
+  pub reserve-none : o .total < o .displayed → 0 ≡ reserve o
+  unfolding reserve
+  reserve-none h = omega arith
+
+  pub reserve-some : o .total - o .displayed ≡ reserve o
+  unfolding reserve
+  reserve-some = refl
 
 module _ (v : Visit) (o : Order) where
   pub wanted-low : o .key < v .lo → false ≡ wanted-by v o
@@ -41,15 +46,9 @@ module _ (v : Visit) (o : Order) where
   unfolding wanted-by
   wanted-all h e = rw (le-leb _ _ h, e)
 
-  pub wanted-none : v .lo ≤ o .key → v .seeks ≡ true → o .total < o .displayed → eqb (v .least) 0 ≡ wanted-by v o
-  unfolding wanted-by reserve
-  wanted-none h e l =
-      let z : o .total - o .displayed ≡ 0 = omega arith in
-      rw (le-leb _ _ h, e, z) (least-none (v .least))
-
-  pub wanted-some : v .lo ≤ o .key → v .seeks ≡ true → leb (v .least) (o .total - o .displayed) ≡ wanted-by v o
-  unfolding wanted-by reserve
-  wanted-some h e = rw (le-leb _ _ h, e)
+  pub wanted-some : v .lo ≤ o .key → v .seeks ≡ true → (r : ℕ) → r ≡ reserve o → leb (v .least) r ≡ wanted-by v o
+  unfolding wanted-by
+  wanted-some h e r er = rw (le-leb _ _ h, e, er)
 
 module _ (x : List ℕ) (a : ℕ) (o : Order) where
   pub row-none : length x < a + 12 → x ≡ row-in x a o
