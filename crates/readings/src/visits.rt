@@ -56,10 +56,13 @@ fn more_found(o: Order, v: Visit) -> Visit
     }
 }
 
-// What an order keeps in reserve.
+// What an order keeps in reserve: only what stands behind a displayed part.
 fn reserve_of(o: Order) -> u32
     ensures { λ r. ⌜ r ≡ reserve o ⌝ }
 {
+    if o.displayed == 0 {
+        return 0;
+    }
     if o.total < o.displayed {
         return 0;
     }

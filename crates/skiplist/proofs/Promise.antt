@@ -1,10 +1,10 @@
 -- All that is promised, proved.
-use Rattle.skiplist.specs.Questions.{First-no-means}
+use Rattle.skiplist.specs.Questions.{First-no-means, Zero-finds-any}
 use Rattle.skiplist.specs.Rules.{Image-exactly, Paper-partitions, Paper-top, Beta-is, Level-is, Hash-is, Lists-are, Chunks-are}
 use Rattle.skiplist.specs.Promise.{Image-reads-back, Labels-rise, Rule-three, One-arrangement, Lists-image, Equal-exactly, Checks-exactly}
 use Rattle.skiplist.specs.Paths.{Path-fits, Path-one-way}
 use Rattle.skiplist.specs.Examples.{One-to-nine, Examples-hold}
-use Rattle.skiplist.proofs.Laws.Questions.{first-no-means}
+use Rattle.skiplist.proofs.Laws.Questions.{first-no-means, zero-finds-any}
 use Rattle.skiplist.proofs.Laws.Examples.{examples-hold}
 use Rattle.skiplist.proofs.Laws.Levels.{beta-is, level-is, hash-is}
 use Rattle.skiplist.proofs.Laws.Lists.{lists-are}
@@ -20,6 +20,8 @@ use Rattle.skiplist.proofs.Laws.Rules.{image-exactly}
 pub record Proved : Type 0 where
   -- DEMAND 1's first clause
   pub first-no : First-no-means
+  -- with r = 0 hidden orders are still found
+  pub zero-finds : Zero-finds-any
   -- DEMAND 2: images
   pub reads : Image-reads-back
   pub rise : Labels-rise
@@ -48,6 +50,7 @@ pub record Proved : Type 0 where
 pub proved : Proved
 proved = record {
   first-no = first-no-means;
+  zero-finds = zero-finds-any;
   reads = reads-back;
   rise = labels-do-rise;
   rule-3 = rule-three;

@@ -166,6 +166,10 @@ left-open =
     ∷ answers [] (span 1 9 []) 0 ∷ answers [] (span 2 1 []) 10 ∷ answers [] (span 1 prime []) 5
     ∷ answers (put-3 ∷ []) (span 1 9 (replicate 11 0)) 11 ∷ answers (put-3 ∷ []) (span 3 3 (replicate 12 0)) 0
     ∷ answers (put-3 ∷ []) (seek 1 9 80) 0 ∷ answers (put-3 ∷ []) (seek 1 9 81) 12 ∷ answers (put-3 ∷ []) check 0
+    -- A.2 of document 02: a wholly hidden order has reserve 0, at any total; with r = 0 it is found; the others have what they do not display
+    ∷ answers (put 3 100 0 ∷ []) (seek 1 9 0) 0 ∷ answers (put 3 100 0 ∷ []) (seek 1 9 1) 12 ∷ answers (put 3 100 0 ∷ []) (seek 1 9 100) 12
+    ∷ answers (put 3 100 1 ∷ []) (seek 1 9 99) 0 ∷ answers (put 3 100 1 ∷ []) (seek 1 9 100) 12
+    ∷ answers (put-6 ∷ []) (seek 1 9 0) 0 ∷ answers (put-6 ∷ []) (seek 1 9 1) 12 ∷ answers [] (seek 1 9 0) 12
     -- the chunk number counts in a home, and quantities above level 1 are zero
     ∷ has-home 1 0 1 1 ∷ has-home 2 6 3 1
     ∷ leaves-bytes (put-3 ∷ put-6 ∷ []) 85 (2 ∷ 2 ∷ replicate 18 0 ++ (0 ∷ 0 ∷ 0 ∷ 6 ∷ replicate 8 0))

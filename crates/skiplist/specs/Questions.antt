@@ -61,13 +61,23 @@ unfoldable pub between : (lo hi : ℕ) → List Order → List Order
 between lo hi [] = []
 between lo hi (o ∷ os) = cond (leb lo (o .key) && leb (o .key) hi) (o ∷ between lo hi os) (between lo hi os)
 
--- what an order keeps in reserve; is there one that has at least r?
+-- what an order keeps in reserve. Document 02, A.2: "only what stands behind a displayed part. A wholly hidden order therefore has reserve 0 from now on;
+-- any other has total − displayed"
 unfoldable pub reserve : Order → ℕ
-reserve o = o .total - o .displayed
+reserve o = cond (eqb (o .displayed) 0) 0 (o .total - o .displayed)
 
+-- is there an order that has at least r?
 unfoldable pub any-reserve : (r : ℕ) → List Order → Bool
 any-reserve r [] = false
 any-reserve r (o ∷ os) = leb r (reserve o) || any-reserve r os
+
+-- "With r = 0 hidden orders are still found": then it is asked only whether there is an order
+unfoldable pub any-order : List Order → Bool
+any-order [] = false
+any-order (o ∷ os) = true
+
+unfoldable pub Zero-finds-any : Type 0
+Zero-finds-any = (os : List Order) → any-reserve 0 os ≡ any-order os
 
 -- WHAT MAKE IS ASKED: γ, B, N, M, and the seed's bytes
 pub record Parameters : Type 0 where

@@ -6,7 +6,7 @@ use Prim.Native.Nat.{ℕ, zero, suc, _+_, _*_, _-_, _≤_, _<_}
 use lib.Dec.{ltb, leb, eqb}
 use lib.ListN.{length}
 use lib.Seq.{sets, length-sets}
-use borrow.Author.Tests.{ltb-true, ne-eqb, le-leb, lt-leb, le-ltb, lt-ltb}
+use borrow.Author.Tests.{ltb-true, eq-eqb, ne-eqb, le-leb, lt-leb, le-ltb, lt-ltb}
 use native.Mathlib.Omega.{arith}
 use Rattle.sizes.specs.Numbers.{big}
 use Rattle.placement.specs.Chunks.{node-bytes}
@@ -29,13 +29,16 @@ unfolding next-found
 next-same n h = rw (le-ltb n 65535 h)
 
 module _ (o : Order) where
-  pub reserve-none : o .total < o .displayed → 0 ≡ reserve o
+  pub reserve-hidden : o .displayed ≡ 0 → 0 ≡ reserve o
   unfolding reserve
-  reserve-none h = omega arith
+  reserve-hidden e = rw (eq-eqb (o .displayed) 0 e)
 
-  pub reserve-some : o .total - o .displayed ≡ reserve o
+  pub reserve-shown : (o .displayed ≡ 0 → ⊥) → o .total - o .displayed ≡ reserve o
   unfolding reserve
-  reserve-some = refl
+  reserve-shown n = rw (ne-eqb (o .displayed) 0 n)
+
+  pub reserve-none : (o .displayed ≡ 0 → ⊥) → o .total < o .displayed → 0 ≡ reserve o
+  reserve-none n h = let z : 0 ≡ o .total - o .displayed = omega arith in z ∙ reserve-shown n
 
 module _ (v : Visit) (o : Order) where
   pub wanted-low : o .key < v .lo → false ≡ wanted-by v o

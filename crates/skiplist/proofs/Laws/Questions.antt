@@ -5,7 +5,9 @@ use mathlib.Core.List.{List, [], _∷_}
 use mathlib.Core.Logic.{_⊎_, inl, inr}
 use Prim.Native.Nat.{ℕ, suc}
 use native.Mathlib.Omega.{arith}
-use Rattle.skiplist.specs.Questions.{Question, ask, first-no, all-yes, Turned-down, First-no-means}
+use borrow.Author.Tests.{le-leb}
+use Rattle.placement.specs.declared.Order.{Order}
+use Rattle.skiplist.specs.Questions.{Question, ask, first-no, all-yes, Turned-down, First-no-means, reserve, any-reserve, any-order, Zero-finds-any}
 
 -- a question that does not turn the call down
 pub passes : (n : ℕ) (yes : Bool) (r : ℕ) → cond yes r (suc n) ≡ 0 → (yes ≡ true) × (r ≡ 0)
@@ -21,3 +23,9 @@ first-no-means (ask n true ∷ qs) = go (first-no-means qs)
     go : ((first-no qs ≡ 0) × (all-yes qs ≡ true)) ⊎ Turned-down (first-no qs) qs → ((first-no qs ≡ 0) × (all-yes qs ≡ true)) ⊎ Turned-down (first-no qs) (ask n true ∷ qs)
     go (inl w) = inl w
     go (inr w) = inr (record { asked = ask n true ∷ w .asked; later = w .later; is = ap (λ (z : List Question). ask n true ∷ z) (w .is); passed = w .passed })
+
+-- every order has a reserve of 0
+pub zero-finds-any : Zero-finds-any
+unfolding Zero-finds-any any-reserve any-order
+zero-finds-any [] = refl
+zero-finds-any (o ∷ os) = rw (le-leb 0 (reserve o) (omega arith))

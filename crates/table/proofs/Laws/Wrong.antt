@@ -1,4 +1,4 @@
--- The wrong programs of document 01, "Contracts", with those of a descent, and the clause that excludes each: on every table, and then on tables of the run.
+-- The wrong programs of document 01, "Contracts", with those of a descent and of the reserve, and the clause that excludes each: on every table, and then on tables of the run.
 use mathlib.Core.Path.{_≡_, refl, sym, ap, _∙_, subst}
 use mathlib.Core.Bool.{Bool, true, false, _&&_, cond, not, false≢true}
 use mathlib.Core.List.{List, [], _∷_, _++_}
@@ -20,11 +20,11 @@ use Rattle.placement.specs.declared.Order.{Order}
 use Rattle.sizes.proofs.Laws.Sizes.{and-parts, limits}
 use Rattle.skiplist.specs.Lists.{front, at-least, list-at, starts-one, run, rest, partitions, first-key, pick, part, last-from, masked, chunks-of, pieces, all-chunks, chunks-from, chunks, blocks}
 use Rattle.skiplist.specs.Image.{image, into, all-into, gathered, orders-in, quantities-good, orders-good, fits, same, is-image}
-use Rattle.skiplist.specs.Questions.{Question, ask, first-no, is-key, held, without, with-order, order, between, reserve, any-reserve, asks-image, asks-put, asks-key, asks-range, asks-span, asks-seek}
+use Rattle.skiplist.specs.Questions.{Question, ask, first-no, is-key, held, without, with-order, order, between, reserve, any-reserve, any-order, Zero-finds-any, asks-image, asks-put, asks-key, asks-range, asks-span, asks-seek}
 use Rattle.skiplist.specs.Paths.{greatest, nodes-upto, labels-from, path-labels, stands-in, descent-path, path-bytes, asks-descent}
 use Rattle.skiplist.specs.Book.{Call, put, cancel, lookup, descent, span, seek, check, asks, changed, book-refusal, refusal, done}
 use Rattle.skiplist.specs.Examples.{run-seed, run-sizes, empty-table, put-3, put-6}
-use Rattle.skiplist.proofs.Laws.Questions.{passes}
+use Rattle.skiplist.proofs.Laws.Questions.{passes, zero-finds-any}
 use Rattle.skiplist.proofs.Laws.Parts.{or-left, or-right, good-up}
 use Rattle.skiplist.proofs.Laws.Kept.{held-without, kept-none, kept-changed}
 use Rattle.skiplist.proofs.Laws.Third.{image-parts, taken}
@@ -162,6 +162,21 @@ pub blind-12 : (x : List ℕ) (lo hi l : ℕ) (r : Reply) → Seek-says x lo hi 
 unfolding Seek-says refusal asks first-no asks-image asks-range asks-seek apart
 blind-12 x lo hi l r w e = own-question 12 (asks-image x ++ asks-range lo hi) [] _ refl (sym (seek-number _ (orders-in x) lo hi l r w) ∙ e)
 
+-- a seek that leaves hidden orders out at r = 0: there 12 says that no order lies in lo..hi
+pub zero-12 : (x : List ℕ) (lo hi : ℕ) (r : Reply) → Seek-says x lo hi 0 r → r .number ≡ 12 → any-order (between lo hi (orders-in x)) ≡ false
+unfolding Zero-finds-any
+zero-12 x lo hi r w e = sym (zero-finds-any (between lo hi (orders-in x))) ∙ blind-12 x lo hi 0 r w e
+
+-- one that takes a hidden order's total for its reserve: from r = 1 on, an order that it gives has a displayed part
+enough : (n : ℕ) (os : List Order) (lo hi l : ℕ) (r : Reply) → Seek-as n os lo hi l r → r .number ≡ 0 → l ≤ reserve (order (r .key) (r .total) (r .displayed))
+unfolding Seek-as says
+enough zero os lo hi l r w e = w .enough
+enough (suc n) os lo hi l r w e = absurd (omega (arith, w .0))
+
+pub hidden-given : (x : List ℕ) (lo hi l : ℕ) (r : Reply) → Seek-says x lo hi l r → 1 ≤ l → r .number ≡ 0 → r .displayed ≡ 0 → ⊥
+unfolding Seek-says reserve
+hidden-given x lo hi l r w h n e = omega (arith, rw (eq-eqb (r .displayed) 0 e) at (enough _ (orders-in x) lo hi l r w n))
+
 -- a call that gives 4 to all: 4 is given only of bytes that are no image
 no-other-4 : (s : Sizes) (c : Call) (os : List Order) → apart 4 (asks s c os) ≡ true
 unfolding asks asks-put asks-key asks-descent asks-range asks-span asks-seek apart
@@ -216,6 +231,9 @@ with-6 = done put-6 empty-table
 unfoldable pub with-both : List ℕ
 with-both = done put-3 with-6
 
+unfoldable pub with-hidden : List ℕ
+with-hidden = done (put 3 100 0) empty-table
+
 record Computed : Type 0 where
   six : refusal put-6 empty-table ≡ 0
   three : refusal put-3 with-6 ≡ 0
@@ -225,13 +243,15 @@ record Computed : Type 0 where
   spans : refusal (span 1 9 (replicate 24 7)) with-both ≡ 0
   finds : length (between 1 9 (orders-in with-both)) ≡ 2
   seeks : refusal (seek 1 9 80) with-both ≡ 0
+  zero : refusal (seek 1 9 0) with-hidden ≡ 0
+  one : refusal (seek 1 9 1) with-hidden ≡ 12
   both : is-image with-both ≡ true
   lacks : refusal (descent 4 (replicate 6 7)) with-both ≡ 9
   goes : descent-path (sizes-in with-both) (orders-in with-both) 4 ≡ 3 ∷ 1 ∷ 0 ∷ []
 
 computed : Computed
-unfolding big value-from field rows rows-in least-power beta sizes-good seed-good made hash-from h g divides-from level block-long table-long header sizes-in held-in rule-1 around stored place-from placed home node-bytes block-bytes node-in head-label chunk-of block-of blocks-in front at-least list-at starts-one run rest partitions first-key masked chunks-of all-chunks chunks-from chunks blocks image into all-into gathered orders-in quantities-good orders-good fits same is-image pick part last-from pieces greatest nodes-upto labels-from path-labels same-label stands-in descent-path first-no is-key held without with-order between reserve any-reserve asks-image asks-put asks-key asks-descent asks-range asks-span asks-seek asks changed refusal done run-seed run-sizes empty-table put-3 put-6 with-6 with-both
-computed = record { six = refl; three = refl; not-yet = refl; cancels = refl; allowed = refl; spans = refl; finds = refl; seeks = refl; both = refl; lacks = refl; goes = refl }
+unfolding big value-from field rows rows-in least-power beta sizes-good seed-good made hash-from h g divides-from level block-long table-long header sizes-in held-in rule-1 around stored place-from placed home node-bytes block-bytes node-in head-label chunk-of block-of blocks-in front at-least list-at starts-one run rest partitions first-key masked chunks-of all-chunks chunks-from chunks blocks image into all-into gathered orders-in quantities-good orders-good fits same is-image pick part last-from pieces greatest nodes-upto labels-from path-labels same-label stands-in descent-path first-no is-key held without with-order between reserve any-reserve asks-image asks-put asks-key asks-descent asks-range asks-span asks-seek asks changed refusal done run-seed run-sizes empty-table put-3 put-6 with-6 with-both with-hidden
+computed = record { six = refl; three = refl; not-yet = refl; cancels = refl; allowed = refl; spans = refl; finds = refl; seeks = refl; zero = refl; one = refl; both = refl; lacks = refl; goes = refl }
 
 -- a put that edits properly once and later only returns 0, or returns whatever it likes
 pub once-right : Put-says 6 50 50 0 empty-table with-6
@@ -283,3 +303,12 @@ not-4 z w = omega (arith, w .0, computed .six)
 pub not-12 : (r : Reply) → Seek-says with-both 1 9 80 r → r .number ≡ 12 → ⊥
 unfolding Seek-says
 not-12 r w e = omega (arith, seek-number _ (orders-in with-both) 1 9 80 r w, computed .seeks)
+
+-- a hidden order left out at r = 0, or found at r = 1
+pub hidden-at-0 : (r : Reply) → Seek-says with-hidden 1 9 0 r → r .number ≡ 0
+unfolding Seek-says
+hidden-at-0 r w = seek-number _ (orders-in with-hidden) 1 9 0 r w ∙ computed .zero
+
+pub hidden-at-1 : (r : Reply) → Seek-says with-hidden 1 9 1 r → r .number ≡ 12
+unfolding Seek-says
+hidden-at-1 r w = seek-number _ (orders-in with-hidden) 1 9 1 r w ∙ computed .one
