@@ -53,11 +53,11 @@ int archive_span(void *p) {
     return r.number != 0 || r.count != s->of.held;
 }
 
-/* From the picked order on, one with a large reserve; near the end there may be none. */
+/* From the picked order on, one with a large reserve; near the end there may be none. A wholly hidden order has none. */
 int archive_seek(void *p) {
     const scene *s = p;
     balluchaw_reply r = balluchaw_seek(s->table, s->length, s->picked.key, P31 - 1, RESERVE);
-    return r.number != 12 && (r.number != 0 || r.key < s->picked.key || r.total - r.displayed < RESERVE);
+    return r.number != 12 && (r.number != 0 || r.key < s->picked.key || r.displayed == 0 || r.total - r.displayed < RESERVE);
 }
 
 int archive_put(void *p) {

@@ -103,6 +103,16 @@ static void print_order(uint32_t order) {
     else printf("%s\n", answers[found.number]);
 }
 
+/* What can still be offered behind what the market sees. A wholly hidden order shows nothing, so it has no reserve, however large it is: of this day's
+ * orders 4713 has the most, and is not found. */
+static void print_reserve(uint32_t least) {
+    balluchaw_reply found = balluchaw_seek(table, sizeof table, 1, 2147483646, least);
+    must(found.number == 0 || found.number == 12, answers[found.number]);
+    printf("%u or more in reserve: ", (unsigned)least);
+    if (found.number == 0) printf("order %u\n", (unsigned)found.key);
+    else printf("%s\n", answers[found.number]);
+}
+
 int main(int count, char **words) {
     const char *name = count > 1 ? words[1] : "orders.table";
     make_table();
@@ -112,9 +122,7 @@ int main(int count, char **words) {
     print_span(4711, 4719);
     print_order(4716);
     print_order(4712);
-    balluchaw_reply hidden = balluchaw_seek(table, sizeof table, 1, 2147483646, 1500);
-    printf("1500 or more in reserve: %s", answers[hidden.number]);
-    if (hidden.number == 0) printf(", order %u", (unsigned)hidden.key);
-    printf("\n");
+    print_reserve(1000);
+    print_reserve(1500);
     return 0;
 }

@@ -24,7 +24,10 @@
  *    9  is the key held?
  *   10  is lo at most hi?
  *   11  has the output 12 bytes for each held key in lo..hi? Of a descent: two bytes for each block of its path?
- *   12  is there an order in lo..hi with total - displayed at least the reserve?
+ *   12  is there an order in lo..hi that has at least the reserve?
+ *
+ * The reserve of an order is what stands behind its displayed part: total - displayed; but 0 where displayed is 0. Nothing of a wholly hidden
+ * order is displayed, so it has no reserve, however large it is.
  */
 #ifndef BALLUCHAW_H
 #define BALLUCHAW_H
@@ -88,7 +91,8 @@ balluchaw_reply balluchaw_descent(const uint8_t *table, size_t length, uint32_t 
  * their number in count. Bytes of the output beyond them keep their values. Asks 4, 5, 10, 11. */
 balluchaw_reply balluchaw_span(const uint8_t *table, size_t length, uint32_t lo, uint32_t hi, uint8_t *output, size_t output_length);
 
-/* Some order in lo..hi whose total less its displayed quantity is at least the reserve. Asks 4, 5, 10, 12. */
+/* Some order in lo..hi that has at least the reserve. With a reserve of 0 every order does, wholly hidden ones too; with 1 or more no wholly
+ * hidden order does. Asks 4, 5, 10, 12. */
 balluchaw_reply balluchaw_seek(const uint8_t *table, size_t length, uint32_t lo, uint32_t hi, uint32_t reserve);
 
 #ifdef __cplusplus
