@@ -1,5 +1,5 @@
-//! The calls on byte buffers ("Calls and their questions"), and the descent of
-//! document 02's request A.1.
+//! The calls on byte buffers ("Calls and their questions"), the descent of
+//! document 02's request A.1, and a seek by the reserve of its request A.2.
 //!
 //! "Questions run in this order; the first "no" ends the call with its number.
 //! All other parts of that answer are 0 and no lent byte changes. Success is 0."
@@ -214,7 +214,8 @@ pub fn span(table: &[u8], lo: u32, hi: u32, output: &mut [u8]) -> Reply {
 }
 
 /// Seek: 4, 5, 10, 12. "It gives some such order": here the one with the lowest
-/// key.
+/// key. By request A.2 "Seek and its 12 use that definition" of the reserve, and
+/// "With r = 0 hidden orders are still found": 0 is a reserve of at least 0.
 pub fn seek(table: &[u8], lo: u32, hi: u32, r: u32) -> Reply {
     let orders = match held(table) {
         Some((_, orders)) => orders,
@@ -226,8 +227,10 @@ pub fn seek(table: &[u8], lo: u32, hi: u32, r: u32) -> Reply {
     if lo > hi {
         return Reply::refused(10);
     }
-    let fits = |order: &Quantities| order.total - order.displayed >= r;
-    match orders.range(lo..=hi).find(|(_, order)| fits(order)) {
+    match orders
+        .range(lo..=hi)
+        .find(|(_, order)| order.reserve() >= r)
+    {
         Some((&key, order)) => Reply::order(key, order),
         None => Reply::refused(12),
     }

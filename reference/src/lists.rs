@@ -10,6 +10,24 @@ pub struct Quantities {
     pub displayed: u32,
 }
 
+impl Quantities {
+    /// "0: wholly hidden".
+    pub fn is_hidden(&self) -> bool {
+        self.displayed == 0
+    }
+
+    /// What counts as reserve, by request A.2: it is "only what stands behind a
+    /// displayed part. A wholly hidden order therefore has reserve 0 from now on;
+    /// any other has total − displayed."
+    pub fn reserve(&self) -> u32 {
+        if self.is_hidden() {
+            0
+        } else {
+            self.total - self.displayed
+        }
+    }
+}
+
 /// A set of orders, by key.
 pub type Orders = BTreeMap<u32, Quantities>;
 

@@ -85,6 +85,11 @@ struct Reader {
     undecided: u32,
     full: u32,
     odd_seeds: u32,
+    /// Seeks by r in a range whose orders are all hidden: r = 0, r = 1, r of 2 to
+    /// just below the greatest total there, that total, more.
+    hidden: [u32; 5],
+    /// Seeks that gave an order by its whole reserve, not 0.
+    exact: u32,
 }
 
 fn number(field: &str) -> u32 {
@@ -148,6 +153,28 @@ impl Reader {
         *self.pairs.entry(pair).or_default() += 1;
         if asked[0] == "put" && number == 0 {
             self.full += u32::from(is_full(&self.store[..place(asked[1])]));
+        }
+        if asked[0] == "seek" && [0, 12].contains(&number) {
+            self.count_seek(&asked, total - displayed);
+        }
+    }
+
+    /// `left` is what the order given does not display; 0 where none is given.
+    fn count_seek(&mut self, asked: &[&str], left: u32) {
+        let [lo, hi, r] = [2, 3, 4].map(|field| number(asked[field]));
+        self.exact += u32::from(r > 0 && r == left);
+        let (_, orders) = held(&self.store[..place(asked[1])]).expect("an image");
+        let inside = || orders.range(lo..=hi).map(|(_, order)| order);
+        let greatest = inside().map(|order| order.total).max();
+        if let (Some(total), true) = (greatest, inside().all(|order| order.displayed == 0)) {
+            let kind = match r {
+                0 => 0,
+                1 => 1,
+                _ if r < total => 2,
+                _ if r == total => 3,
+                _ => 4,
+            };
+            self.hidden[kind] += 1;
         }
     }
 
@@ -231,6 +258,9 @@ fn vectors_can_be_read() {
     assert!(reader.undecided >= 50, "{} undecided", reader.undecided);
     assert!(reader.full >= 50, "{} full tables", reader.full);
     assert!(reader.odd_seeds >= 5);
+    let hidden = reader.hidden;
+    assert!(hidden.iter().all(|&times| times >= 5), "{hidden:?}");
+    assert!(reader.exact >= 20, "{} whole reserves", reader.exact);
     for key in ["0", "1", "2147483646", "2147483647", "4294967295"] {
         let puts = text.lines().filter(|line| line.starts_with("put "));
         assert!(

@@ -9,7 +9,7 @@ use reference::calls::{self, Reply};
 use reference::image::{image, is_image, is_image_by_rebuilding};
 use reference::lists::Orders;
 use reference::program::program;
-use reference::samples::{random_seed, some_quantities, Xorshift, EDGE_KEYS};
+use reference::samples::{random_seed, some_quantities, some_seek, Xorshift, EDGE_KEYS};
 use reference::sizes::{Made, P};
 
 #[derive(Clone, Copy, Debug)]
@@ -46,7 +46,8 @@ fn any_range(generator: &mut Xorshift, made: &Made) -> (u32, u32) {
     }
 }
 
-fn any_call(generator: &mut Xorshift, made: &Made) -> Call {
+fn any_call(generator: &mut Xorshift, book: &Book) -> Call {
+    let made = book.made();
     let key = any_key(generator, made);
     match generator.below(20) {
         0..=8 => {
@@ -73,9 +74,9 @@ fn any_call(generator: &mut Xorshift, made: &Made) -> Call {
             Call::Span(lo, hi, length)
         }
         _ => {
-            let (lo, hi) = any_range(generator, made);
-            let far = generator.draw();
-            Call::Seek(lo, hi, generator.pick(&[0, 1, 40, far, u32::MAX]))
+            let range = any_range(generator, made);
+            let (lo, hi, r) = some_seek(generator, book.orders(), range);
+            Call::Seek(lo, hi, r)
         }
     }
 }
@@ -195,7 +196,11 @@ fn expected_seek(book: &Book, lo: u32, hi: u32, r: u32) -> Reply {
     if lo > hi {
         return Reply::refused(10);
     }
-    let fits = |&(_, total, displayed): &(u32, u32, u32)| total - displayed >= r;
+    // Of a hidden order nothing is reserve; in another r more can be displayed.
+    let fits = |&(_, total, displayed): &(u32, u32, u32)| match displayed {
+        0 => r == 0,
+        _ => displayed.checked_add(r).map_or(false, |sum| sum <= total),
+    };
     match in_range(book, lo, hi).into_iter().find(fits) {
         Some((key, total, displayed)) => Reply {
             key,
@@ -213,7 +218,7 @@ fn history(generator: &mut Xorshift, made: Made, calls: u32, seen: &mut [u32; 13
     let mut book = Book::new(made);
     assert_eq!(table, image(&made, &Orders::new()).unwrap());
     for _ in 0..calls {
-        let call = any_call(generator, &made);
+        let call = any_call(generator, &book);
         let before = table.clone();
         let found = ask(&mut table, call);
         assert_eq!(found, expected(&mut book, call), "{call:?} {made:?}");
@@ -350,7 +355,7 @@ fn the_program_follows_the_book() {
         let mut output = "0\n".to_string();
         let mut book = Book::new(made);
         for _ in 0..100 {
-            let call = any_call(&mut generator, &made);
+            let call = any_call(&mut generator, &book);
             if let Some((line, answer)) = text(&mut book, call) {
                 input += &line;
                 output += &answer;

@@ -67,6 +67,15 @@ impl Writer {
         }
     }
 
+    /// Often 0, which hidden orders have in reserve, and 1, which they have not.
+    fn reserve(&mut self) -> u32 {
+        match self.chance.below(4) {
+            0 => 0,
+            1 => 1,
+            _ => self.quantity(),
+        }
+    }
+
     /// The digits of a number, sometimes with zeros in front.
     fn field(&mut self, number: u32) -> String {
         match self.chance.below(60) {
@@ -96,6 +105,7 @@ impl Writer {
                 let total = self.quantity();
                 let shown = match self.chance.below(6) {
                     0 => self.quantity(),
+                    1 => 0,
                     _ => self.chance.within(0, total),
                 };
                 self.written("put", &[first, total, shown])
@@ -104,7 +114,9 @@ impl Writer {
             10..=11 => self.written("show", &[first]),
             12 => self.written("span", &[low, high]),
             13..=14 => {
-                let reserve = self.quantity();
+                let few = low.saturating_add(self.chance.below(3));
+                let high = self.chance.pick(&[high, high.min(few)]);
+                let reserve = self.reserve();
                 self.written("seek", &[low, high, reserve])
             }
             _ => "blocks".to_string(),

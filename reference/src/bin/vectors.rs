@@ -43,8 +43,8 @@ use reference::image::held;
 use reference::lists::{chunks, lists, Orders, Quantities};
 use reference::paths::path;
 use reference::samples::{
-    constant_seed, fnv_1a, identity_seed, random_seed, some_quantities, some_seed, zero_seed,
-    Xorshift, EDGE_KEYS,
+    constant_seed, fnv_1a, identity_seed, random_seed, some_quantities, some_seed, some_seek,
+    zero_seed, Xorshift, EDGE_KEYS,
 };
 use reference::sizes::{Made, Sizes, HEADER, P};
 use std::io::{self, BufWriter, Write};
@@ -233,7 +233,7 @@ fn pairs() -> impl Iterator<Item = (u32, u32)> {
         .flat_map(|gamma| [2, 3, 16, 32].map(|nodes| (gamma, nodes)))
 }
 
-/// P3 to P8 and "Run only".
+/// P3 to P8 and "Run only", and what counts as reserve (document 02, A.2).
 fn examples(recorder: &mut Recorder) {
     let sizes = Sizes {
         gamma: 2,
@@ -266,10 +266,33 @@ fn examples(recorder: &mut Recorder) {
     for r in [0, 1, 80, 81, u32::MAX] {
         recorder.seek(length, 1, P - 1, r);
     }
+    seeks(recorder, length);
     descents(recorder, length, &[1, 3, 4, 6, 7, P - 1]);
     descents_refused(recorder, length);
     recorder.cancel(length, 3);
     recorder.cancel(length, 3);
+}
+
+/// Orders 3 and 6 with 10 in all, each of them hidden, displayed in part and
+/// displayed whole; then order 3 with the greatest total. Every r is at or beside
+/// 0, what an order has in reserve, or what it has in all.
+fn seeks(recorder: &mut Recorder, length: usize) {
+    for three in [0, 4, 10] {
+        for six in [0, 4, 10] {
+            recorder.put(length, 3, 10, three);
+            recorder.put(length, 6, 10, six);
+            for r in [0, 1, 6, 7, 10, 11] {
+                recorder.seek(length, 1, P - 1, r);
+                recorder.seek(length, 3, 3, r);
+            }
+        }
+    }
+    for displayed in [0, 1] {
+        recorder.put(length, 3, u32::MAX, displayed);
+        for r in [0, 1, u32::MAX - 1, u32::MAX] {
+            recorder.seek(length, 1, 5, r);
+        }
+    }
 }
 
 /// To each key with every output from none to more than its path takes.
@@ -488,6 +511,9 @@ fn history(
     recorder.check(length);
     recorder.make(sizes, &made.seed.bytes(), length);
     fill(recorder, generator, length, &keys);
+    for _ in 0..12 {
+        a_seek(recorder, generator, length, (1, P - 1));
+    }
     for step in 0..steps {
         if recorder.done() {
             return;
@@ -601,12 +627,17 @@ fn reading(recorder: &mut Recorder, generator: &mut Xorshift, length: usize, key
             let room = output_length(generator, needed);
             recorder.span(length, lo, hi, room);
         }
-        2 => {
-            let r = generator.pick(&[0, 1, 50, 1_000_000_000, 4_000_000_000, u32::MAX]);
-            recorder.seek(length, lo, hi, r);
-        }
+        2 => a_seek(recorder, generator, length, (lo, hi)),
         _ => some_descent(recorder, generator, length, one),
     }
+}
+
+/// A seek in that range or a narrower one, for a reserve that orders there have or
+/// just do not have.
+fn a_seek(recorder: &mut Recorder, generator: &mut Xorshift, length: usize, range: (u32, u32)) {
+    let orders = orders(&recorder.store[..length]);
+    let (lo, hi, r) = some_seek(generator, &orders, range);
+    recorder.seek(length, lo, hi, r);
 }
 
 /// A descent with an output of about the length that its path needs; where there
