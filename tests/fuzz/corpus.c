@@ -56,7 +56,10 @@ static void image(uint32_t gamma, uint32_t nodes, uint32_t orders, uint32_t bloc
         fprintf(stderr, "corpus: make refused %u %u %u %u\n", gamma, nodes, orders, blocks);
         exit(1);
     }
-    for (uint32_t i = 0; i < held; i++) balluchaw_put(bytes + 1, length, 1 + draw() % 1000, 1 + draw() % 500, 0);
+    for (uint32_t i = 0; i < held; i++) {
+        uint32_t key = 1 + draw() % 1000, total = 1 + draw() % 500, displayed = draw() % 3 ? draw() % (total + 1) : 0;
+        balluchaw_put(bytes + 1, length, key, total, displayed);
+    }
     for (uint8_t first = 192; first < 196; first++) {
         bytes[0] = first;
         save(bytes, 1 + length);

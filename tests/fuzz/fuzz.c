@@ -2,7 +2,7 @@
  *
  * An input below FIRST_RAW in its first byte is sizes, a seed and a list of calls; otherwise the bytes behind the first are a table that
  * somebody made. Input that ends early reads as zeros. What must hold stands in the functions named after the calls:
- *   - a call answers the number that a plain model of document 01 gives, and all parts of its answer;
+ *   - a call answers the number that a plain model of documents 01 and 02 gives, and all parts of its answer;
  *   - a refused call and a reading change no byte of the table, a refused span none of its output;
  *   - after an edit the check answers 0, and lookup and span give what the model holds;
  *   - the same orders put into a new table in another order give the same bytes;
@@ -193,6 +193,9 @@ static uint32_t way(const model *m, uint32_t key, label labels[LONGEST_WAY]) {
 }
 
 static int is_key(uint32_t key) { return key >= 1 && key < P; }
+
+/* Only what stands behind a displayed part is reserve, so a wholly hidden order has none. */
+static uint32_t reserve_of(const order *o) { return o->displayed == 0 ? 0 : o->total - o->displayed; }
 
 static uint32_t model_put(model *m, order o) {
     if (!is_key(o.key)) return 5;
@@ -420,19 +423,40 @@ static void span(const model *m, table *t, uint32_t lo, uint32_t hi, size_t room
     give_back(OUTPUT, output, room, how / 8);
 }
 
+static int has_reserve(const order *o, uint32_t lo, uint32_t hi, uint32_t reserve) {
+    return o->key >= lo && o->key <= hi && reserve_of(o) >= reserve;
+}
+
+/* Tells how what is sought stands to what an order of the range has in reserve and in all, for hidden orders and others apart. */
+static void sought(const order *o, uint32_t reserve, uint32_t number) {
+    uint32_t own = reserve_of(o), edges = (reserve == 0) | (reserve == 1) << 1 | (reserve == own) << 2 | (reserve == own + 1) << 3;
+    edges |= (reserve == o->total) << 4 | (reserve > o->total) << 5;
+    feature(3000 + edges * 4 + (o->displayed == 0) * 2 + (number == 0));
+}
+
 static void seek(const model *m, table *t, uint32_t lo, uint32_t hi, uint32_t reserve, unsigned how) {
     uint8_t *lent = lend(t, how);
     balluchaw_reply r = balluchaw_seek(lent, t->length, lo, hi, reserve);
     take_back(t, lent, how, 0);
     feature(SEEK * 16 + r.number);
     uint32_t number = !m ? 4 : !is_key(lo) || !is_key(hi) ? 5 : lo > hi ? 10 : 12;
-    for (uint32_t i = 0; number == 12 && i < m->n; i++) {
-        const order *o = &m->held[i];
-        if (o->key >= lo && o->key <= hi && o->total - o->displayed >= reserve) number = 0;
-    }
+    for (uint32_t i = 0; number == 12 && i < m->n; i++)
+        if (has_reserve(&m->held[i], lo, hi, reserve)) number = 0;
     const order *o = number == 0 ? find(m, r.key) : &none;
     must(o && is_reply(r, number, *o, 0), "seek answers as the model, with an order that is held");
-    if (number == 0) must(o->key >= lo && o->key <= hi && o->total - o->displayed >= reserve, "seek gives an order that fits");
+    if (number == 0) must(has_reserve(o, lo, hi, reserve), "seek gives an order that fits");
+    for (uint32_t i = 0; (number == 0 || number == 12) && i < m->n; i++)
+        if (m->held[i].key >= lo && m->held[i].key <= hi) sought(&m->held[i], reserve, number);
+}
+
+/* An order of a table whose other orders are not known: a seek finds it up to its reserve, and not for one more. */
+static void seek_to(table *t, order o, unsigned how) {
+    for (uint32_t more = 0; more < 2; more++) {
+        uint8_t *lent = lend(t, how + more);
+        balluchaw_reply r = balluchaw_seek(lent, t->length, o.key, o.key, reserve_of(&o) + more);
+        take_back(t, lent, how + more, 0);
+        must(is_reply(r, more ? 12 : 0, more ? none : o, 0), "a seek on a table finds its order up to its reserve");
+    }
 }
 
 /* Every call on bytes that are no table. */
@@ -497,6 +521,7 @@ static void foreign(table *t, unsigned how) {
         order o = {number_at(row), number_at(row + 4), number_at(row + 8), 0};
         must(put(&second, o, how) == 0, "the orders of a table fit into its sizes");
         if (i < 16) descent_to(t, o, how + i);
+        if (i < 4) seek_to(t, o, how + i);
     }
     must(memcmp(second.bytes, t->bytes, t->length) == 0, "a table that the check accepts is what its orders give");
     free(rows);
@@ -520,6 +545,16 @@ static order some_order(const model *m) {
     b = byte();
     o.displayed = b < 128 ? (uint32_t)((uint64_t)o.total * b / 127) : b < 160 ? 0 : b < 250 ? o.total : word();
     return o;
+}
+
+/* What a seek asks for: a small number, any, or one at and just beyond what a held order has in reserve and in all. */
+static uint32_t some_reserve(const model *m) {
+    uint32_t b = byte();
+    if (b < 100) return b;
+    if (b < 112) return UINT32_MAX;
+    if (b < 124 || m->n == 0) return word();
+    const order *o = &m->held[byte() % m->n];
+    return (b & 1 ? reserve_of(o) : o->total) + (b >> 1 & 1); /* one above the greatest total is 0, which is sought too */
 }
 
 static void some_seed(model *m) {
@@ -616,8 +651,8 @@ static void calls(void) {
             uint32_t lo = some_key(&m), hi = some_key(&m);
             span(&m, &t, lo, hi, 12 * (size_t)(byte() % (MOST_ORDERS + 2)) + byte() % 13, how);
         } else if (kind % 16 == 11) {
-            uint32_t lo = some_key(&m), hi = some_key(&m), r = byte();
-            seek(&m, &t, lo, hi, r < 200 ? r : r < 220 ? UINT32_MAX : word(), how);
+            uint32_t lo = some_key(&m), hi = how & 16 ? lo : some_key(&m);
+            seek(&m, &t, lo, hi, some_reserve(&m), how);
         } else if (kind % 16 == 12) {
             uint32_t turn = byte();
             another_way(&m, &t, turn, some_key(&m), how);

@@ -94,8 +94,51 @@ balluchaw_reply __wrap_balluchaw_span(const uint8_t *table, size_t length, uint3
     return reply;
 }
 
+/* Whether a seek takes an order, by other notions of what counts as reserve. */
+typedef int takes(uint32_t total, uint32_t displayed, uint32_t reserve);
+
+static int old_reserve(uint32_t total, uint32_t displayed, uint32_t reserve) { return total - displayed >= reserve; }
+
+static int hidden_left_out(uint32_t total, uint32_t displayed, uint32_t reserve) { return displayed > 0 && old_reserve(total, displayed, reserve); }
+
+static int hidden_at_one(uint32_t total, uint32_t displayed, uint32_t reserve) {
+    return displayed == 0 ? reserve <= 1 : old_reserve(total, displayed, reserve);
+}
+
+static int hidden_at_total(uint32_t total, uint32_t displayed, uint32_t reserve) {
+    return displayed == 0 ? reserve == 0 || reserve == total : old_reserve(total, displayed, reserve);
+}
+
+static int exact_refused(uint32_t total, uint32_t displayed, uint32_t reserve) {
+    return reserve == 0 || (displayed > 0 && total - displayed > reserve);
+}
+
+/* Faults 17 to 21. They show in ranges of several keys alone: a seek for one order of a foreign table does not meet them. */
+static takes *const other_reserves[] = {old_reserve, hidden_left_out, hidden_at_one, hidden_at_total, exact_refused};
+
+static uint32_t number_at(const uint8_t *p) { return (uint32_t)p[0] << 24 | (uint32_t)p[1] << 16 | (uint32_t)p[2] << 8 | p[3]; }
+
+/* The first order of the range that is taken, as a seek's answer. */
+static balluchaw_reply first_taken(takes *taken, const uint8_t *table, size_t length, uint32_t lo, uint32_t hi, uint32_t reserve) {
+    size_t room = 12 * ((size_t)table[11] << 8 | table[12]);
+    uint8_t *rows = malloc(room + 1);
+    if (!rows) abort();
+    uint32_t count = __real_balluchaw_span(table, length, lo, hi, rows, room).count;
+    balluchaw_reply reply = {12, 0, 0, 0, 0};
+    for (uint32_t i = 0; reply.number == 12 && i < count; i++) {
+        const uint8_t *row = rows + 12 * (size_t)i;
+        uint32_t total = number_at(row + 4), displayed = number_at(row + 8);
+        if (taken(total, displayed, reserve)) reply = (balluchaw_reply){0, number_at(row), total, displayed, 0};
+    }
+    free(rows);
+    return reply;
+}
+
 balluchaw_reply __wrap_balluchaw_seek(const uint8_t *table, size_t length, uint32_t lo, uint32_t hi, uint32_t reserve) {
     balluchaw_reply reply = __real_balluchaw_seek(table, length, lo, hi, reserve);
     if (fault(10) && reply.number == 0 && reserve > 100) return (balluchaw_reply){12, 0, 0, 0, 0};
+    if (lo >= hi || (reply.number != 0 && reply.number != 12)) return reply;
+    for (size_t i = 0; i < sizeof other_reserves / sizeof *other_reserves; i++)
+        if (fault(17 + (int)i)) return first_taken(other_reserves[i], table, length, lo, hi, reserve);
     return reply;
 }

@@ -20,7 +20,7 @@ build/corpus.bin build/corpus-first >build/fuzz.log
 
 settings=(-seed=1 -max_len=1600 -artifact_prefix=build/fuzz- -timeout=20)
 FAULT=0 build/fuzz-planted "${settings[@]}" -runs=100 build/corpus-first >>build/fuzz.log 2>&1 || { tail -20 build/fuzz.log; exit 1; }
-planted=16
+planted=21
 for fault in $(seq $planted); do
     if FAULT=$fault build/fuzz-planted "${settings[@]}" -artifact_prefix=build/planted- -max_total_time=20 build/corpus-first \
         >build/planted.log 2>&1; then

@@ -3,7 +3,7 @@
 use crate::archive::{Archive, Calls};
 use reference::calls::Reply;
 use reference::image::{held, place, table};
-use reference::lists::{chunks, home, lists, Chunk, Label, Orders};
+use reference::lists::{chunks, home, lists, Chunk, Label, Orders, Quantities};
 use reference::paths::{numbers, way, NUMBER};
 use reference::sizes::{number_at, short_at, Made, Seed, Sizes, BLOCK_HEAD, HEADER, NODE, P, SEED};
 
@@ -54,9 +54,15 @@ pub enum Fault {
     DescentTouches,
     AstrayBehind,
     AstrayCount,
+    OldReserve,
+    HiddenLeftOut,
+    HiddenAtOne,
+    HiddenAtTotal,
+    HiddenEndsSeek,
+    ExactReserveRefused,
 }
 
-pub const FAULTS: [(&str, Fault); 45] = [
+pub const FAULTS: [(&str, Fault); 51] = [
     (
         "a put that edits once and later only answers",
         Fault::PutOnce,
@@ -191,6 +197,30 @@ pub const FAULTS: [(&str, Fault); 45] = [
     (
         "a descent that counts more than its output holds on what is no table",
         Fault::AstrayCount,
+    ),
+    (
+        "a seek that takes a hidden order's total for its reserve",
+        Fault::OldReserve,
+    ),
+    (
+        "a seek that leaves hidden orders out with r = 0",
+        Fault::HiddenLeftOut,
+    ),
+    (
+        "a seek that finds a hidden order with r = 1",
+        Fault::HiddenAtOne,
+    ),
+    (
+        "a seek that finds a hidden order by its exact total",
+        Fault::HiddenAtTotal,
+    ),
+    (
+        "a seek that ends with 12 at a hidden order",
+        Fault::HiddenEndsSeek,
+    ),
+    (
+        "a seek that turns down a reserve of exactly r",
+        Fault::ExactReserveRefused,
     ),
 ];
 
@@ -402,6 +432,7 @@ impl Calls for Faulty {
                 found if found.number == 0 => found,
                 _ => reply,
             },
+            (_, 0 | 12) => self.by_another_reserve(table, (lo, hi, r), reply),
             _ => reply,
         }
     }
@@ -439,6 +470,33 @@ impl Faulty {
         }
     }
 
+    /// The answer of a seek that has another notion of what an order has in reserve.
+    fn by_another_reserve(
+        &self,
+        table: &[u8],
+        (lo, hi, r): (u32, u32, u32),
+        reply: Reply,
+    ) -> Reply {
+        let fits = |order: &Quantities| order.reserve() >= r;
+        let first = |suits: &dyn Fn(&Quantities) -> bool| first_order(table, lo, hi, suits);
+        match self.fault {
+            Fault::OldReserve => first(&|order| order.total - order.displayed >= r),
+            Fault::HiddenLeftOut => first(&|order| fits(order) && !order.is_hidden()),
+            Fault::HiddenAtOne => first(&|order| fits(order) || r == 1 && order.is_hidden()),
+            Fault::HiddenAtTotal => {
+                first(&|order| fits(order) || order.is_hidden() && order.total == r)
+            }
+            Fault::HiddenEndsSeek if r > 0 => {
+                match first(&|order| fits(order) || order.is_hidden()) {
+                    hidden if hidden.displayed == 0 => Reply::refused(12),
+                    found => found,
+                }
+            }
+            Fault::ExactReserveRefused if r > 0 => first(&|order| order.reserve() > r),
+            _ => reply,
+        }
+    }
+
     /// The answer of a descent that takes other blocks for its path.
     fn along_another_path(
         &mut self,
@@ -470,6 +528,16 @@ impl Faulty {
         }
         let count = labels.len() as u32;
         Reply { count, ..found }
+    }
+}
+
+/// A seek's answer with the lowest order in the range that suits.
+fn first_order(table: &[u8], lo: u32, hi: u32, suits: &dyn Fn(&Quantities) -> bool) -> Reply {
+    let (_, orders) = held(table).expect("a seek went past 4");
+    let mut inside = orders.range(lo..=hi);
+    match inside.find(|(_, order)| suits(order)) {
+        Some((&key, order)) => Reply::order(key, order),
+        None => Reply::refused(12),
     }
 }
 

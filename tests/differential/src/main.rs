@@ -3,7 +3,8 @@
 //!     differential            the comparison
 //!     differential faults     plants faults in the archive's answers, one after the other; each must be found
 //!
-//! SEED in the environment chooses other calls; TESTS=long does a hundred times as much; TELL=1 says of each fault how it was found.
+//! SEED in the environment chooses other calls; TESTS=long does a hundred times as much; TELL=1 says of each fault how it was found, and of each
+//! kind of seek how often it came.
 
 mod archive;
 mod faults;
@@ -15,7 +16,7 @@ use faults::{Faulty, FAULTS};
 use rounds::{Amount, Rounds};
 use std::process::exit;
 use std::time::{Duration, Instant};
-use steps::{differs, script, shorten, Mismatch, Pair, Tally, NUMBERS};
+use steps::{differs, script, shorten, Mismatch, Pair, Tally, NUMBERS, SEEKS};
 
 fn main() {
     let seed = match std::env::var("SEED") {
@@ -80,9 +81,20 @@ fn compare(seed: u64, amount: Amount) {
         eprintln!("differential: seed {seed}: no descent on what is no table");
         exit(1);
     }
+    let (rarest, kind) = met.tally.rarest_seek();
+    if rarest < u64::from(amount.0) {
+        eprintln!("differential: seed {seed}: met {rarest} times only: {kind}");
+        exit(1);
+    }
+    if std::env::var_os("TELL").is_some() {
+        for (kind, times) in SEEKS.iter().zip(met.tally.seeks) {
+            println!("seeks, {kind}: {times}");
+        }
+    }
     println!(
         "differential: seed {seed}: {} calls of the archive answered and left what the reference did; every call met all its numbers; \
-         of changed tables {} were none and {} still some; {} descents on what is no table kept within their outputs; {:.0} s",
+         of changed tables {} were none and {} still some; {} descents on what is no table kept within their outputs; \
+         of seeks that tell reserves apart each kind came {rarest} times or more; {:.0} s",
         met.tally.calls(),
         met.no_images,
         met.still_images,

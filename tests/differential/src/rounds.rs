@@ -8,7 +8,8 @@ use reference::lists::{
 };
 use reference::paths::{path, NUMBER};
 use reference::samples::{
-    constant_seed, identity_seed, random_seed, some_quantities, zero_seed, Xorshift, EDGE_KEYS,
+    constant_seed, identity_seed, random_seed, some_quantities, some_seek, zero_seed, Xorshift,
+    EDGE_KEYS,
 };
 use reference::sizes::{Made, Seed, Sizes, BLOCK_HEAD, HEADER, NODE, P};
 use std::collections::BTreeMap;
@@ -279,6 +280,11 @@ impl Rounds<'_, '_> {
     }
 }
 
+/// The orders of a table; none where the bytes are no image.
+fn orders_of(table: &[u8]) -> Orders {
+    held(table).map_or(Orders::new(), |(_, orders)| orders)
+}
+
 fn chunk_count(made: &Made, orders: &Orders) -> u32 {
     chunks(made, &lists(made, orders)).len() as u32
 }
@@ -395,18 +401,7 @@ impl Rounds<'_, '_> {
             0 => Step::Lookup { length, key: one },
             1 | 2 => self.descent(length, one),
             3 => self.span(length, lo, hi),
-            _ => {
-                let r = self.generator.pick(&[
-                    0,
-                    1,
-                    50,
-                    1_000_000_000,
-                    4_000_000_000,
-                    u32::MAX - 1,
-                    u32::MAX,
-                ]);
-                Step::Seek { length, lo, hi, r }
-            }
+            _ => self.seek(length, lo, hi),
         };
         self.pair.take(step)?;
         Ok(())
@@ -414,10 +409,9 @@ impl Rounds<'_, '_> {
 
     /// A span with an output of the exact room, less, more or none.
     fn span(&mut self, length: usize, lo: u32, hi: u32) -> Step {
-        let held = held(&self.pair.bytes()[..length]).map_or(0, |(_, orders)| {
-            orders.keys().filter(|&&key| lo <= key && key <= hi).count()
-        });
-        let needed = NODE * held;
+        let orders = orders_of(&self.pair.bytes()[..length]);
+        let inside = orders.keys().filter(|&&key| lo <= key && key <= hi);
+        let needed = NODE * inside.count();
         let room = match self.generator.below(6) {
             0 => 0,
             1 => needed.saturating_sub(1),
@@ -431,6 +425,13 @@ impl Rounds<'_, '_> {
             hi,
             room,
         }
+    }
+
+    /// A seek in that range or a narrower one, for a reserve that orders there have or just do not have.
+    fn seek(&mut self, length: usize, lo: u32, hi: u32) -> Step {
+        let orders = orders_of(&self.pair.bytes()[..length]);
+        let (lo, hi, r) = some_seek(&mut self.generator, &orders, (lo, hi));
+        Step::Seek { length, lo, hi, r }
     }
 
     /// A descent with an output of the exact room, less, more or none; where there is no path, with some output.

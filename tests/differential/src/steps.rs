@@ -3,6 +3,7 @@
 use crate::archive::Calls;
 use reference::calls::{self, stays_within, Reply};
 use reference::image::held;
+use reference::lists::Orders;
 use reference::samples::fnv_1a;
 use reference::sizes::Sizes;
 use std::fmt::Write;
@@ -77,11 +78,46 @@ pub const NUMBERS: [&[usize]; 8] = [
     &[0, 4, 5, 9, 11],
 ];
 
-/// How often each call answered each number, and how many descents there were whose answer no definition decides.
+/// How often each call answered each number, how many descents there were whose answer no definition decides, and how often each kind of seek
+/// that tells one reserve from another came.
 #[derive(Clone, Default)]
 pub struct Tally {
     answered: [[u64; 13]; 8],
     pub undecided: u64,
+    pub seeks: [u64; SEEKS.len()],
+}
+
+/// Seeks at the edges of what counts as reserve: whoever leaves a hidden order out, takes its total for its reserve, or is off by one, answers
+/// some of them otherwise.
+pub const SEEKS: [&str; 8] = [
+    "r = 0 where all orders are hidden",
+    "12 to r = 1 beside a hidden order",
+    "12 to r below a hidden order's total",
+    "12 to r = a hidden order's total",
+    "12 to r one above a hidden order's total",
+    "an order behind a hidden one whose total is r or more",
+    "r = the reserve of the order given",
+    "12 to r one above a reserve",
+];
+
+/// Which of these kinds a seek is, by the orders in its range and the right answer.
+fn kinds(orders: &Orders, (lo, hi, r): (u32, u32, u32), reply: &Reply) -> [bool; SEEKS.len()] {
+    let inside = || orders.range(lo..=hi);
+    let given = orders.get(&reply.key).filter(|_| r > 0);
+    let twelve = reply.number == 12;
+    let hidden = |suits: &dyn Fn(u32, u32) -> bool| {
+        inside().any(|(&key, order)| order.is_hidden() && suits(key, order.total))
+    };
+    [
+        r == 0 && !twelve && inside().all(|(_, order)| order.is_hidden()),
+        twelve && r == 1 && hidden(&|_, _| true),
+        twelve && r > 1 && hidden(&|_, total| r < total),
+        twelve && r > 1 && hidden(&|_, total| r == total),
+        twelve && hidden(&|_, total| total.checked_add(1) == Some(r)),
+        given.is_some() && hidden(&|key, total| key < reply.key && r <= total),
+        given.map_or(false, |order| order.reserve() == r),
+        twelve && inside().any(|(_, order)| !order.is_hidden() && order.reserve() + 1 == r),
+    ]
 }
 
 impl Tally {
@@ -97,6 +133,18 @@ impl Tally {
         all.filter(|&(call, number)| !met(call, number))
             .map(|(call, number)| format!("{} {number}", CALLS[call]))
             .collect()
+    }
+
+    fn count_seek(&mut self, orders: &Orders, asked: (u32, u32, u32), reply: &Reply) {
+        for (count, met) in self.seeks.iter_mut().zip(kinds(orders, asked, reply)) {
+            *count += u64::from(met);
+        }
+    }
+
+    /// The kind of seek that came least often, and how often.
+    pub fn rarest_seek(&self) -> (u64, &'static str) {
+        let kinds = self.seeks.iter().copied().zip(SEEKS);
+        kinds.min().expect("there are kinds")
     }
 }
 
@@ -298,12 +346,17 @@ impl<'a> Pair<'a> {
         Ok(found)
     }
 
-    fn judge_answer(&self, step: &Step, found: &Reply, wanted: &Reply) -> Result<(), String> {
-        let seeks = matches!(step, Step::Seek { .. }) && wanted.number == 0;
-        let right = if seeks {
-            fits(&self.expected, step, found)
-        } else {
-            found == wanted
+    fn judge_answer(&mut self, step: &Step, found: &Reply, wanted: &Reply) -> Result<(), String> {
+        let right = match *step {
+            Step::Seek { length, lo, hi, r } if [0, 12].contains(&wanted.number) => {
+                let (_, orders) = held(&self.expected[..length]).expect("no 4");
+                self.tally.count_seek(&orders, (lo, hi, r), wanted);
+                match wanted.number {
+                    0 => fits(&orders, (lo, hi, r), found),
+                    _ => found == wanted,
+                }
+            }
+            _ => found == wanted,
         };
         if right {
             Ok(())
@@ -348,21 +401,13 @@ fn before(room: usize) -> Vec<u8> {
     (0..room).map(|i| (i % 251) as u8).collect()
 }
 
-/// Whether a seek's answer is one that document 01 allows: "some such order", with its own quantities.
-fn fits(store: &[u8], step: &Step, found: &Reply) -> bool {
-    let (length, lo, hi, r) = match *step {
-        Step::Seek { length, lo, hi, r } => (length, lo, hi, r),
-        _ => return false,
-    };
-    let orders = match held(&store[..length]) {
-        Some((_, orders)) => orders,
-        None => return false,
-    };
+/// Whether a seek's answer is one that documents 01 and 02 allow: "some such order", with its own quantities.
+fn fits(orders: &Orders, (lo, hi, r): (u32, u32, u32), found: &Reply) -> bool {
     match orders.get(&found.key) {
         Some(order) => {
             *found == Reply::order(found.key, order)
                 && (lo..=hi).contains(&found.key)
-                && order.total - order.displayed >= r
+                && order.reserve() >= r
         }
         None => false,
     }
