@@ -165,12 +165,14 @@ bench-worst: need archive
 	@build/worst > build/worst.out && cat build/worst.out && cp build/worst.out bench/results/worst.txt
 
 # This archive's calls beside the same calls of an archive before it, in one process, taking turns. BEFORE is a folder of the project as it was, with its
-# archive built. Linked in both orders: the side that comes second may be slower by some hundredths for that alone.
+# archive built. On both sides each function starts at a multiple of 64 bytes: where its loops lie can make more than the change does. Linked in both
+# orders: the side that comes second may be slower by some hundredths for that alone.
 define SIDE
 @$(CC) $(CFLAGS) -I$(2)/include -I$(2)/bench -c $(2)/bench/archive.c -o build/$(1)-calls.o
 @ld -r build/$(1)-calls.o $(2)/$(ARCHIVE) -o build/$(1).o
 @nm build/$(1).o | sed -n 's/.* T archive_\(.*\)/archive_\1 $(1)_\1/p' > build/$(1).names
-@objcopy --redefine-syms=build/$(1).names --wildcard --localize-symbol='balluchaw_*' --localize-symbol='check_in_*' --localize-symbol='descent_in_*' build/$(1).o
+@objcopy --set-section-alignment '.text*=64' --redefine-syms=build/$(1).names --wildcard --localize-symbol='balluchaw_*' --localize-symbol='check_in_*' \
+	--localize-symbol='descent_in_*' build/$(1).o
 endef
 TURNS = bench/turns.c bench/timing.c bench/scene.c
 TURNED = $(PEERS_O) $(ARCHIVE) $(PEERS) -lpthread -ldl -lm
