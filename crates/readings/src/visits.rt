@@ -63,6 +63,7 @@ fn reserve_of(o: Order) -> u32
     if o.displayed == 0 {
         return 0;
     }
+    // No order displays more than there is; the test spares the callers a promise.
     if o.total < o.displayed {
         return 0;
     }

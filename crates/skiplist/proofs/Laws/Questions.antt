@@ -1,4 +1,4 @@
--- A list of questions gives 0 where each has a yes, and else the number of the first that has a no.
+-- A list of questions gives 0 where each has a yes, and else the number of the first that has a no. Every order has a reserve of 0.
 use mathlib.Core.Path.{_≡_, refl, ap}
 use mathlib.Core.Bool.{Bool, true, false, cond}
 use mathlib.Core.List.{List, [], _∷_}
@@ -6,7 +6,6 @@ use mathlib.Core.Logic.{_⊎_, inl, inr}
 use Prim.Native.Nat.{ℕ, suc}
 use native.Mathlib.Omega.{arith}
 use borrow.Author.Tests.{le-leb}
-use Rattle.placement.specs.declared.Order.{Order}
 use Rattle.skiplist.specs.Questions.{Question, ask, first-no, all-yes, Turned-down, First-no-means, reserve, any-reserve, any-order, Zero-finds-any}
 
 -- a question that does not turn the call down
@@ -24,7 +23,6 @@ first-no-means (ask n true ∷ qs) = go (first-no-means qs)
     go (inl w) = inl w
     go (inr w) = inr (record { asked = ask n true ∷ w .asked; later = w .later; is = ap (λ (z : List Question). ask n true ∷ z) (w .is); passed = w .passed })
 
--- every order has a reserve of 0
 pub zero-finds-any : Zero-finds-any
 unfolding Zero-finds-any any-reserve any-order
 zero-finds-any [] = refl
