@@ -6,6 +6,7 @@ pub mod Over
 pub mod Bytes
 pub mod Parts
 pub mod Headers
+pub mod Powers
 pub mod Hashes
 pub mod HeaderLoops
 pub mod HeaderWrites

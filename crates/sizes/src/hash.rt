@@ -5,27 +5,18 @@ ghost use Prim.Native.Nat.{_+_, _*_, _-_, _%_, _<_, _≤_};
 ghost use lib.Dec.{eqb};
 ghost use Rattle.sizes.specs.Numbers.{over};
 ghost use Rattle.sizes.specs.Sizes.{least-power, beta, seed-good};
-ghost use Rattle.sizes.specs.Hash.{hash-from, divides-from, level};
+ghost use Rattle.sizes.specs.Hash.{Powers, Ready, hash-from, divides-from, level};
 ghost use Rattle.sizes.specs.Geometry.{Reckoned};
 use crate::Geometry;
 use crate::Sizes;
 use crate::numbers::divisible;
 use crate::numbers::over;
-use crate::numbers::quotient;
 
 // Nearer to a number mod 2^31 - 1: 2^31 is 1 there, so what stands above 31 bits is added below them.
 fn fold(t: u64) -> u64
     ensures { λ r. ⌜ (r % 2147483647 ≡ t % 2147483647) × (2147483648 * r ≤ 2147483648 * 2147483647 + t) ⌝ }
 {
     t % 2147483648 + t / 2147483648
-}
-
-// One step of Horner's rule, folded: the sum grows by less than 2^31 a step, so five steps stay below 2^64.
-fn horner(a: u32, x: u64, r: u64) -> u64
-    requires { ⌜ (a < 2147483647) × (x ≤ 2147483648) × (r ≤ 8589934588) ⌝ }
-    ensures { λ n. ⌜ (n % 2147483647 ≡ (a + x * r) % 2147483647) × (n ≤ r + 2147483647) ⌝ }
-{
-    fold(a as u64 + x * r)
 }
 
 // A folded number below 5 · 2^31, reduced. One more fold is enough but for a few numbers: a jump that is hardly ever taken, where a difference would be
@@ -41,34 +32,90 @@ fn reduce(t: u64) -> u32
     (t % 2147483647) as u32
 }
 
-// The polynomial of five numbers of the seed, from one on, without a division by p.
+// A key mod p. Every key of a table is below p; bytes that are none may say more.
+fn residue(x: u32) -> u64
+    ensures { λ r. ⌜ (r ≡ x % 2147483647) × (r < 2147483647) ⌝ }
+{
+    if x < 2147483647 {
+        return x as u64;
+    }
+    (x % 2147483647) as u64
+}
+
+// One power on: folded, so it grows by less than 2^31 a step.
+fn times(power: u64, y: u64) -> u64
+    requires { ⌜ (y < 2147483647) × (power ≤ 8589934589) ⌝ }
+    ensures { λ r. ⌜ (r % 2147483647 ≡ power * y % 2147483647) × (r ≤ power + 2147483647) ⌝ }
+{
+    fold(power * y)
+}
+
+// The powers of a key mod p, from the 0th to the 4th: `power` is the i-th after i steps, folded and not reduced. Who wants both hashes of a key weighs the same
+// powers twice.
+pub fn powers(x: u32) -> [u64; 5]
+    ensures { λ r. ⌜ Powers x r ⌝ }
+{
+    let y = residue(x);
+    let mut all = [1u64; 5];
+    let mut power: u64 = 1;
+    let mut i: usize = 0;
+    while i < 5 {
+        all[i] = power;
+        power = times(power, y);
+        i += 1;
+    }
+    all
+}
+
+// A sum made ready for product k: the first three fit as they are, each other beside a sum that is folded.
+fn ready(sum: u64, k: usize) -> u64
+    ensures { λ r. ⌜ Ready sum k r ⌝ }
+{
+    if k < 3 {
+        return sum;
+    }
+    fold(sum)
+}
+
+// The polynomial of five numbers of the seed, from one on, by the powers of the key; the key itself stands in the contract alone.
+pub fn weigh(s: Sizes, at: usize, x: u32, all: [u64; 5]) -> u32
+    requires { ⌜ (seed-good (s .seed) ≡ true) × (at ≤ 5) × Powers x all ⌝ }
+    ensures { λ r. ⌜ (r ≡ hash-from 5 at (s .seed) x) × (r < 2147483647) ⌝ }
+{
+    let mut sum: u64 = 0;
+    let mut k: usize = 0;
+    while k < 5 {
+        sum = ready(sum, k) + s.seed[at + k] as u64 * all[k];
+        k += 1;
+    }
+    reduce(fold(sum))
+}
+
+// A hash of a key, without a division by p: h from number 0 of the seed on, g from number 5 on.
 pub fn hash(s: Sizes, at: usize, x: u32) -> u32
     requires { ⌜ (seed-good (s .seed) ≡ true) × (at ≤ 5) ⌝ }
     ensures { λ r. ⌜ (r ≡ hash-from 5 at (s .seed) x) × (r < 2147483647) ⌝ }
 {
-    let y = fold(x as u64);
-    let mut r: u64 = 0;
-    let mut k: usize = 0;
-    while k < 5 {
-        k += 1;
-        let i = at + (5 - k);
-        r = horner(s.seed[i], y, r);
-    }
-    reduce(r)
+    weigh(s, at, x, powers(x))
 }
 
-// The largest j up to most such that gamma^j divides h, without a division: `ratio` is 2^32 over gamma, rounded up.
-fn divides(h: u32, gamma: u32, ratio: u64, most: u32) -> u32
-    requires { ⌜ (0 < gamma) × (ratio ≡ over gamma) ⌝ }
+// The largest j up to most such that gamma^j divides h, where gamma does: `power` is gamma^j after j steps. Every power divides 0; any other number is at least
+// as large as a power that divides it, so the next one fits.
+fn higher(h: u32, gamma: u32, most: u32) -> u32
+    requires { ⌜ (0 < gamma) × (h % gamma ≡ 0) × (1 ≤ most) ⌝ }
     ensures { λ r. ⌜ (r ≡ divides-from most 0 gamma h) × (r ≤ most) ⌝ }
 {
-    let mut j: u32 = 0;
-    let mut v: u32 = h;
+    if h == 0 {
+        return most;
+    }
+    let mut j: u32 = 1;
+    let mut power: u64 = gamma as u64;
     while j < most {
-        if !divisible(v, gamma, ratio) {
+        let next = power * (gamma as u64);
+        if h as u64 % next != 0 {
             return j;
         }
-        v = quotient(v, gamma, ratio) as u32;
+        power = next;
         j += 1;
     }
     j
@@ -120,17 +167,28 @@ pub fn level_of(s: Sizes, top: u32, key: u32) -> u32
     if key == 0 {
         return top;
     }
-    1 + divides(hash(s, 0, key), s.gamma, over(s.gamma), top - 1)
+    let h = hash(s, 0, key);
+    if h % s.gamma != 0 {
+        return 1;
+    }
+    1 + higher(h, s.gamma, top - 1)
 }
 
-// Is the level of a key, which is not the front's, exactly l? No more powers of gamma are tried than that takes.
+// Is the level of a key, which is not the front's, exactly l? No more powers of gamma are tried than that takes, and the first without a division: it is the
+// only one for most keys.
 pub fn has_level(s: Sizes, ratio: u64, top: u32, l: u32, key: u32) -> bool
     requires { ⌜ (seed-good (s .seed) ≡ true) × (0 < s .gamma) × (ratio ≡ over (s .gamma)) × (top ≡ beta s) × (1 ≤ l) × (l ≤ top) × (0 < key) ⌝ }
     ensures { λ r. ⌜ r ≡ eqb (level s key) l ⌝ }
 {
     let h = hash(s, 0, key);
-    if l == top {
-        return 1 + divides(h, s.gamma, ratio, top - 1) == l;
+    if !divisible(h, s.gamma, ratio) {
+        return l == 1;
     }
-    1 + divides(h, s.gamma, ratio, l) == l
+    if l == 1 {
+        return false;
+    }
+    if l == top {
+        return 1 + higher(h, s.gamma, top - 1) == l;
+    }
+    1 + higher(h, s.gamma, l) == l
 }

@@ -31,7 +31,7 @@ pub fn over(d: u32) -> u64
 }
 
 // x over d, or one more; exact where d divides x.
-pub fn quotient(x: u32, d: u32, up: u64) -> u64
+fn quotient(x: u32, d: u32, up: u64) -> u64
     requires { ⌜ (0 < d) × (up ≡ over d) ⌝ }
     ensures { λ r. ⌜ (r ≡ x * up / 4294967296) × (r < 4294967296) ⌝ }
 {

@@ -4,9 +4,9 @@ use mathlib.Core.List.{List, [], _∷_}
 use mathlib.Core.Bool.{Bool, true, false, cond}
 use Prim.Native.Nat.{ℕ, zero, suc, _+_, _*_, _-_, _/_, _%_, _^_, _≤_, _<_}
 use native.Mathlib.Omega.{arith}
+use native.Mathlib.Decide.{decLt}
 use native.Mathlib.Numerals.{add-one, one-add, unary-clauses}
-use native.Mathlib.Nat.{zero-add, mod-lt, add-zero, add-mul, mul-assoc, mul-add-mod-self-left, div-add-mod, add-mod, mod-mod, pow-succ', one-le-pow, mul-comm, div-div-eq-div-mul, div-one, mod-one, sub-zero, zero-mul, mul-le-mul, le-refl}
-use lib.Arith.{mod-mul}
+use native.Mathlib.Nat.{zero-add, add-zero, add-assoc, one-mul, mul-zero, mul-add, mul-assoc, mul-comm, mul-le-mul, mod-lt, mod-mod, pow-succ'}
 use lib.Dec.{leb, ltb, eqb}
 use lib.ListN.{getD}
 use borrow.Author.Tests.{eq-eqb, ne-eqb, le-leb, lt-leb, ltb-true, eqb-true, eqb-false}
@@ -14,38 +14,10 @@ use mir.Val.{Fits}
 use mir.Syntax.{w32, w64}
 use Rattle.sizes.specs.declared.Sizes.{Sizes}
 use Rattle.sizes.specs.Sizes.{prime, least-power, beta, seed-good}
-use Rattle.sizes.specs.Hash.{hash-from, divides-from, level}
+use Rattle.sizes.specs.Hash.{Powers, Ready, hash-from, divides-from, level}
 use Rattle.sizes.specs.Hash as hashes
-use Rattle.sizes.specs.Numbers.{over}
-use Rattle.sizes.proofs.Laws.Over.{exact}
+use Rattle.sizes.proofs.Laws.Powers.{mod-product, mod-sum, pow-one}
 use Rattle.sizes.proofs.Laws.Sizes.{and-parts}
-
--- NUMBERS MOD m: a factor may be replaced by one that is equal mod m
-mod-factor : (a b m : ℕ) → a * b % m ≡ a % m * b % m
-mod-factor a b m =
-    ap (λ (z : ℕ). z * b % m) (sym (div-add-mod a m)) ∙ rw (add-mul, mul-assoc) (mul-add-mod-self-left m (a / m * b) (a % m * b))
-
-pub mod-product : (a b c d m : ℕ) → a % m ≡ c % m → b % m ≡ d % m → a * b % m ≡ c * d % m
-mod-product a b c d m e f =
-    let u : a * b % m ≡ c * b % m = mod-factor a b m ∙ rw e (sym (mod-factor c b m)) in
-    let w : b * c % m ≡ d * c % m = mod-factor b c m ∙ rw f (sym (mod-factor d c m)) in
-    u ∙ rw (mul-comm c b, mul-comm c d) w
-
-pub mod-step : (a x y r q m : ℕ) → y % m ≡ x % m → r % m ≡ q % m → (a + y * r) % m ≡ (a + x * q) % m
-mod-step a x y r q m e f = add-mod a (y * r) m ∙ rw (mod-product y r x q m e f) (sym (add-mod a (x * q) m))
-
--- `horner`: the sum fits, and folded it has grown by less than 2^31
-product : (x r : ℕ) → x ≤ 2147483648 → x * r ≤ 2147483648 * r
-product x r hx = mul-le-mul hx (le-refl r)
-
-pub horner-fits : (x r : ℕ) → x ≤ 2147483648 → r ≤ 8589934588 → Fits w64 (x * r)
-horner-fits x r hx hr = record { fits = omega (arith, product x r hx) }
-
-pub horner-sum : (a x r : ℕ) → a < 2147483647 → x ≤ 2147483648 → r ≤ 8589934588 → Fits w64 (a + x * r)
-horner-sum a x r ha hx hr = record { fits = omega (arith, product x r hx) }
-
-pub horner-small : (a x r n : ℕ) → a < 2147483647 → x ≤ 2147483648 → 2147483648 * n ≤ 2147483648 * 2147483647 + (a + x * r) → n ≤ r + 2147483647
-horner-small a x r n ha hx h = omega (arith, product x r hx)
 
 -- a number of a seed is below p
 pub seed-below : (ss : List ℕ) (i : ℕ) → seed-good ss ≡ true → getD ss i 0 < 2147483647
@@ -53,12 +25,6 @@ unfolding seed-good
 seed-below [] i e = omega arith
 seed-below (x ∷ ss) zero e = ltb-true x prime (and-parts (ltb x prime) (seed-good ss) e .0)
 seed-below (x ∷ ss) (suc i) e = seed-below ss i (and-parts (ltb x prime) (seed-good ss) e .1)
-
--- what the loop of `hash` keeps: of five numbers from one on the last k are done
-pub record Hashing (s : Sizes) (at x k r : ℕ) : Type 0 where
-  pub within : k ≤ 5
-  pub small : r ≤ 2147483647 * k
-  pub is : r % 2147483647 ≡ hash-from k (at + (5 - k)) (s .seed) x
 
 hash-mod : (k i : ℕ) (ss : List ℕ) (x : ℕ) → hash-from k i ss x % 2147483647 ≡ hash-from k i ss x
 unfolding hash-from
@@ -69,81 +35,88 @@ pub hash-below : (s : Sizes) (i x v : ℕ) → v ≡ hash-from 5 i (s .seed) x �
 unfolding hash-from
 hash-below s i x v e = rw e (mod-lt _ (omega arith))
 
+-- what the loop of `weigh` keeps: the sum, and the i-th power of the key times what is left of the polynomial, are the hash. Three products fit into the sum;
+-- after them it is folded, and one product more fits
+pub record Weighing (s : Sizes) (at x sum i : ℕ) : Type 0 where
+  pub within : i ≤ 5
+  pub room : sum ≤ 18446744067267100671
+  pub early : i ≤ 2 → sum ≤ 2147483647 * i + 4611686014132420609 * (i - 1)
+  pub is : (sum + x ^ i * hash-from (5 - i) (at + i) (s .seed) x) % 2147483647 ≡ hash-from 5 at (s .seed) x
+
+-- a sum before its i-th product
+pub ready-early : (sum i : ℕ) → i < 3 → Ready sum i sum
+ready-early sum i l = record { same = refl; early = λ h. refl; late = λ h. absurd (omega arith) }
+
+pub ready-late : (sum i r : ℕ) → 3 ≤ i → r % 2147483647 ≡ sum % 2147483647 → 2147483648 * r ≤ 2147483648 * 2147483647 + sum → Ready sum i r
+ready-late sum i r l e h = record { same = e; early = λ k. absurd (omega arith); late = λ k. h }
+
+-- a product of a seed number and a power
+product : (a q i : ℕ) → a < 2147483647 → q ≤ 1 + 2147483647 * i → a * q ≤ 2147483646 * (1 + 2147483647 * i)
+product a q i ha hq = mul-le-mul {n₂ = 2147483646} (omega arith) hq
+
+-- one term more: what is left is a number of the seed and the key times what is left behind it
+term : (sum t a q P x l r m : ℕ) → t % m ≡ sum % m → q % m ≡ P % m → l % m ≡ (a + x * r) % m → (t + a * q + x * P * r) % m ≡ (sum + P * l) % m
+term sum t a q P x l r m et eq el =
+    let u : (t + a * q) % m ≡ (sum + a * P) % m = mod-sum t (a * q) sum (a * P) m et (mod-product a q a P m refl eq) in
+    let w : sum + a * P + x * P * r ≡ sum + P * (a + x * r) = rw (mul-add, mul-comm a P, ← mul-assoc, mul-comm P x) (add-assoc _ _ _) in
+    mod-sum (t + a * q) (x * P * r) (sum + a * P) (x * P * r) m u refl
+    ∙ ap (λ (z : ℕ). z % m) w
+    ∙ mod-sum sum (P * (a + x * r)) sum (P * l) m refl (mod-product P (a + x * r) P l m refl (sym el))
+
 module _ (s : Sizes) (at x : ℕ) where
-  pub hashing-start : Hashing s at x 0 0
-  unfolding hash-from
-  hashing-start = record { within = omega arith; small = omega arith; is = refl }
+  pub weighing-start : Weighing s at x 0 0
+  weighing-start =
+      record { within = omega arith; room = omega arith; early = λ h. omega arith; is = simp (unary-clauses, one-mul, zero-add, add-zero) (hash-mod 5 at (s .seed) x) }
 
-  module _ (k r : ℕ) (i : Hashing s at x k r) where
-    pub hashing-more : (y n : ℕ) → k < 5 → y % 2147483647 ≡ x % 2147483647 → n % 2147483647 ≡ (getD (s .seed) (at + (5 - (k + 1))) 0 + y * r) % 2147483647
-        → n ≤ r + 2147483647 → Hashing s at x (k + 1) n
+  module _ (sum i : ℕ) (w : Weighing s at x sum i) where
+    pub weighing-folded : (t : ℕ) → 2147483648 * t ≤ 2147483648 * 2147483647 + sum → t ≤ 10737418235
+    weighing-folded t h = omega (arith, w .room)
+
+    module _ (all : List ℕ) (ps : Powers x all) (good : seed-good (s .seed) ≡ true) (l : i < 5) where
+      abbrev a : ℕ
+      a = getD (s .seed) (at + i) 0
+
+      abbrev q : ℕ
+      q = getD all i 0
+
+      weighed : a * q ≤ 2147483646 * (1 + 2147483647 * i)
+      weighed = product a q i (seed-below (s .seed) (at + i) good) (ps .each i l .small)
+
+      pub weighing-fits : Fits w64 (a * q)
+      weighing-fits = record { fits = omega (arith, weighed) }
+
+      module _ (t : ℕ) (r : Ready sum i t) where
+        most : t + a * q ≤ 18446744067267100671
+        most = go (decLt 2 i)
+          where
+            go : Dec (2 < i) → t + a * q ≤ 18446744067267100671
+            go (yes h) = omega (arith, weighed, weighing-folded t (r .late h))
+            go (no h) = omega (arith, weighed, r .early (omega arith), w .early (omega arith))
+
+        pub weighing-sum : Fits w64 (t + a * q)
+        weighing-sum = record { fits = omega (arith, most) }
+
+        pub weighing-more : Weighing s at x (t + a * q) (i + 1)
+        unfolding hash-from
+        weighing-more =
+            let f : 5 - i ≡ suc (5 - (i + 1)) = omega arith in
+            let g : at + (i + 1) ≡ suc (at + i) = omega arith in
+            let p : x ^ (i + 1) ≡ x * x ^ i = rw (add-one, pow-succ') in
+            let left : hash-from (5 - i) (at + i) (s .seed) x % prime ≡ (a + x * hash-from (5 - (i + 1)) (at + (i + 1)) (s .seed) x) % prime =
+            rw (f, g) (mod-mod _ prime) in
+            record {
+              within = omega arith;
+              room = most;
+              early = λ h. omega (arith, weighed, r .early (omega arith), w .early (omega arith));
+              is = rw p (term sum t a q (x ^ i) x _ _ prime (r .same) (ps .each i l .is) left) ∙ w .is;
+            }
+
+    pub weighing-end : (t v : ℕ) → 5 ≤ i → t % 2147483647 ≡ sum % 2147483647 → v ≡ t % 2147483647 → v ≡ hash-from 5 at (s .seed) x
     unfolding hash-from
-    hashing-more y n l ey en h =
-        let e : at + (5 - k) ≡ suc (at + (5 - suc k)) = omega arith in
-        let f : r % prime ≡ hash-from k (suc (at + (5 - suc k))) (s .seed) x % prime = i .is ∙ rw e (sym (hash-mod k _ (s .seed) x)) in
-        record { within = omega arith; small = omega (arith, i .small); is = rw add-one (rw add-one at en ∙ mod-step _ x y r _ prime ey f) }
-
-    pub hashing-end : (v : ℕ) → 5 ≤ k → v ≡ r % 2147483647 → v ≡ hash-from 5 at (s .seed) x
-    hashing-end v l e =
-        let f : k ≡ 5 = omega (arith, i .within) in
-        e ∙ i .is ∙ rw (f, add-zero)
-
--- c^j divides v: the next power divides v exactly when c divides v / c^j
-module _ (c j v : ℕ) (pos : 0 < c) (d : v % c ^ j ≡ 0) where
-  pub power-next : v % c ^ suc j ≡ (v / c ^ j % c) * c ^ j
-  power-next = rw (pow-succ', mod-mul v pos (one-le-pow j c pos)) (omega (arith, d))
-
-times-zero : (x y : ℕ) → 0 < y → x * y ≡ 0 → x ≡ 0
-times-zero x y h e = omega (arith, mul-le-mul (le-refl x) h)
-
--- what the loop of `divides` keeps: v is h / c^j, c^j divides h, and the search goes on from j
-pub record Dividing (h c most j v : ℕ) : Type 0 where
-  pub within : j ≤ most
-  pub quotient : v ≡ h / c ^ j
-  pub divides : h % c ^ j ≡ 0
-  pub rest : divides-from most 0 c h ≡ divides-from (most - j) j c h
-
-pub dividing-start : (h c most : ℕ) → Dividing h c most 0 h
-dividing-start h c most =
-    record { within = omega arith; quotient = simp (unary-clauses, div-one); divides = simp unary-clauses (mod-one h); rest = rw sub-zero }
-
-module _ (h c most j v : ℕ) (pos : 0 < c) (i : Dividing h c most j v) where
-  next : h % c ^ suc j ≡ v % c * c ^ j
-  next = rw (i .quotient) (power-next c j h pos (i .divides))
-
-  dividing-stop : j < most → (v % c ≡ 0 → ⊥) → j ≡ divides-from most 0 c h
-  unfolding divides-from
-  dividing-stop l ne =
-      let e : h % c ^ suc j ≡ 0 → ⊥ = λ z. ne (times-zero _ _ (one-le-pow j c pos) (sym next ∙ z)) in
-      let f : most - j ≡ suc (most - suc j) = omega arith in
-      rw (i .rest, f, ne-eqb _ _ e)
-
-  dividing-more : j < most → v % c ≡ 0 → Dividing h c most (j + 1) (v / c)
-  unfolding divides-from
-  dividing-more l z =
-      let e : h % c ^ suc j ≡ 0 = next ∙ rw z (zero-mul _) in
-      let f : most - j ≡ suc (most - suc j) = omega arith in
-      record {
-        within = omega arith;
-        quotient = rw (add-one, pow-succ', mul-comm, ← div-div-eq-div-mul, i .quotient);
-        divides = rw add-one e;
-        rest = i .rest ∙ rw (f, eq-eqb _ _ e, add-one);
-      }
-
-  module _ (t : Bool) (l : j < most) (et : t ≡ eqb (v % c) 0) where
-    pub dividing-less : t ≡ false → j ≡ divides-from most 0 c h
-    dividing-less e = dividing-stop l (eqb-false _ _ (sym et ∙ e))
-
-    pub dividing-on : (u q : ℕ) → t ≡ true → u ≡ over c → q ≡ v * u / 4294967296 → v ≤ 4294967295 → Dividing h c most (j + 1) q
-    dividing-on u q e eu eq b =
-        let z = eqb-true _ _ (sym et ∙ e) in
-        rw (exact v c u pos eu q eq b z) (dividing-more l z)
-
-  pub dividing-end : most ≤ j → j ≡ divides-from most 0 c h
-  unfolding divides-from
-  dividing-end l =
-      let f : most - j ≡ 0 = omega arith in
-      rw (i .rest, f)
+    weighing-end t v h e ev =
+        let f : i ≡ 5 = omega (arith, w .within) in
+        let z : hash-from (5 - i) (at + i) (s .seed) x ≡ 0 = rw f in
+        ev ∙ e ∙ rw (z, mul-zero, add-zero) at (w .is)
 
 pub least-fits : (p n c : ℕ) → p < n → n ≤ 65535 → c ≤ 64 → Fits w32 (p * c)
 least-fits p n c h hn hc = record { fits = omega (arith, mul-le-mul {n₂ = 65535} {m₂ = 64} (small p n h hn) hc) }
@@ -197,8 +170,24 @@ pub beta-some : (s : Sizes) (b : ℕ) → b ≡ beta s → 1 ≤ b
 unfolding beta
 beta-some s b e = omega arith
 
+pub beta-more : (s : Sizes) (b : ℕ) → b ≡ beta s → 1 ≤ b - 1
+unfolding beta
+beta-more s b e = omega arith
+
 pub level-small : (s : Sizes) (b d : ℕ) → b ≡ beta s → d ≤ b - 1 → 1 + d ≤ b
 level-small s b d e h = omega (arith, beta-some s b e)
+
+-- A LEVEL BY THE FIRST POWER: a key has level 1 where gamma does not divide its hash, and only there
+divides-none : (m c v : ℕ) → (v % c ≡ 0 → ⊥) → divides-from m 0 c v ≡ 0
+unfolding divides-from
+divides-none zero c v ne = refl
+divides-none (suc m) c v ne = rw (pow-one, ne-eqb _ _ ne)
+
+pub level-first : (s : Sizes) (x b v : ℕ) → (x ≡ 0 → ⊥) → b ≡ beta s → v ≡ hash-from 5 0 (s .seed) x → (v % s .gamma ≡ 0 → ⊥) → (1 ≡ level s x) × (1 ≤ b)
+level-first s x b v ne eb ev nd = (rw (level-is s x b v ne eb ev, divides-none (b - 1) (s .gamma) v nd), omega (arith, beta-some s b eb))
+
+pub divides-first : (v c : ℕ) (t : Bool) → t ≡ eqb (v % c) 0 → t ≡ true → v % c ≡ 0
+divides-first v c t et e = eqb-true _ _ (sym et ∙ e)
 
 -- A LEVEL BY NO MORE POWERS THAN IT TAKES: a longer search ends at j + k exactly when one of k + 1 powers does
 divides-least : (m j c v : ℕ) → j ≤ divides-from m j c v
@@ -225,6 +214,13 @@ divides-capped (suc k) (suc m) j c v l = go (divides-capped k m (suc j) c v (ome
     go ih true = let e : j + suc k ≡ suc j + k = omega arith in rw e ih
     go ih false = refl
 
+eqb-swap : (a b : ℕ) → eqb a b ≡ eqb b a
+eqb-swap a b = go (eqb b a) refl
+  where
+    go : (t : Bool) → eqb b a ≡ t → eqb a b ≡ t
+    go true e = eq-eqb a b (sym (eqb-true b a e))
+    go false e = ne-eqb a b (λ q. eqb-false b a e (sym q))
+
 one-less : (a l : ℕ) → 1 ≤ l → eqb (suc a) l ≡ eqb a (l - 1)
 one-less a l h = go (eqb a (l - 1)) refl
   where
@@ -235,6 +231,18 @@ one-less a l h = go (eqb a (l - 1)) refl
 module _ (s : Sizes) (b l v x d : ℕ) (nz : 0 < x) (eb : b ≡ beta s) (ev : v ≡ hash-from 5 0 (s .seed) x) where
   is : level s x ≡ suc (divides-from (b - 1) 0 (s .gamma) v)
   is = level-is s x b v (omega arith) eb ev
+
+  pub level-not : (t : Bool) → t ≡ eqb (v % s .gamma) 0 → t ≡ false → eqb l 1 ≡ eqb (level s x) l
+  level-not t et e =
+      let f = level-first s x b v (omega arith) eb ev (eqb-false _ _ (sym et ∙ e)) .0 in
+      rw (← f) (eqb-swap l 1)
+
+  pub level-more : l ≡ 1 → v % s .gamma ≡ 0 → false ≡ eqb (level s x) l
+  unfolding divides-from
+  level-more el e =
+      let f : b - 1 ≡ suc (b - 2) = omega (arith, beta-more s b eb) in
+      let g : level s x ≡ suc (divides-from (b - 2) 1 (s .gamma) v) = is ∙ rw (f, pow-one, eq-eqb _ _ e) in
+      sym (ne-eqb _ _ (λ (z : level s x ≡ l). omega (arith, g, divides-least (b - 2) 1 (s .gamma) v)))
 
   pub level-top : l ≡ b → d ≡ divides-from (b - 1) 0 (s .gamma) v → eqb (1 + d) l ≡ eqb (level s x) l
   level-top e f = rw (is, one-add, f)

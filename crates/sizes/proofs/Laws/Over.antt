@@ -54,7 +54,7 @@ module _ (x d u : ℕ) (pos : 0 < d) (eu : u ≡ over d) where
   exact-most : x % d ≡ 0 → x * u ≤ m * 4294967296 + x
   exact-most e = omega (arith, split, steps, steps-most, whole, ap (λ (z : ℕ). z * u) e)
 
-  pub exact : (q : ℕ) → q ≡ x * u / 4294967296 → x ≤ 4294967295 → x % d ≡ 0 → q ≡ m
+  exact : (q : ℕ) → q ≡ x * u / 4294967296 → x ≤ 4294967295 → x % d ≡ 0 → q ≡ m
   exact q eq h e = omega (arith, product-least, exact-most e)
 
   nearly : (q : ℕ) → q ≡ x * u / 4294967296 → x < 2147483648 → d ≤ 65535 → (m ≤ q) × (q ≤ m + 1)
