@@ -1,8 +1,7 @@
 -- Hashes and levels. Document 01, "Orders and hashes".
-use mathlib.Core.Path.{_≡_}
 use mathlib.Core.Bool.{cond}
 use mathlib.Core.List.{List}
-use Prim.Native.Nat.{ℕ, zero, suc, _+_, _*_, _-_, _%_, _^_, _≤_, _<_}
+use Prim.Native.Nat.{ℕ, zero, suc, _+_, _*_, _-_, _%_, _^_}
 use lib.Dec.{eqb}
 use lib.ListN.{getD}
 use Rattle.sizes.specs.Sizes.{prime, beta}
@@ -19,20 +18,6 @@ h s x = hash-from 5 0 (s .seed) x
 
 unfoldable pub g : Sizes → (x : ℕ) → ℕ
 g s x = hash-from 5 5 (s .seed) x
-
--- document 02, A.3: a number that is the i-th power of a key mod p, folded i times at most; and five of them, from the 0th on
-pub record Power (x i q : ℕ) : Type 0 where
-  pub is : q % prime ≡ x ^ i % prime
-  pub small : q ≤ 1 + prime * i
-
-pub record Powers (x : ℕ) (all : List ℕ) : Type 0 where
-  pub each : (i : ℕ) → i < 5 → Power x i (getD all i 0)
-
--- a sum made ready for product k, which is a number of the seed times power k: the first three fit as they are, each other beside a sum that is folded
-pub record Ready (sum k r : ℕ) : Type 0 where
-  pub same : r % prime ≡ sum % prime
-  pub early : k ≤ 2 → r ≡ sum
-  pub late : 2 < k → 2147483648 * r ≤ 2147483648 * prime + sum
 
 -- the largest j up to a limit such that c^j divides v
 unfoldable pub divides-from : (left j : ℕ) → (c v : ℕ) → ℕ

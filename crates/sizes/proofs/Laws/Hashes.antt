@@ -2,7 +2,7 @@
 use mathlib.Core.Path.{_≡_, refl, sym, ap, _∙_}
 use mathlib.Core.List.{List, [], _∷_}
 use mathlib.Core.Bool.{Bool, true, false, cond}
-use Prim.Native.Nat.{ℕ, zero, suc, _+_, _*_, _-_, _/_, _%_, _^_, _≤_, _<_}
+use Prim.Native.Nat.{ℕ, zero, suc, _+_, _*_, _-_, _%_, _^_, _≤_, _<_}
 use native.Mathlib.Omega.{arith}
 use native.Mathlib.Decide.{decLt}
 use native.Mathlib.Numerals.{add-one, one-add, unary-clauses}
@@ -14,8 +14,9 @@ use mir.Val.{Fits}
 use mir.Syntax.{w32, w64}
 use Rattle.sizes.specs.declared.Sizes.{Sizes}
 use Rattle.sizes.specs.Sizes.{prime, least-power, beta, seed-good}
-use Rattle.sizes.specs.Hash.{Powers, Ready, hash-from, divides-from, level}
+use Rattle.sizes.specs.Hash.{hash-from, divides-from, level}
 use Rattle.sizes.specs.Hash as hashes
+use Rattle.sizes.specs.Powers.{Powers, Ready}
 use Rattle.sizes.proofs.Laws.Powers.{mod-product, mod-sum, pow-one}
 use Rattle.sizes.proofs.Laws.Sizes.{and-parts}
 

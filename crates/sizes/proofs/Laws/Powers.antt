@@ -1,20 +1,20 @@
--- Running powers (document 02, A.3): after i steps of the loop of `powers` the power is, mod p, the key's i-th, and after j steps of the loop of `higher` it is
--- gamma^j.
-use mathlib.Core.Path.{_≡_, refl, sym, ap, _∙_}
+-- Running powers. Document 02, A.3: "That after i steps it is the key's i-th power mod p, or γ^i, is to be shown." It is `now-is` of the state that the loop of
+-- `powers` keeps, by `power-first` and `power-next`, and `is` of the state that the loop of `higher` keeps.
+use mathlib.Core.Path.{_≡_, sym, ap, _∙_}
 use mathlib.Core.List.{List}
 use Prim.Native.Nat.{ℕ, zero, suc, _+_, _*_, _-_, _/_, _%_, _^_, _≤_, _<_}
 use native.Mathlib.Omega.{arith}
 use native.Mathlib.Numerals.{add-one, unary-clauses}
-use native.Mathlib.Nat.{add-mul, mul-add, mul-assoc, mul-comm, mul-zero, mul-add-mod-self-left, div-add-mod, add-mod, mod-mod, mod-lt, mod-eq-of-lt, zero-mod, pow-zero, pow-succ', one-le-pow, mul-one, add-zero, zero-add, mul-le-mul, le-refl, one-mul}
+use native.Mathlib.Nat.{add-zero, zero-add, add-mul, mul-one, mul-assoc, mul-comm, mul-le-mul, le-refl, mul-add-mod-self-left, div-add-mod, add-mod, mod-mod, mod-eq-of-lt, zero-mod, pow-zero, pow-succ', one-le-pow}
 use native.Mathlib.Decide.{decLt}
-use lib.Dec.{eqb}
 use lib.ListN.{length, getD, set, length-set}
 use lib.Seq.{getD-set-same, getD-set-other}
 use borrow.Author.Tests.{eq-eqb, ne-eqb}
 use mir.Val.{Fits}
 use mir.Syntax.{w64}
 use Rattle.sizes.specs.Sizes.{prime}
-use Rattle.sizes.specs.Hash.{Power, Powers, divides-from}
+use Rattle.sizes.specs.Hash.{divides-from}
+use Rattle.sizes.specs.Powers.{Power, Powers}
 
 -- NUMBERS MOD m: in a product, and in a sum, a number may be replaced by one that is equal mod m
 mod-factor : (a b m : ℕ) → a * b % m ≡ a % m * b % m
