@@ -78,12 +78,38 @@ pub fn constant_seed(h: u32, g: u32) -> Seed {
     }
 }
 
+/// h(x) = x^i and g(x) = x^k, both mod p: one number of each is 1.
+pub fn power_seed(i: usize, k: usize) -> Seed {
+    let mut seed = zero_seed();
+    seed.a[i] = 1;
+    seed.b[k] = 1;
+    seed
+}
+
+/// All numbers p−1: the largest sums.
+pub fn largest_seed() -> Seed {
+    Seed {
+        a: [P - 1; 5],
+        b: [P - 1; 5],
+    }
+}
+
 pub fn random_seed(generator: &mut Xorshift) -> Seed {
     let mut number = |_| generator.below(P);
     Seed {
         a: std::array::from_fn(&mut number),
         b: std::array::from_fn(&mut number),
     }
+}
+
+/// A random seed but for a0, which is such that h of this key is this number
+/// below p.
+pub fn seed_with(generator: &mut Xorshift, key: u32, h: u32) -> Seed {
+    let mut seed = random_seed(generator);
+    seed.a[0] = 0;
+    let lacking = u64::from(h) + u64::from(P - seed.h(key));
+    seed.a[0] = (lacking % u64::from(P)) as u32;
+    seed
 }
 
 /// One of the kinds above.

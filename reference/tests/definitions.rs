@@ -6,8 +6,10 @@ mod common;
 use common::{document, sizes, some_made, some_orders};
 use reference::image::image;
 use reference::lists::{chunks, home, lists, Label, Orders};
-use reference::samples::{random_seed, some_seed, Xorshift, EDGE_KEYS};
-use reference::sizes::{Made, Seed, P};
+use reference::samples::{
+    identity_seed, largest_seed, power_seed, random_seed, seed_with, some_seed, Xorshift, EDGE_KEYS,
+};
+use reference::sizes::{is_key, Made, Seed, P};
 
 // ---- the second way --------------------------------------------------------
 
@@ -32,6 +34,25 @@ fn slow_hash(c: &[u32; 5], x: u32) -> u32 {
         .map(|(&c, power)| u128::from(c) * power)
         .sum();
     (sum % p) as u32
+}
+
+/// x^exponent mod p by squaring: no power is made from the one before.
+fn squared_power(x: u32, exponent: u32) -> u128 {
+    let p = u128::from(P);
+    let half = match exponent {
+        0 => return 1,
+        _ => squared_power(x, exponent / 2),
+    };
+    let odd = if exponent % 2 == 1 { x } else { 1 };
+    half * half % p * u128::from(odd) % p
+}
+
+/// The sum of the numbers times these powers.
+fn squared_hash(c: &[u32; 5], x: u32) -> u32 {
+    let terms = (0..)
+        .zip(c)
+        .map(|(i, &c)| u128::from(c) * squared_power(x, i));
+    (terms.sum::<u128>() % u128::from(P)) as u32
 }
 
 fn slow_level(made: &Made, key: u32) -> u32 {
@@ -218,6 +239,108 @@ fn hashes_and_levels() {
         seen[1..=5].iter().all(|&times| times > 100),
         "levels seen: {seen:?}"
     );
+}
+
+/// Keys at the ends and numbers whose powers go round p, then numbers that no
+/// table may hold but damaged bytes say. Behind each its powers 0 to 4 mod p,
+/// worked out by hand: 2^31 is 1 there, and p − n is −n.
+const POWERS: [(u32, [u32; 5]); 11] = [
+    (0, [1, 0, 0, 0, 0]),
+    (1, [1; 5]),
+    (2, [1, 2, 4, 8, 16]),
+    (P - 1, [1, P - 1, 1, P - 1, 1]),
+    (P - 2, [1, P - 2, 4, P - 8, 16]),
+    (1 << 30, [1, 1 << 30, 1 << 29, 1 << 28, 1 << 27]),
+    (65_536, [1, 65_536, 2, 1 << 17, 4]),
+    (P, [1, 0, 0, 0, 0]),
+    (1 << 31, [1; 5]),
+    (2 * P, [1, 0, 0, 0, 0]),
+    (u32::MAX, [1; 5]),
+];
+
+/// "h(x) = (a0 + a1·x + a2·x² + a3·x³ + a4·x⁴) mod p. g(x) is the same with
+/// b0..b4": with one number 1 and the others 0 that is one power; with all of
+/// them p−1, the largest sums, it is p less the sum of the five powers.
+#[test]
+fn hashes_of_one_power_and_of_all() {
+    assert_eq!(squared_power(3, P - 1), 1); // Fermat's theorem: p is prime
+    for (x, powers) in POWERS {
+        for (i, &power) in powers.iter().enumerate() {
+            assert_eq!(squared_power(x, i as u32), power.into(), "{x}^{i}");
+            for k in 0..5 {
+                let seed = power_seed(i, k);
+                assert_eq!(seed.h(x), power, "{x}^{i}");
+                assert_eq!(seed.g(x), powers[k], "{x}^{k}");
+            }
+        }
+        let sum: u64 = powers.into_iter().map(u64::from).sum();
+        let expected = (5 * u64::from(P) - sum) % u64::from(P);
+        assert_eq!(u64::from(largest_seed().h(x)), expected, "{x}");
+        assert_eq!(u64::from(largest_seed().g(x)), expected, "{x}");
+    }
+}
+
+/// The same passage on many seeds: all that have only 0, 1 and p−1, and random
+/// ones.
+#[test]
+fn hashes_by_squared_powers() {
+    let mut generator = Xorshift::new(19);
+    let mut seeds: Vec<Seed> = (0..3usize.pow(5))
+        .map(|choice| {
+            let a = std::array::from_fn(|i| [0, 1, P - 1][choice / 3usize.pow(i as u32) % 3]);
+            let mut b = a;
+            b.reverse();
+            Seed { a, b }
+        })
+        .collect();
+    seeds.extend((0..500).map(|_| random_seed(&mut generator)));
+    for seed in seeds {
+        let some = [(); 20].map(|_| generator.draw());
+        for x in POWERS.into_iter().map(|(x, _)| x).chain(some) {
+            assert_eq!(seed.h(x), squared_hash(&seed.a, x), "{seed:?} {x}");
+            assert_eq!(seed.g(x), squared_hash(&seed.b, x), "{seed:?} {x}");
+        }
+    }
+}
+
+/// "level(x) = 1 + the largest j ≤ β−1 such that γ^j divides h(x); h(x) = 0 gives
+/// β": h is γ^j, a multiple of it that is none of γ^(j+1), a neighbour, or 0. Both
+/// where h(x) = x and where all five numbers of h count.
+#[test]
+fn levels_of_powers_and_multiples() {
+    let mut generator = Xorshift::new(20);
+    for gamma in [2, 3, 16, 63, 64] {
+        for orders in [1, gamma, gamma + 1, 1000, 65_535] {
+            let sizes = sizes(gamma, 2, orders, 20);
+            let beta = slow_beta(gamma, orders);
+            let mut judge = |h, level| {
+                let key = generator.pick(&POWERS).0;
+                let key = if is_key(key) { key } else { 77 };
+                let mut ways = vec![(key, seed_with(&mut generator, key, h))];
+                if is_key(h) {
+                    ways.push((h, identity_seed()));
+                }
+                for (key, seed) in ways {
+                    let made = Made { sizes, seed };
+                    assert_eq!(squared_hash(&seed.a, key), h, "{made:?} {key}");
+                    assert_eq!(slow_level(&made, key), level, "{made:?} {key}");
+                    assert_eq!(made.level(key), level, "{made:?} {key}");
+                }
+            };
+            judge(0, beta);
+            for j in 0..=beta {
+                let power = gamma.pow(j);
+                let most = 100.min((P - 1) / power);
+                for factor in (1..=most).filter(|factor| factor % gamma != 0) {
+                    judge(power * factor, 1 + j.min(beta - 1));
+                }
+                if j > 0 {
+                    judge(power - 1, 1);
+                    judge(power + 1, 1);
+                }
+            }
+        }
+    }
 }
 
 /// h(x) = 0 for a key that is not the front, and the front where h(0) is not 0.
