@@ -4,7 +4,7 @@
 //!     differential faults     plants faults in the archive's answers, one after the other; each must be found
 //!
 //! SEED in the environment chooses other calls; TESTS=long does a hundred times as much; TELL=1 says of each fault how it was found, and of each
-//! kind of seek how often it came.
+//! kind of seek, level and hash how often it came.
 
 mod archive;
 mod faults;
@@ -16,7 +16,10 @@ use faults::{Faulty, FAULTS};
 use rounds::{Amount, Rounds};
 use std::process::exit;
 use std::time::{Duration, Instant};
-use steps::{differs, script, shorten, Mismatch, Pair, Tally, NUMBERS, SEEKS};
+use steps::{
+    differs, most_levels, script, shorten, Mismatch, Pair, Tally, GAMMAS, HASHES, NUMBERS, SEEKS,
+    WAYS,
+};
 
 fn main() {
     let seed = match std::env::var("SEED") {
@@ -86,21 +89,42 @@ fn compare(seed: u64, amount: Amount) {
         eprintln!("differential: seed {seed}: met {rarest} times only: {kind}");
         exit(1);
     }
+    let (rarest_hash, kind) = met.tally.rarest_hash();
+    if rarest_hash < u64::from(amount.of_hashes()) {
+        eprintln!("differential: seed {seed}: met {rarest_hash} times only: {kind}");
+        exit(1);
+    }
     if std::env::var_os("TELL").is_some() {
-        for (kind, times) in SEEKS.iter().zip(met.tally.seeks) {
-            println!("seeks, {kind}: {times}");
-        }
+        tell_kinds(&met.tally);
     }
     println!(
         "differential: seed {seed}: {} calls of the archive answered and left what the reference did; every call met all its numbers; \
          of changed tables {} were none and {} still some; {} descents on what is no table kept within their outputs; \
-         of seeks that tell reserves apart each kind came {rarest} times or more; {:.0} s",
+         of seeks that tell reserves apart each kind came {rarest} times or more, of orders each level by each of {} γ and each kind of hash \
+         {rarest_hash} times; {:.0} s",
         met.tally.calls(),
         met.no_images,
         met.still_images,
         met.tally.undecided,
+        GAMMAS.len(),
         start.elapsed().as_secs_f64()
     );
+}
+
+/// How often each kind came.
+fn tell_kinds(tally: &Tally) {
+    for (kind, times) in SEEKS.iter().zip(tally.seeks) {
+        println!("seeks, {kind}: {times}");
+    }
+    for (way, levels) in WAYS.iter().zip(tally.levels) {
+        for (gamma, levels) in GAMMAS.into_iter().zip(levels) {
+            let times = &levels[1..=most_levels(gamma) as usize];
+            println!("orders of level 1, 2, .. with γ = {gamma} where {way}: {times:?}");
+        }
+    }
+    for (kind, times) in HASHES.iter().zip(tally.hashes) {
+        println!("orders, {kind}: {times}");
+    }
 }
 
 /// The lines that replay a mismatch, in a file, and printed where they are not too many.

@@ -1,6 +1,6 @@
-//! What is tried: edges of make, histories, damaged bytes, blocks in other places, chunks of other lists, long tables.
+//! What is tried: edges of make, histories, damaged bytes, blocks in other places, chunks of other lists, hashes and levels, long tables.
 
-use crate::steps::{Mismatch, Outcome, Pair, Step};
+use crate::steps::{most_levels, Mismatch, Outcome, Pair, Step, GAMMAS, MOST_ORDERS};
 use reference::calls::Reply;
 use reference::image::{held, image, place, table};
 use reference::lists::{
@@ -8,15 +8,25 @@ use reference::lists::{
 };
 use reference::paths::{path, NUMBER};
 use reference::samples::{
-    constant_seed, identity_seed, random_seed, some_quantities, some_seek, zero_seed, Xorshift,
-    EDGE_KEYS,
+    constant_seed, identity_seed, largest_seed, power_seed, random_seed, seed_with,
+    some_quantities, some_seek, zero_seed, Xorshift, EDGE_KEYS,
 };
-use reference::sizes::{Made, Seed, Sizes, BLOCK_HEAD, HEADER, NODE, P};
+use reference::sizes::{is_key, Made, Seed, Sizes, BLOCK_HEAD, HEADER, NODE, P};
 use std::collections::BTreeMap;
 
 /// How much is done: `make test` does 150.
 #[derive(Clone, Copy)]
 pub struct Amount(pub u32);
+
+impl Amount {
+    /// The tables with orders of every level come in every so many rounds.
+    const BETWEEN_HASHES: u32 = 10;
+
+    /// How often they come.
+    pub fn of_hashes(self) -> u32 {
+        (self.0 + Self::BETWEEN_HASHES - 1) / Self::BETWEEN_HASHES
+    }
+}
 
 pub struct Rounds<'p, 'a> {
     pub pair: &'p mut Pair<'a>,
@@ -41,9 +51,12 @@ impl<'p, 'a> Rounds<'p, 'a> {
 
     pub fn all(&mut self, amount: Amount) -> Outcome {
         self.makes()?;
-        for _ in 0..amount.0 {
+        for round in 0..amount.0 {
             self.histories(33)?;
             self.every_edit()?;
+            if round % Amount::BETWEEN_HASHES == 0 {
+                self.hashes()?;
+            }
             for _ in 0..2 {
                 let (made, orders) = self.small_image(260);
                 self.every_byte(&made, &orders)?;
@@ -179,10 +192,7 @@ impl Rounds<'_, '_> {
                     ..random
                 }
             }
-            6 => Seed {
-                a: [P - 1; 5],
-                b: [P - 1; 5],
-            },
+            6 => largest_seed(),
             7 => Seed {
                 b: [0, 1, 0, 0, 0],
                 ..random
@@ -972,6 +982,113 @@ impl Rounds<'_, '_> {
             }
         }
         cut
+    }
+}
+
+// ---- hashes and levels ---------------------------------------------------------
+
+impl Rounds<'_, '_> {
+    /// Orders of every level, by one power of the key, by the largest sums, and by five numbers that were chosen for one key.
+    fn hashes(&mut self) -> Outcome {
+        for gamma in GAMMAS {
+            for i in 0..5 {
+                self.multiples(gamma, power_seed(i, 4 - i))?;
+            }
+            self.multiples(gamma, largest_seed())?;
+            self.chosen_hashes(gamma)?;
+        }
+        Ok(())
+    }
+
+    /// γ^j, or a multiple of it that is none of γ^(j+1).
+    fn multiple(&mut self, gamma: u32, j: u32) -> u32 {
+        let power = gamma.pow(j);
+        let most = self.generator.pick(&[1, (P - 1) / power]);
+        let factor = self.generator.within(1, most);
+        power * (factor - u32::from(factor % gamma == 0))
+    }
+
+    /// A table whose keys are such multiples, for every j up to β, and their neighbours.
+    fn multiples(&mut self, gamma: u32, seed: Seed) -> Outcome {
+        let mut keys = Vec::new();
+        for j in 0..=most_levels(gamma) {
+            let key = self.multiple(gamma, j);
+            keys.extend([key, self.generator.pick(&[key - 1, key + 1])]);
+        }
+        keys.retain(|&key| is_key(key));
+        self.filled(gamma, seed, &keys)
+    }
+
+    /// Tables with a key whose h is such a multiple, for every j up to β, or the number before one, or 0; its neighbour and others beside it.
+    /// Among the places of the front's chunks is one whose sum is p.
+    fn chosen_hashes(&mut self, gamma: u32) -> Outcome {
+        let beta = most_levels(gamma);
+        let mut hashes = vec![0];
+        for j in 0..=beta {
+            let h = self.multiple(gamma, j);
+            hashes.extend([h, h - 1]);
+        }
+        for h in hashes {
+            let any = self.generator.within(1, P - 2);
+            let odd = self.generator.pick(&[1, 2, 65_536, 1 << 30, P - 2]);
+            let key = self.generator.pick(&[any, odd]);
+            let mut seed = seed_with(&mut self.generator, key, h);
+            seed.b[0] = P - 65_536 * self.generator.within(1, beta);
+            self.filled(gamma, seed, &[key, key + 1, any, odd])?;
+        }
+        Ok(())
+    }
+
+    /// Puts these keys into a table with room for one order more and cancels half of them. Between, a number that is no key stands in the table,
+    /// which is right otherwise.
+    fn filled(&mut self, gamma: u32, seed: Seed, keys: &[u32]) -> Outcome {
+        let nodes = self.generator.pick(&[2, 2, 3, 8]);
+        let mut made = Made {
+            sizes: sizes(gamma, nodes, MOST_ORDERS, 65_535),
+            seed,
+        };
+        let mut orders = Orders::new();
+        for &key in keys {
+            let (total, displayed) = some_quantities(&mut self.generator);
+            orders.insert(key, Quantities { total, displayed });
+        }
+        let with = |number: u32| {
+            let mut more = orders.clone();
+            more.insert(number, orders[&keys[0]]);
+            more
+        };
+        made.sizes.blocks = chunk_count(&made, &with(P)) + self.generator.pick(&[0, 1, 9]);
+        let length = made.sizes.length();
+        self.pair.room(length, self.generator.draw() as u8);
+        self.make(&made.sizes, &made.seed.bytes(), length)?;
+        let mut keys: Vec<u32> = orders.keys().copied().collect();
+        self.generator.shuffle(&mut keys);
+        for &key in &keys {
+            let Quantities { total, displayed } = orders[&key];
+            let reply = self.pair.take(Step::Put {
+                length,
+                key,
+                total,
+                displayed,
+            })?;
+            if reply.number == 0 {
+                self.pair.tally.count_hash(&made, key);
+            }
+        }
+        self.pair.take(Step::Check { length })?;
+        let descent = self.descent(length, keys[0]);
+        self.pair.take(descent)?;
+        let odd = [P + 1, P + keys[0], 2 * P, u32::MAX];
+        for number in [P, self.generator.pick(&odd)] {
+            if let Some(bytes) = image(&made, &with(number)) {
+                self.ask_changed(length, &keys, 0, &bytes)?;
+            }
+        }
+        for &key in &keys[..keys.len() / 2] {
+            self.pair.take(Step::Cancel { length, key })?;
+        }
+        self.pair.take(Step::Check { length })?;
+        Ok(())
     }
 }
 

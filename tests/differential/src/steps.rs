@@ -4,8 +4,8 @@ use crate::archive::Calls;
 use reference::calls::{self, stays_within, Reply};
 use reference::image::held;
 use reference::lists::Orders;
-use reference::samples::fnv_1a;
-use reference::sizes::Sizes;
+use reference::samples::{fnv_1a, largest_seed, power_seed};
+use reference::sizes::{Made, Sizes};
 use std::fmt::Write;
 use std::time::{Duration, Instant};
 
@@ -78,13 +78,67 @@ pub const NUMBERS: [&[usize]; 8] = [
     &[0, 4, 5, 9, 11],
 ];
 
-/// How often each call answered each number, how many descents there were whose answer no definition decides, and how often each kind of seek
-/// that tells one reserve from another came.
+/// How often each call answered each number, how many descents there were whose answer no definition decides, how often each kind of seek
+/// that tells one reserve from another came, and how many orders of each level and with each kind of hash were put into tables made for that.
 #[derive(Clone, Default)]
 pub struct Tally {
     answered: [[u64; 13]; 8],
     pub undecided: u64,
     pub seeks: [u64; SEEKS.len()],
+    pub levels: [[[u64; 19]; GAMMAS.len()]; WAYS.len()],
+    pub hashes: [u64; HASHES.len()],
+}
+
+/// The γ of the tables with orders of every level, and the N of these tables, which makes β as large as it can be.
+pub const GAMMAS: [u32; 5] = [2, 3, 16, 63, 64];
+pub const MOST_ORDERS: u32 = 65_535;
+
+/// In which ways each level must come.
+pub const WAYS: [&str; 2] = ["h(x) = x", "no number of h is 0"];
+
+/// Hashes that tell one power from another, the largest sums, and a sum that comes to 0 only by mod p.
+pub const HASHES: [&str; 12] = [
+    "h(x) = 1",
+    "h(x) = x",
+    "h(x) = x²",
+    "h(x) = x³",
+    "h(x) = x⁴",
+    "g(x) = 1",
+    "g(x) = x",
+    "g(x) = x²",
+    "g(x) = x³",
+    "g(x) = x⁴",
+    "all seed numbers p−1",
+    "h(x) = 0 where no number of h is 0",
+];
+
+/// Whether all five numbers of h count.
+fn none_is_0(made: &Made) -> bool {
+    made.seed.a.iter().all(|&number| number > 0)
+}
+
+/// Which of these kinds the hashes of a key in a table are.
+fn hash_kinds(made: &Made, key: u32) -> [bool; HASHES.len()] {
+    let seed = &made.seed;
+    let mut kinds = [false; HASHES.len()];
+    for i in 0..5 {
+        let power = power_seed(i, i);
+        (kinds[i], kinds[5 + i]) = (seed.a == power.a, seed.b == power.b);
+    }
+    kinds[10] = *seed == largest_seed();
+    kinds[11] = none_is_0(made) && seed.h(key) == 0;
+    kinds
+}
+
+/// β of the tables with orders of every level.
+pub fn most_levels(gamma: u32) -> u32 {
+    let sizes = Sizes {
+        gamma,
+        nodes: 2,
+        orders: MOST_ORDERS,
+        blocks: 0,
+    };
+    sizes.beta()
 }
 
 /// Seeks at the edges of what counts as reserve: whoever leaves a hidden order out, takes its total for its reserve, or is off by one, answers
@@ -139,6 +193,35 @@ impl Tally {
         for (count, met) in self.seeks.iter_mut().zip(kinds(orders, asked, reply)) {
             *count += u64::from(met);
         }
+    }
+
+    /// Counts an order that was put into a table with one of the γ above.
+    pub fn count_hash(&mut self, made: &Made, key: u32) {
+        let gamma = GAMMAS.iter().position(|&gamma| gamma == made.sizes.gamma);
+        let gamma = gamma.expect("one of these");
+        let ways = [made.seed.a == power_seed(1, 1).a, none_is_0(made)];
+        for (levels, met) in self.levels.iter_mut().zip(ways) {
+            levels[gamma][made.level(key) as usize] += u64::from(met);
+        }
+        for (count, met) in self.hashes.iter_mut().zip(hash_kinds(made, key)) {
+            *count += u64::from(met);
+        }
+    }
+
+    /// The level that came least often in some way with some γ, or the kind of hash, and how often.
+    pub fn rarest_hash(&self) -> (u64, String) {
+        let mut kinds = Vec::new();
+        for (way, levels) in WAYS.iter().zip(&self.levels) {
+            for (&gamma, levels) in GAMMAS.iter().zip(levels) {
+                for level in 1..=most_levels(gamma) {
+                    let kind = format!("level {level} with γ = {gamma} where {way}");
+                    kinds.push((levels[level as usize], kind));
+                }
+            }
+        }
+        let hashes = HASHES.iter().map(|kind| kind.to_string());
+        kinds.extend(self.hashes.iter().copied().zip(hashes));
+        kinds.into_iter().min().expect("there are kinds")
     }
 
     /// The kind of seek that came least often, and how often.
