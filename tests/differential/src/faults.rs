@@ -1,11 +1,15 @@
 //! Faults planted in the archive's answers: whoever compares must find each.
 
 use crate::archive::{Archive, Calls};
+use crate::slips::{self, Slip, SLIPS};
 use reference::calls::Reply;
-use reference::image::{held, place, table};
+use reference::image::{held, image, place, table};
 use reference::lists::{chunks, home, lists, Chunk, Label, Orders, Quantities};
 use reference::paths::{numbers, way, NUMBER};
-use reference::sizes::{number_at, short_at, Made, Seed, Sizes, BLOCK_HEAD, HEADER, NODE, P, SEED};
+use reference::sizes::{
+    are_quantities, number_at, short_at, Made, Seed, Sizes, BLOCK_HEAD, FRONT, HEADER, NODE, P,
+    SEED,
+};
 
 #[derive(Clone, Copy, PartialEq, Eq)]
 pub enum Fault {
@@ -60,9 +64,26 @@ pub enum Fault {
     HiddenAtTotal,
     HiddenEndsSeek,
     ExactReserveRefused,
+    KeyBeyondUnseen,
+    PutSlips(Slip),
+    CheckSlips(Slip),
 }
 
-pub const FAULTS: [(&str, Fault); 51] = [
+/// Each with its name; the slips behind the others.
+pub fn faults() -> Vec<(String, Fault)> {
+    let slips = SLIPS.into_iter().flat_map(|(name, slip)| {
+        [
+            (format!("a put with {name}"), Fault::PutSlips(slip)),
+            (format!("a check with {name}"), Fault::CheckSlips(slip)),
+        ]
+    });
+    let others = FAULTS
+        .into_iter()
+        .map(|(name, fault)| (name.to_string(), fault));
+    others.chain(slips).collect()
+}
+
+const FAULTS: [(&str, Fault); 52] = [
     (
         "a put that edits once and later only answers",
         Fault::PutOnce,
@@ -222,6 +243,10 @@ pub const FAULTS: [(&str, Fault); 51] = [
         "a seek that turns down a reserve of exactly r",
         Fault::ExactReserveRefused,
     ),
+    (
+        "a check that accepts a key of p or more",
+        Fault::KeyBeyondUnseen,
+    ),
 ];
 
 /// The archive with one fault.
@@ -266,6 +291,8 @@ impl Calls for Faulty {
         let mut copy = table.to_vec();
         match self.fault {
             Fault::FourToAll => return Reply::refused(4),
+            Fault::KeyBeyondUnseen if is_rebuilt(table) => return Reply::done(),
+            Fault::CheckSlips(slip) => return self.check_slips(slip, table),
             Fault::TailUnseen => each_block(&mut copy, |block| {
                 let counted = BLOCK_HEAD + NODE * usize::from(block[1]);
                 if let Some(tail) = block.get_mut(counted..) {
@@ -293,6 +320,10 @@ impl Calls for Faulty {
     fn put(&mut self, table: &mut [u8], key: u32, total: u32, displayed: u32) -> Reply {
         let before = table.to_vec();
         let reply = self.archive.put(table, key, total, displayed);
+        if let (Fault::PutSlips(slip), 0 | 8) = (self.fault, reply.number) {
+            let order = Quantities { total, displayed };
+            return put_slips(slip, table, &before, key, order);
+        }
         if reply.number == 4 {
             return reply;
         }
@@ -439,6 +470,18 @@ impl Calls for Faulty {
 }
 
 impl Faulty {
+    /// A check that takes a table for none unless it is that of its orders by this slip too.
+    fn check_slips(&mut self, slip: Slip, table: &mut [u8]) -> Reply {
+        match held(table) {
+            Some((made, orders))
+                if slips::image(slip, &made, &orders).as_deref() != Some(table) =>
+            {
+                Reply::refused(4)
+            }
+            _ => self.archive.check(table),
+        }
+    }
+
     /// The faults of a descent that show on what is no table.
     fn astray(
         &mut self,
@@ -531,6 +574,22 @@ impl Faulty {
     }
 }
 
+/// A put that went past 7, by somebody who slips.
+fn put_slips(slip: Slip, table: &mut [u8], before: &[u8], key: u32, order: Quantities) -> Reply {
+    let (made, mut orders) = held(before).expect("a put went past 4");
+    orders.insert(key, order);
+    match slips::image(slip, &made, &orders) {
+        Some(after) => {
+            table.copy_from_slice(&after);
+            Reply::done()
+        }
+        None => {
+            table.copy_from_slice(before);
+            Reply::refused(8)
+        }
+    }
+}
+
 /// A seek's answer with the lowest order in the range that suits.
 fn first_order(table: &[u8], lo: u32, hi: u32, suits: &dyn Fn(&Quantities) -> bool) -> Reply {
     let (_, orders) = held(table).expect("a seek went past 4");
@@ -591,8 +650,29 @@ fn arrange(table: &mut [u8]) {
     arrange_by(table, home);
 }
 
+/// Whether a table is that of what its blocks of level 1 hold, whatever the keys are.
+fn is_rebuilt(table: &mut [u8]) -> bool {
+    let mut orders = Orders::new();
+    each_block(table, |block| {
+        let nodes = block[BLOCK_HEAD..].chunks_exact(NODE);
+        for node in nodes.take(usize::from(block[1] * u8::from(block[0] == 1))) {
+            let [key, total, displayed] = [0, 4, 8].map(|place| number_at(node, place));
+            orders.insert(key, Quantities { total, displayed });
+        }
+    });
+    orders.remove(&FRONT);
+    let fitting = orders
+        .values()
+        .all(|order| are_quantities(order.total, order.displayed));
+    let most = |made: &Made| orders.len() <= made.sizes.orders as usize;
+    match made_of(table).filter(most) {
+        Some(made) => fitting && image(&made, &orders).as_deref() == Some(table),
+        None => false,
+    }
+}
+
 /// Places the blocks anew by rising label, from these homes.
-fn arrange_by(table: &mut [u8], home: impl Fn(&Made, &Label) -> usize) {
+pub fn arrange_by(table: &mut [u8], home: impl Fn(&Made, &Label) -> usize) {
     let made = match made_of(table) {
         Some(made) => made,
         None => return,
@@ -625,7 +705,7 @@ fn arrange_by(table: &mut [u8], home: impl Fn(&Made, &Label) -> usize) {
 
 fn write_empty(bytes: &mut [u8]) {
     let made = made_of(bytes).expect("a put succeeded");
-    let empty = reference::image::image(&made, &Orders::new()).expect("no orders fit");
+    let empty = image(&made, &Orders::new()).expect("no orders fit");
     bytes.copy_from_slice(&empty);
 }
 

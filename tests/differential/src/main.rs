@@ -9,10 +9,11 @@
 mod archive;
 mod faults;
 mod rounds;
+mod slips;
 mod steps;
 
 use archive::{Archive, Calls};
-use faults::{Faulty, FAULTS};
+use faults::{faults, Faulty};
 use rounds::{Amount, Rounds};
 use std::process::exit;
 use std::time::{Duration, Instant};
@@ -144,9 +145,10 @@ fn plant(seed: u64) {
     let start = Instant::now();
     let numbers: usize = NUMBERS.iter().map(|numbers| numbers.len()).sum();
     assert_eq!(Tally::default().missing().len(), numbers);
+    let all = faults();
     let mut slowest = (0, "");
-    for (name, fault) in FAULTS {
-        let mut faulty = Faulty::new(fault);
+    for (name, fault) in &all {
+        let mut faulty = Faulty::new(*fault);
         let (met, outcome) = run(&mut faulty, seed, Amount(4));
         let mismatch = match outcome {
             Err(mismatch) => mismatch,
@@ -169,7 +171,7 @@ fn plant(seed: u64) {
     }
     println!(
         "differential: seed {seed}: {} planted faults, each found; the last after {} calls: {}; {:.0} s",
-        FAULTS.len(),
+        all.len(),
         slowest.0,
         slowest.1,
         start.elapsed().as_secs_f64()
