@@ -30,7 +30,7 @@ fn reduce(t: u64) -> u32
     if r < 2147483647 {
         return r as u32;
     }
-    (t % 2147483647) as u32
+    (r % 2147483647) as u32
 }
 
 // A key mod p. Every key of a table is below p; bytes that are none may say more.
