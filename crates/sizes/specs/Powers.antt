@@ -5,7 +5,7 @@ use Prim.Native.Nat.{ℕ, _+_, _*_, _%_, _^_, _≤_, _<_}
 use lib.ListN.{getD}
 use Rattle.sizes.specs.Sizes.{prime}
 
--- the i-th power of a key mod p, folded and not reduced: its residue is the power's, and it is at most p·i and 1
+-- the i-th power of a key mod p, folded and not reduced: its residue is x^i mod p, and it is at most 1 + p·i
 pub record Power (x i q : ℕ) : Type 0 where
   pub is : q % prime ≡ x ^ i % prime
   pub small : q ≤ 1 + prime * i
