@@ -20,8 +20,7 @@ fn fold(t: u64) -> u64
     t % 2147483648 + t / 2147483648
 }
 
-// A folded number below 5 · 2^31, reduced. One more fold is enough but for a few numbers: a jump that is hardly ever taken, where a difference would be
-// chosen at every step.
+// A folded number below 5 · 2^31, reduced. One more fold is enough but for a few numbers. Those are below 2 · p, so no division is left of it when compiled.
 fn reduce(t: u64) -> u32
     requires { ⌜ t ≤ 10737418235 ⌝ }
     ensures { λ r. ⌜ (r ≡ t % 2147483647) × (r < 2147483647) ⌝ }
