@@ -5,4 +5,5 @@ pub mod Blocks
 pub mod Buffers
 pub mod Orders
 pub mod Output
+pub mod Puts
 pub mod Steps

@@ -15,12 +15,13 @@ use Rattle.placement.specs.Decode.{blocks-in}
 use Rattle.placement.specs.declared.Order.{Order}
 use Rattle.skiplist.specs.Image.{image, orders-in}
 use Rattle.skiplist.specs.Questions.{first-no, between, asks-image, asks-span}
-use Rattle.skiplist.specs.Book.{put, cancel, lookup, make-refusal, refusal, done}
+use Rattle.skiplist.specs.Book.{cancel, lookup, make-refusal, refusal, done}
 use Rattle.table.specs.declared.Reply.{Reply}
 use Rattle.table.specs.Calls.{check-number, total-of, displayed-of, Seek-says}
 use Rattle.answers.specs.Asked.{piece, asked, sizes-asked, long-asked}
 use Rattle.answers.specs.Lent.{Lent}
 use Rattle.answers.specs.Output.{Said}
+use Rattle.answers.specs.Put.{put-refusal, put-leaves}
 use Rattle.answers.specs.declared.Lengths.{Lengths}
 
 -- "Each prints its number first, and on a refusal nothing more": what a call adds in that same line, and its further lines
@@ -87,7 +88,7 @@ blocks-lines x = answer-lines (check-number x) [] (image-lines x)
 unfoldable pub Answered : Call → (pieces : List ℕ) → (room : ℕ) → (table table-now : List ℕ) → (lines : List (List ℕ)) → Type 0
 Answered Make p room x z ls = (z ≡ make-leaves p x) × (ls ≡ make-lines p)
 Answered Put p room x z ls =
-    (z ≡ done (put (piece p 1) (piece p 2) (piece p 3)) x) × (ls ≡ answer-lines (refusal (put (piece p 1) (piece p 2) (piece p 3)) x) [] [])
+    (z ≡ put-leaves (piece p 1) (piece p 2) (piece p 3) x) × (ls ≡ answer-lines (put-refusal (piece p 1) (piece p 2) (piece p 3) x) [] [])
 Answered Cancel p room x z ls = (z ≡ done (cancel (piece p 1)) x) × (ls ≡ answer-lines (refusal (cancel (piece p 1)) x) [] [])
 Answered Show p room x z ls = (z ≡ x) × (ls ≡ show-lines x (piece p 1))
 Answered Span p room x z ls = (z ≡ x) × (ls ≡ span-lines x (piece p 1) (piece p 2) room)

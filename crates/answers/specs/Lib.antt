@@ -2,3 +2,4 @@ pub mod Answers
 pub mod Asked
 pub mod Lent
 pub mod Output
+pub mod Put

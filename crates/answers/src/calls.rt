@@ -2,9 +2,10 @@
 ghost use mathlib.Core.Path.{_≡_};
 ghost use Prim.Native.Nat.{_≤_};
 ghost use lib.ListN.{length, take, replicate};
-ghost use Rattle.table.specs.Calls.{Put-says, Cancel-says, check-number, Look-says, Span-says, Seek-says};
+ghost use Rattle.table.specs.Calls.{Enter-says, Amend-says, Cancel-says, check-number, Look-says, Span-says, Seek-says};
 ghost use Rattle.answers.specs.Asked.{piece, seed-asked, long-asked, Make-asked};
 ghost use Rattle.answers.specs.Lent.{Front};
+ghost use Rattle.answers.specs.Put.{Put-does};
 use sizes::Sizes;
 use sizes::header::sizes_allowed;
 use sizes::header::table_length;
@@ -64,11 +65,30 @@ pub fn make(table: &mut [u8], long: usize, pieces: [u32; 15]) -> u32
     )
 }
 
+fn enter(table: &mut [u8], long: usize, key: u32, total: u32, displayed: u32) -> u32
+    requires { ⌜ long ≤ length (now table) ⌝ }
+    ensures { λ r. ⌜ Front long (now (table .entry)) (now (table .exit)) (Enter-says key total displayed r) ⌝ }
+{
+    edits::changes::enter(&mut table[0..long], key, total, displayed)
+}
+
+fn amend(table: &mut [u8], long: usize, key: u32, total: u32, displayed: u32) -> u32
+    requires { ⌜ long ≤ length (now table) ⌝ }
+    ensures { λ r. ⌜ Front long (now (table .entry)) (now (table .exit)) (Amend-says key total displayed r) ⌝ }
+{
+    edits::changes::amend(&mut table[0..long], key, total, displayed)
+}
+
+// A put enters a key; one that is held already is amended.
 pub fn put(table: &mut [u8], long: usize, key: u32, total: u32, displayed: u32) -> u32
     requires { ⌜ long ≤ length (now table) ⌝ }
-    ensures { λ r. ⌜ Front long (now (table .entry)) (now (table .exit)) (Put-says key total displayed r) ⌝ }
+    ensures { λ r. ⌜ Front long (now (table .entry)) (now (table .exit)) (Put-does key total displayed r) ⌝ }
 {
-    edits::changes::put(&mut table[0..long], key, total, displayed)
+    let n = enter(table, long, key, total, displayed);
+    if n == 13 {
+        return amend(table, long, key, total, displayed);
+    }
+    n
 }
 
 pub fn cancel(table: &mut [u8], long: usize, key: u32) -> u32

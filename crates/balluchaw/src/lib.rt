@@ -1,6 +1,6 @@
 // The C interface: each call as documents 01 and 02 have it, on numbers and byte slices. include/balluchaw.h says the same in C.
 ghost use mathlib.Core.Path.{_≡_};
-ghost use Rattle.table.specs.Calls.{parameters, Make-says, check-number, Put-says, Cancel-says, Look-says, Descent-says, Span-says, Seek-says};
+ghost use Rattle.table.specs.Calls.{parameters, Make-says, check-number, Enter-says, Amend-says, Cancel-says, Look-says, Descent-says, Span-says, Seek-says};
 use table::Reply;
 
 #[no_mangle]
@@ -25,10 +25,17 @@ pub extern "C" fn balluchaw_check(table: &[u8]) -> u32
 }
 
 #[no_mangle]
-pub extern "C" fn balluchaw_put(table: &mut [u8], key: u32, total: u32, displayed: u32) -> u32
-    ensures { λ r. ⌜ Put-says key total displayed r (now (table .entry)) (now (table .exit)) ⌝ }
+pub extern "C" fn balluchaw_enter(table: &mut [u8], key: u32, total: u32, displayed: u32) -> u32
+    ensures { λ r. ⌜ Enter-says key total displayed r (now (table .entry)) (now (table .exit)) ⌝ }
 {
-    edits::changes::put(table, key, total, displayed)
+    edits::changes::enter(table, key, total, displayed)
+}
+
+#[no_mangle]
+pub extern "C" fn balluchaw_amend(table: &mut [u8], key: u32, total: u32, displayed: u32) -> u32
+    ensures { λ r. ⌜ Amend-says key total displayed r (now (table .entry)) (now (table .exit)) ⌝ }
+{
+    edits::changes::amend(table, key, total, displayed)
 }
 
 #[no_mangle]

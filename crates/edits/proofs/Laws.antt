@@ -10,7 +10,8 @@ pub mod TurnLoops
 pub mod Swaps
 pub mod Helds
 pub mod EditAnswers
-pub mod PutAnswers
+pub mod EnterAnswers
+pub mod AmendAnswers
 pub mod CancelAnswers
 pub mod SweptImage
 pub mod Sightings

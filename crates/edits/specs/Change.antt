@@ -1,4 +1,4 @@
--- A table on its way from some orders to others, level by level from a key's own down, and what one level of a put and of a cancel does to it.
+-- A table on its way from some orders to others, level by level from a key's own down, and what one level of an enter and of a cancel does to it.
 use mathlib.Core.Path.{_≡_}
 use mathlib.Core.Bool.{true, false}
 use mathlib.Core.List.{List, _∷_, _++_}
@@ -32,7 +32,7 @@ pub record Between (s : Sizes) (old new : List Order) (k : ℕ) (bs : List ℕ) 
   pub upto : (l f i : ℕ) → l ≤ k → map l f i ≡ map-of (chunks s old) l f i
   pub count : full + counts k 1 s new ≡ length (chunks s new) + counts k 1 s old
 
--- ONE LEVEL OF A PUT, and of a cancel, not above the key's own; r is the first key of the partition one level down
+-- ONE LEVEL OF AN ENTER, and of a cancel, not above the key's own; r is the first key of the partition one level down
 unfoldable pub Put-turn : Sizes → (k l f : ℕ) → Order → (bs bs′ : List ℕ) → (r : ℕ) → Type 0
 Put-turn s k l f o bs bs′ r =
     (xs zs : List Order) → Setting s xs o zs → l ≡ level s (o .key) → 0 < k → k ≤ l → f ≡ first-key (head-part s k xs) → Between s (xs ++ zs) (xs ++ o ∷ zs) k bs →
@@ -54,26 +54,16 @@ Cancel-held s f l y bs bs′ =
     (xs : List Order) (o : Order) (zs : List Order) → Setting s xs o zs → o .key ≡ y → f ≡ first-key (head-part s l xs) → l ≡ level s y → bs ≡ image s (xs ++ o ∷ zs) →
     sets bs′ 11 (big 2 (length (xs ++ zs))) ≡ image s (xs ++ zs)
 
--- PUT OF A HELD KEY
-unfoldable pub Put-held : Sizes → (l : ℕ) → Order → (bs bs′ : List ℕ) → Type 0
-Put-held s l o bs bs′ =
-    (xs : List Order) (y : Order) (zs : List Order) → Setting s xs y zs → Setting s xs o zs → y .key ≡ o .key → l ≡ level s (o .key) →
-    bs ≡ image s (xs ++ y ∷ zs) → bs′ ≡ image s (xs ++ o ∷ zs)
-
--- ---- what is known on the way of a put, question by question
+-- ---- what is known on the way of an enter or amend, question by question
 
 -- questions 4, 5 and 6 have a yes
-pub record Put-sure (bs : List ℕ) (k t d : ℕ) : Type 0 where
+pub record Sure (bs : List ℕ) (k t d : ℕ) : Type 0 where
   pub image : is-image bs ≡ true
   pub key : is-key k ≡ true
   pub quantities : quantities-good t d ≡ true
 
--- sizes and a key's level, as the functions read them
-pub record Sized (bs : List ℕ) (s : Sizes) (l k : ℕ) : Type 0 where
+-- .. and 13 and 7
+pub record Free (bs : List ℕ) (s : Sizes) (k : ℕ) : Type 0 where
   pub sizes-are : s ≡ sizes-in bs
-  pub level-is : l ≡ level s k
-
--- question 7 has a yes for a key that is not held
-pub record Put-free (bs : List ℕ) (s : Sizes) (k : ℕ) : Type 0 where
   pub absent-is : held k (orders-in bs) ≡ false
   pub more : held-in bs < s .orders

@@ -1,18 +1,17 @@
-// Put and cancel, each with its questions in document 01's order.
+// Enter, amend and cancel, each with its questions in the documents' order.
 ghost use mathlib.Core.Path.{_≡_};
 ghost use mathlib.Core.Bool.{true};
+ghost use mathlib.Core.List.{_∷_};
 ghost use Prim.Native.Nat.{_≤_, _<_};
 ghost use lib.ListN.{length};
 ghost use Rattle.sizes.specs.Geometry.{Reckoned};
 ghost use Rattle.sizes.specs.Header.{held-in, sizes-in};
 ghost use Rattle.skiplist.specs.Lists.{chunks};
 ghost use Rattle.skiplist.specs.Image.{is-image, orders-in};
-ghost use Rattle.skiplist.specs.Questions.{is-key, held};
+ghost use Rattle.skiplist.specs.Questions.{ask, first-no, is-key, held, asks-order};
 ghost use Rattle.placement.specs.Place.{Shaped};
-ghost use Rattle.table.specs.Check.{swept};
-ghost use Rattle.table.specs.Calls.{Put-says, Cancel-says};
-ghost use Rattle.readings.specs.Visit.{Known};
-ghost use Rattle.edits.specs.Change.{Put-turn, Put-new, Put-held, Cancel-turn, Cancel-held, Put-sure, Sized, Put-free};
+ghost use Rattle.table.specs.Calls.{Enter-says, Amend-says, Cancel-says};
+ghost use Rattle.edits.specs.Change.{Put-turn, Put-new, Cancel-turn, Cancel-held, Sure, Free};
 use levels::edit::cancel_below;
 use levels::edit::cancel_in;
 use levels::edit::put_below;
@@ -20,12 +19,13 @@ use levels::edit::put_in;
 use levels::edit::replace;
 use levels::growth::growth;
 use levels::growth::lead;
-use levels::spots::reach;
 use levels::spots::scan;
+use levels::ways::way_down;
 use placement::Order;
 use readings::calls::Sought;
 use readings::calls::is_key;
 use readings::descent::geometry_of;
+use readings::descent::order_at;
 use readings::descent::order_of;
 use sizes::Geometry;
 use sizes::hash::level_of;
@@ -35,7 +35,7 @@ use sizes::numbers::put2;
 use table::checking::check;
 use table::checking::examine;
 
-// One level of a put, the key's own or one below it; the first key of the partition one level down.
+// One level of an enter, the key's own or one below it; the first key of the partition one level down.
 fn put_level(table: &mut [u8], q: Geometry, level: u32, l: u32, first: u32, o: Order) -> u32
     requires { ⌜ Shaped (q .sizes) (now table) × Reckoned q × (2 ≤ q .sizes .nodes) × (level ≤ q .top) ⌝ }
     ensures { λ r. ⌜ Put-turn (q .sizes) level l first o (now (table .entry)) (now (table .exit)) r ⌝ }
@@ -62,36 +62,12 @@ fn put_new(table: &mut [u8], q: Geometry, first: u32, l: u32, o: Order)
     }
 }
 
-// Both quantities of a held key are replaced. A key of a level above 1 heads its partition of level 1.
-fn put_held(table: &mut [u8], q: Geometry, l: u32, o: Order)
-    requires { ⌜ Shaped (q .sizes) (now table) × Reckoned q × (2 ≤ q .sizes .nodes) ⌝ }
-    ensures { λ r. ⌜ Put-held (q .sizes) l o (now (table .entry)) (now (table .exit)) ⌝ }
+// A key that is not held comes in, while there are fewer orders than N: 8 is counted before any change. `full` blocks are not empty.
+fn put_free(table: &mut [u8], q: Geometry, held: u32, full: u32, o: Order) -> u32
+    requires { ⌜ Sure (now table) (o .key) (o .total) (o .displayed) × Free (now table) (q .sizes) (o .key) × (held ≡ held-in (now table)) × (full ≡ length (chunks (q .sizes) (orders-in (now table)))) × Reckoned q ⌝ }
+    ensures { λ r. ⌜ Enter-says (o .key) (o .total) (o .displayed) r (now (table .entry)) (now (table .exit)) ⌝ }
 {
-    if 1 < l {
-        replace(table, q.sizes, o.key, 0, o);
-        return;
-    }
-    let first = lead(table, q, 1, o.key);
-    let x = reach(table, q, 1, first, o.key);
-    replace(table, q.sizes, first, x.below, o);
-}
-
-// Is the key held?
-fn is_held(table: &[u8], q: Geometry, key: u32) -> bool
-    requires { ⌜ Known (q .sizes) (now table) × Reckoned q × (1 ≤ key) ⌝ }
-    ensures { λ r. ⌜ r ≡ held key (orders-in (now (table .entry))) ⌝ }
-{
-    let Sought::Is(o) = order_of(table, q, key) else {
-        return false;
-    };
-    o.key == key
-}
-
-// A put of a key that is not held, while there are fewer orders than N: 8 is counted before any change. `full` blocks are not empty.
-fn put_free(table: &mut [u8], q: Geometry, held: u32, full: u32, l: u32, o: Order) -> u32
-    requires { ⌜ Put-sure (now table) (o .key) (o .total) (o .displayed) × Sized (now table) (q .sizes) l (o .key) × Put-free (now table) (q .sizes) (o .key) × (held ≡ held-in (now table)) × (full ≡ length (chunks (q .sizes) (orders-in (now table)))) × Reckoned q × (l ≤ q .top) ⌝ }
-    ensures { λ r. ⌜ Put-says (o .key) (o .total) (o .displayed) r (now (table .entry)) (now (table .exit)) ⌝ }
-{
+    let l = level_of(q.sizes, q.top, o.key);
     let first = lead(table, q, l, o.key);
     let more = growth(table, q, first, l, o.key);
     if q.sizes.blocks < full + more {
@@ -102,30 +78,11 @@ fn put_free(table: &mut [u8], q: Geometry, held: u32, full: u32, l: u32, o: Orde
     0
 }
 
-// A put that questions 4, 5 and 6 let pass: 7 and 8 are asked of a key that is not held.
-fn put_sure(table: &mut [u8], full: u32, o: Order) -> u32
-    requires { ⌜ Put-sure (now table) (o .key) (o .total) (o .displayed) × (1 ≤ o .key) × (full ≡ swept (sizes-in (now table)) (now table) .full) ⌝ }
-    ensures { λ r. ⌜ Put-says (o .key) (o .total) (o .displayed) r (now (table .entry)) (now (table .exit)) ⌝ }
+// The questions that enter and amend share, where `clean` says whether the table is an image: 4, 5, 6.
+fn asked(clean: bool, key: u32, total: u32, displayed: u32) -> u32
+    ensures { λ r. ⌜ r ≡ first-no (ask 4 clean ∷ asks-order key total displayed) ⌝ }
 {
-    let q = geometry_of(table);
-    let held = field(table, Header::HELD_FIELD);
-    let l = level_of(q.sizes, q.top, o.key);
-    if is_held(table, q, o.key) {
-        put_held(table, q, l, o);
-        return 0;
-    }
-    if q.sizes.orders <= held {
-        return 7;
-    }
-    put_free(table, q, held, full, l, o)
-}
-
-// Put: 4, 5, 6, 7, 8.
-pub fn put(table: &mut [u8], key: u32, total: u32, displayed: u32) -> u32
-    ensures { λ r. ⌜ Put-says key total displayed r (now (table .entry)) (now (table .exit)) ⌝ }
-{
-    let t = examine(table);
-    if !t.clean {
+    if !clean {
         return 4;
     }
     if !is_key(key) {
@@ -137,8 +94,30 @@ pub fn put(table: &mut [u8], key: u32, total: u32, displayed: u32) -> u32
     if total < displayed {
         return 6;
     }
-    put_sure(
+    0
+}
+
+// Enter: 4, 5, 6, 13, 7, 8.
+pub fn enter(table: &mut [u8], key: u32, total: u32, displayed: u32) -> u32
+    ensures { λ r. ⌜ Enter-says key total displayed r (now (table .entry)) (now (table .exit)) ⌝ }
+{
+    let t = examine(table);
+    let n = asked(t.clean, key, total, displayed);
+    if n != 0 {
+        return n;
+    }
+    let q = geometry_of(table);
+    let Sought::Nothing = order_of(table, q, key) else {
+        return 13;
+    };
+    let held = field(table, Header::HELD_FIELD);
+    if q.sizes.orders <= held {
+        return 7;
+    }
+    put_free(
         table,
+        q,
+        held,
         t.full,
         Order {
             key: key,
@@ -146,6 +125,31 @@ pub fn put(table: &mut [u8], key: u32, total: u32, displayed: u32) -> u32
             displayed: displayed,
         },
     )
+}
+
+// Amend: 4, 5, 6, 9. Both quantities are replaced where the way down to the key has ended.
+pub fn amend(table: &mut [u8], key: u32, total: u32, displayed: u32) -> u32
+    ensures { λ r. ⌜ Amend-says key total displayed r (now (table .entry)) (now (table .exit)) ⌝ }
+{
+    let t = examine(table);
+    let n = asked(t.clean, key, total, displayed);
+    if n != 0 {
+        return n;
+    }
+    let w = way_down(table, geometry_of(table), 0, key);
+    let Sought::Is(was) = order_at(table, w.at, key) else {
+        return 9;
+    };
+    replace(
+        table,
+        w.at,
+        Order {
+            key: key,
+            total: total,
+            displayed: displayed,
+        },
+    );
+    0
 }
 
 // One level of a cancel, the key's own or one below it; the first key of the partition one level down.

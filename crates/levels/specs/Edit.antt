@@ -1,9 +1,11 @@
 -- What the parts of a put and of a cancel do, told by the map that a table keeps.
 use mathlib.Core.Path.{_≡_}
-use mathlib.Core.Bool.{Bool, true}
+use mathlib.Core.Bool.{true}
 use mathlib.Core.List.{List, [], _∷_, _++_}
 use Prim.Native.Nat.{ℕ, suc, _+_, _*_, _≤_, _<_}
 use lib.ListN.{length, take, drop}
+use lib.Seq.{sets}
+use Rattle.sizes.specs.Numbers.{big}
 use Rattle.sizes.specs.Sizes.{beta, made}
 use Rattle.sizes.specs.Hash.{level}
 use Rattle.placement.specs.Maps.{Map, Table, Fine}
@@ -39,19 +41,6 @@ unfoldable pub Scans : Sizes → List ℕ → (k f y : ℕ) → Spot → Type 0
 Scans s bs k f y r =
     (F : Map) (n : ℕ) (hd : List ℕ) (ps qs : List Order) → Table s F n hd bs → 0 < k → Pieces F (s .nodes) k f 0 (ps ++ qs) → below y ps ≡ true → Up y qs →
     r ≡ record { below = length ps; last = last-from 0 ps; size = length (ps ++ qs) }
-
--- .. as far as that takes: how many nodes are below it, and the last of them
-unfoldable pub Reaches : Sizes → List ℕ → (k f y : ℕ) → Spot → Type 0
-Reaches s bs k f y r =
-    (F : Map) (n : ℕ) (hd : List ℕ) (ps qs : List Order) → Table s F n hd bs → 0 < k → Pieces F (s .nodes) k f 0 (ps ++ qs) → below y ps ≡ true → Up y qs →
-    (r .below ≡ length ps) × (r .last ≡ last-from 0 ps)
-
--- .. and in the whole partition if that is asked for
-pub record Spots (s : Sizes) (bs : List ℕ) (k f y : ℕ) (whole : Bool) (r : Spot) : Type 0 where
-  pub reaches : Reaches s bs k f y r
-  pub scans : whole ≡ true → Scans s bs k f y r
-  pub few : r .below ≤ r .size
-  pub most : r .size ≤ most-nodes
 
 -- what an edit needs of a partition and a key at level k: numbers that bytes can hold, and a place in it
 pub record Room (s : Sizes) (k f : ℕ) (ps qs : List Order) (x : Spot) (o : Order) : Type 0 where
@@ -108,11 +97,9 @@ Cancels-below s k f g m w bs bs′ =
     Pieces F (s .nodes) k f 0 ps → Pieces F (s .nodes) k g 0 (y ∷ qs) →
     Splits s F n hd bs′ k f g (ps ++ qs) [] (pieces (s .nodes) (length ps) + pieces (s .nodes) (suc (length qs)))
 
--- PUT of a held key: node y of partition f of level 1 has other quantities
-unfoldable pub Replaces : Sizes → (f m : ℕ) → Order → (bs bs′ : List ℕ) → Type 0
-Replaces s f m o bs bs′ =
-    (F : Map) (n : ℕ) (hd : List ℕ) (ps : List Order) (y : Order) (qs : List Order) → Table s F n hd bs → Fine o → y .key ≡ o .key → m ≡ length ps →
-    length (ps ++ y ∷ qs) ≤ most-listed → Pieces F (s .nodes) 1 f 0 (ps ++ y ∷ qs) → Comes-in s F n hd bs′ 1 f (ps ++ y ∷ qs) (ps ++ o ∷ qs)
+-- BOTH QUANTITIES of the node at a place, others in their place
+unfoldable pub replaced : List ℕ → (at : ℕ) → Order → List ℕ
+replaced bs a o = sets (sets bs (a + 4) (big 4 (o .total))) (a + 8) (big 4 (o .displayed))
 
 -- THE WAY DOWN to a key y in the image of xs, below it, and zs, not below it
 pub record Way (s : Sizes) (bs : List ℕ) (y : ℕ) (xs zs : List Order) : Type 0 where

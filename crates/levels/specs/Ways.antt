@@ -1,6 +1,6 @@
 -- The way down to a key in bytes that are as long as a table, an image or not.
 use mathlib.Core.Bool.{cond}
-use mathlib.Core.List.{List}
+use mathlib.Core.List.{List, [], _∷_}
 use Prim.Native.Nat.{ℕ, zero, suc, _+_, _*_, _-_}
 use lib.Dec.{ltb, leb, eqb}
 use lib.ListN.{length, getD}
@@ -78,3 +78,7 @@ along-in s bs l y x = chunks-in s bs l (x .trail .first) y (s .blocks) 0 (trek (
 unfoldable pub down-in : Sizes → List ℕ → (l y : ℕ) → (left : ℕ) → Trek → Trek
 down-in s bs l y zero x = x
 down-in s bs l y (suc m) x = down-in s bs l y m (along-in s bs (suc m + l) y x)
+
+-- the way alone, from level `top` to the levels above l: no path is kept
+unfoldable pub way-down : Sizes → List ℕ → (top l y : ℕ) → Trail
+way-down s bs top l y = down-in s bs l y (top - l) (trek starting (0 ∷ [])) .trail

@@ -6,7 +6,7 @@ ghost use lib.Seq.{sets};
 ghost use Rattle.placement.specs.Chunks.{node-bytes};
 ghost use Rattle.skiplist.specs.Lists.{masked};
 ghost use Rattle.placement.specs.Place.{Shaped};
-ghost use Rattle.levels.specs.Edit.{Puts-in, Puts-below, Cancels-in, Cancels-below, Replaces};
+ghost use Rattle.levels.specs.Edit.{Puts-in, Puts-below, Cancels-in, Cancels-below, replaced};
 use crate::Spot;
 use crate::pour::pour;
 use crate::pour::read;
@@ -14,7 +14,6 @@ use crate::pour::take;
 use crate::shift::shift;
 use crate::shift::store;
 use crate::spots::later;
-use placement::Label;
 use placement::Order;
 use sizes::Sizes;
 use sizes::numbers::bring;
@@ -168,23 +167,11 @@ pub fn cancel_below(table: &mut [u8], s: Sizes, level: u32, first: u32, x: Spot,
     );
 }
 
-// Both quantities of a held key change in place: node `below` of partition `first` of level 1.
-pub fn replace(table: &mut [u8], s: Sizes, first: u32, below: u32, o: Order)
-    requires { ⌜ Shaped s (now table) × (2 ≤ s .nodes) ⌝ }
-    ensures { λ r. ⌜ Replaces s first below o (now (table .entry)) (now (table .exit)) ⌝ }
+// Both quantities of the order whose node of level 1 stands at a place.
+pub fn replace(table: &mut [u8], at: usize, o: Order)
+    requires { ⌜ at + 12 ≤ length (now table) ⌝ }
+    ensures { λ r. ⌜ now (table .exit) ≡ replaced (now (table .entry)) at o ⌝ }
 {
-    let placement::Found::At(i) = placement::search::find(
-        table,
-        s,
-        Label {
-            level: 1,
-            first: first,
-            number: below / s.nodes,
-        },
-    ) else {
-        return;
-    };
-    let at = placement::labels::offset(s, i) + (8 + 12 * ((below % s.nodes) as usize));
     put4(table, at + 4, o.total);
     put4(table, at + 8, o.displayed);
 }

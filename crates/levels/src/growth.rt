@@ -6,8 +6,8 @@ ghost use Rattle.levels.specs.Edit.{most-nodes, Grows, Leads};
 ghost use Rattle.levels.specs.Scan.{Grown};
 use crate::Spot;
 use crate::spots::chunks_of;
-use crate::spots::reach;
 use crate::spots::scan;
+use crate::ways::way_down;
 use sizes::Geometry;
 
 // How many chunks a level has more once a key of its level or a higher one, l, is there.
@@ -38,17 +38,11 @@ pub fn growth(table: &[u8], q: Geometry, first: u32, l: u32, y: u32) -> u32
     sum
 }
 
-// The first key of the partition of level l that has the nodes just below a key.
+// The first key of the partition of level l that has the nodes just below a key: where the way to the key before it comes to.
 pub fn lead(table: &[u8], q: Geometry, l: u32, y: u32) -> u32
-    requires { ⌜ Shaped (q .sizes) (now table) × Reckoned q ⌝ }
+    requires { ⌜ Shaped (q .sizes) (now table) × Reckoned q × (1 ≤ y) ⌝ }
     ensures { λ r. ⌜ Leads (q .sizes) (now (table .entry)) l y r ⌝ }
 {
-    let mut first: u32 = 0;
-    let mut level = q.top;
-    while l < level {
-        let x = reach(table, q, level, first, y);
-        first = x.last;
-        level -= 1;
-    }
-    first
+    let t = way_down(table, q, l, y - 1);
+    t.first
 }

@@ -7,7 +7,7 @@ ghost use Rattle.sizes.specs.Hash.{hash-from};
 ghost use Rattle.placement.specs.Labels.{label};
 ghost use Rattle.placement.specs.Place.{Shaped, search-in};
 ghost use Rattle.skiplist.specs.Parts.{pieces};
-ghost use Rattle.levels.specs.Edit.{most-nodes, Scans, Reaches, Spots};
+ghost use Rattle.levels.specs.Edit.{most-nodes, Scans};
 ghost use Rattle.levels.specs.Scan.{passed, passes};
 use crate::Spot;
 use placement::Found;
@@ -71,11 +71,10 @@ fn chunk(table: &[u8], q: Geometry, g: u32, level: u32, first: u32, number: u32)
     )
 }
 
-// How many nodes of a partition are below a key, the key of the last of them, and how many nodes there are: in the `whole` partition, or only as far as
-// a node that is not below the key, since none behind it is.
-fn spot_in(table: &[u8], q: Geometry, level: u32, first: u32, y: u32, whole: bool) -> Spot
+// How many nodes of a partition are below a key, the key of the last of them, and how many nodes there are.
+pub fn scan(table: &[u8], q: Geometry, level: u32, first: u32, y: u32) -> Spot
     requires { ⌜ Shaped (q .sizes) (now table) × Reckoned q × (level ≤ q .top) ⌝ }
-    ensures { λ r. ⌜ Spots (q .sizes) (now (table .entry)) level first y whole r ⌝ }
+    ensures { λ r. ⌜ Scans (q .sizes) (now (table .entry)) level first y r × (r .below ≤ r .size) × (r .size ≤ most-nodes) ⌝ }
 {
     let s = q.sizes;
     let g = hash(s, 5, first);
@@ -100,30 +99,9 @@ fn spot_in(table: &[u8], q: Geometry, level: u32, first: u32, y: u32, whole: boo
         if n < s.nodes {
             return spot;
         }
-        if !whole {
-            if spot.below < spot.size {
-                return spot;
-            }
-        }
         number += 1;
     }
     spot
-}
-
-// All nodes of a partition.
-pub fn scan(table: &[u8], q: Geometry, level: u32, first: u32, y: u32) -> Spot
-    requires { ⌜ Shaped (q .sizes) (now table) × Reckoned q × (level ≤ q .top) ⌝ }
-    ensures { λ r. ⌜ Scans (q .sizes) (now (table .entry)) level first y r × (r .below ≤ r .size) × (r .size ≤ most-nodes) ⌝ }
-{
-    spot_in(table, q, level, first, y, true)
-}
-
-// As far as a node that is not below the key.
-pub fn reach(table: &[u8], q: Geometry, level: u32, first: u32, y: u32) -> Spot
-    requires { ⌜ Shaped (q .sizes) (now table) × Reckoned q × (level ≤ q .top) ⌝ }
-    ensures { λ r. ⌜ Reaches (q .sizes) (now (table .entry)) level first y r ⌝ }
-{
-    spot_in(table, q, level, first, y, false)
 }
 
 // The chunks of so many nodes.

@@ -6,7 +6,7 @@ ghost use lib.ListN.{length};
 ghost use Rattle.sizes.specs.Geometry.{Reckoned};
 ghost use Rattle.sizes.specs.Hash.{hash-from};
 ghost use Rattle.placement.specs.Place.{Shaped};
-ghost use Rattle.levels.specs.Ways.{starting, trek, number-in, upto-in, reached-in, trod, along-in, down-in};
+ghost use Rattle.levels.specs.Ways.{starting, trek, number-in, upto-in, reached-in, trod, along-in, down-in, way-down};
 use crate::Trail;
 use placement::Found;
 use placement::Label;
@@ -131,4 +131,13 @@ pub fn descend(table: &[u8], q: Geometry, l: u32, y: u32, path: &mut [u8]) -> Tr
         level -= 1;
     }
     t
+}
+
+// The way alone, without its path.
+pub fn way_down(table: &[u8], q: Geometry, l: u32, y: u32) -> Trail
+    requires { ⌜ Shaped (q .sizes) (now table) × Reckoned q ⌝ }
+    ensures { λ r. ⌜ (r ≡ way-down (q .sizes) (now (table .entry)) (q .top) l y) × (r .at + 12 ≤ length (now (table .entry))) ⌝ }
+{
+    let mut none = [0u8; 1];
+    descend(table, q, l, y, &mut none)
 }

@@ -16,6 +16,7 @@ use crate::calls::answered;
 use crate::calls::is_key;
 use crate::calls::refused;
 use levels::ways::descend;
+use levels::ways::way_down;
 use sizes::Geometry;
 use sizes::hash::reckon;
 use sizes::header::Header;
@@ -34,7 +35,7 @@ pub fn geometry_of(table: &[u8]) -> Geometry
 }
 
 // The order at the place where a way has ended, if it has the key.
-fn order_at(table: &[u8], at: usize, key: u32) -> Sought
+pub fn order_at(table: &[u8], at: usize, key: u32) -> Sought
     requires { ⌜ at + 12 ≤ length (now table) ⌝ }
     ensures { λ r. ⌜ r ≡ landed (now (table .entry)) at key ⌝ }
 {
@@ -53,8 +54,7 @@ pub fn order_of(table: &[u8], q: Geometry, key: u32) -> Sought
     requires { ⌜ Known (q .sizes) (now table) × Reckoned q × (1 ≤ key) ⌝ }
     ensures { λ r. ⌜ r ≡ first-enough 0 (between key key (orders-in (now (table .entry)))) ⌝ }
 {
-    let mut none = [0u8; 1];
-    let t = descend(table, q, 0, key, &mut none);
+    let t = way_down(table, q, 0, key);
     order_at(table, t.at, key)
 }
 

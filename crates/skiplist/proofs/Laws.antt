@@ -9,6 +9,7 @@ pub mod Segment
 pub mod Opens
 pub mod Masks
 pub mod Count
+pub mod Keys
 pub mod Content
 pub mod Rise
 pub mod Faithful

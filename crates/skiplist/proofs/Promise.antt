@@ -1,11 +1,13 @@
 -- All that is promised, proved.
 use Rattle.skiplist.specs.Questions.{First-no-means, Zero-finds-any}
 use Rattle.skiplist.specs.Rules.{Image-exactly, Paper-partitions, Paper-top, Beta-is, Level-is, Hash-is, Lists-are, Chunks-are}
-use Rattle.skiplist.specs.Promise.{Image-reads-back, Labels-rise, Rule-three, One-arrangement, Lists-image, Equal-exactly, Checks-exactly}
+use Rattle.skiplist.specs.Promise.{Image-reads-back, Labels-rise, Rule-three, One-arrangement, Chunks-by-keys, Amend-has-room, Lists-image, Equal-exactly, Checks-exactly}
 use Rattle.skiplist.specs.Paths.{Path-fits, Path-one-way}
 use Rattle.skiplist.specs.Examples.{One-to-nine, Examples-hold}
 use Rattle.skiplist.proofs.Laws.Questions.{first-no-means, zero-finds-any}
 use Rattle.skiplist.proofs.Laws.Examples.{examples-hold}
+use Rattle.skiplist.proofs.Laws.Keys.{chunks-by-keys}
+use Rattle.skiplist.proofs.Laws.Kept.{amend-has-room}
 use Rattle.skiplist.proofs.Laws.Levels.{beta-is, level-is, hash-is}
 use Rattle.skiplist.proofs.Laws.Lists.{lists-are}
 use Rattle.skiplist.proofs.Laws.Paper.{paper-partitions, paper-top}
@@ -39,6 +41,9 @@ pub record Proved : Type 0 where
   -- the way down to a key: no more blocks than the table has, and one partition of each level
   pub paths-fit : Path-fits
   pub one-way : Path-one-way
+  -- amend has neither 7 nor 8 to ask
+  pub by-keys : Chunks-by-keys
+  pub amend-room : Amend-has-room
   -- DEMAND 3 over the definitions alone
   pub book : Lists-image
   pub equal : Equal-exactly
@@ -65,6 +70,8 @@ proved = record {
   pieces = chunks-are;
   paths-fit = path-fits;
   one-way = path-one-way;
+  by-keys = chunks-by-keys;
+  amend-room = amend-has-room;
   book = lists-image-holds;
   equal = equal-exactly reads-back;
   checks = checks-exactly reads-back;

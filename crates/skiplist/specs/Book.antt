@@ -1,4 +1,5 @@
--- Calls, the plain book, and what a call does to a table. Document 01, "Calls and their questions" and "The plain book".
+-- Calls, the plain book, and what a call does to a table. Document 01, "Calls and their questions" and "The plain book"; document 02, A.4: "enter and
+-- amend stand in place of put".
 use mathlib.Core.Bool.{cond}
 use mathlib.Core.List.{List, [], _∷_, _++_}
 use Prim.Native.Nat.{ℕ}
@@ -8,7 +9,7 @@ use Rattle.sizes.specs.Header.{sizes-in}
 use Rattle.sizes.specs.declared.Sizes.{Sizes}
 use Rattle.placement.specs.declared.Order.{Order}
 use Rattle.skiplist.specs.Image.{image, orders-in}
-use Rattle.skiplist.specs.Questions.{Question, first-no, Parameters, asks-make, asks-image, asks-put, asks-key, asks-span, asks-seek, order, with-order, without}
+use Rattle.skiplist.specs.Questions.{Question, first-no, Parameters, asks-make, asks-image, asks-enter, asks-amend, asks-key, asks-span, asks-seek, order, with-order, without}
 use Rattle.skiplist.specs.Paths.{asks-descent}
 
 -- the number of a make
@@ -17,7 +18,8 @@ make-refusal q l = first-no (asks-make q l)
 
 -- EVERY OTHER CALL, with all its arguments; an output is lent with a descent and with a span
 pub data Call : Type 0 where
-  put : (key total displayed : ℕ) → Call
+  enter : (key total displayed : ℕ) → Call
+  amend : (key total displayed : ℕ) → Call
   cancel : (key : ℕ) → Call
   lookup : (key : ℕ) → Call
   descent : (key : ℕ) → (output : List ℕ) → Call
@@ -27,7 +29,8 @@ pub data Call : Type 0 where
 
 -- its questions after 4, asked of a set of orders
 unfoldable pub asks : Sizes → Call → List Order → List Question
-asks s (put k t d) os = asks-put s k t d os
+asks s (enter k t d) os = asks-enter s k t d os
+asks s (amend k t d) os = asks-amend k t d os
 asks s (cancel k) os = asks-key k os
 asks s (lookup k) os = asks-key k os
 asks s (descent k o) os = asks-descent s k (length o) os
@@ -35,9 +38,10 @@ asks s (span lo hi o) os = asks-span lo hi (length o) os
 asks s (seek lo hi r) os = asks-seek lo hi r os
 asks s check os = []
 
--- the set where none turns it down: a put adds the order or replaces the one with its key, by a cancel that order goes, a reading changes nothing
+-- the set where none turns it down: enter adds the order, amend replaces the one with its key, by a cancel that order goes, a reading changes nothing
 unfoldable pub changed : Call → List Order → List Order
-changed (put k t d) os = with-order (order k t d) os
+changed (enter k t d) os = with-order (order k t d) os
+changed (amend k t d) os = with-order (order k t d) os
 changed (cancel k) os = without k os
 changed (lookup k) os = os
 changed (descent k o) os = os

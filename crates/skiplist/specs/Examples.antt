@@ -13,7 +13,7 @@ use Rattle.sizes.specs.declared.Sizes.{Sizes}
 use Rattle.skiplist.specs.Image.{image, is-image, orders-in, same}
 use Rattle.skiplist.specs.Questions.{Parameters, parameters, sizes}
 use Rattle.skiplist.specs.Paths.{descent-path}
-use Rattle.skiplist.specs.Book.{Call, put, cancel, lookup, descent, span, seek, check, make-refusal, refusal, after}
+use Rattle.skiplist.specs.Book.{Call, enter, amend, cancel, lookup, descent, span, seek, check, make-refusal, refusal, after}
 
 -- the sizes and seed of document 01's run: γ, B, N, M are 2, 2, 2, 4, and both hashes are the key itself
 unfoldable pub run-seed : List ℕ
@@ -79,11 +79,11 @@ every (x ∷ xs) = true-of x && every xs
 unfoldable pub p4 : List Shows
 p4 = shows 1 0 0 (0 ∷ 3 ∷ []) ∷ shows 2 0 0 (0 ∷ 6 ∷ []) ∷ shows 1 0 6 (6 ∷ []) ∷ shows 3 0 0 (0 ∷ []) ∷ []
 
-unfoldable pub put-3 : Call
-put-3 = put 3 100 20
+unfoldable pub enter-3 : Call
+enter-3 = enter 3 100 20
 
-unfoldable pub put-6 : Call
-put-6 = put 6 50 50
+unfoldable pub enter-6 : Call
+enter-6 = enter 6 50 50
 
 -- make with these sizes and the run's seed; and with the run's sizes, and v for seed number i
 unfoldable pub sized : (gamma nodes orders blocks : ℕ) → Parameters
@@ -101,17 +101,17 @@ one-to-nine =
     -- P3
     ∷ leaves [] (shows 1 0 0 (0 ∷ []) ∷ shows 2 0 0 (0 ∷ []) ∷ shows 3 0 0 (0 ∷ []) ∷ bare ∷ [])
     -- P4
-    ∷ leaves (put-3 ∷ put-6 ∷ []) p4 ∷ leaves (put-6 ∷ put-3 ∷ []) p4 ∷ alike (put-3 ∷ put-6 ∷ []) (put-6 ∷ put-3 ∷ [])
-    ∷ leaves-bytes (put-3 ∷ put-6 ∷ []) 73 (0 ∷ 0 ∷ 0 ∷ 3 ∷ 0 ∷ 0 ∷ 0 ∷ 100 ∷ 0 ∷ 0 ∷ 0 ∷ 20 ∷ [])
+    ∷ leaves (enter-3 ∷ enter-6 ∷ []) p4 ∷ leaves (enter-6 ∷ enter-3 ∷ []) p4 ∷ alike (enter-3 ∷ enter-6 ∷ []) (enter-6 ∷ enter-3 ∷ [])
+    ∷ leaves-bytes (enter-3 ∷ enter-6 ∷ []) 73 (0 ∷ 0 ∷ 0 ∷ 3 ∷ 0 ∷ 0 ∷ 0 ∷ 100 ∷ 0 ∷ 0 ∷ 0 ∷ 20 ∷ [])
     -- P5
-    ∷ leaves-bytes (put-3 ∷ put-6 ∷ cancel 3 ∷ []) 53 (1 ∷ 1 ∷ replicate 30 0) ∷ alike (put-3 ∷ put-6 ∷ cancel 3 ∷ []) (put-6 ∷ [])
+    ∷ leaves-bytes (enter-3 ∷ enter-6 ∷ cancel 3 ∷ []) 53 (1 ∷ 1 ∷ replicate 30 0) ∷ alike (enter-3 ∷ enter-6 ∷ cancel 3 ∷ []) (enter-6 ∷ [])
     -- P6
-    ∷ answers (put-3 ∷ []) (put 4 10 0) 8 ∷ alike (put-3 ∷ put 4 10 0 ∷ []) (put-3 ∷ [])
+    ∷ answers (enter-3 ∷ []) (enter 4 10 0) 8 ∷ alike (enter-3 ∷ enter 4 10 0 ∷ []) (enter-3 ∷ [])
     -- P7
-    ∷ answers [] (put 0 1 1) 5 ∷ answers [] (put 2147483647 1 1) 5 ∷ answers [] (put 2147483646 1 1) 0
+    ∷ answers [] (enter 0 1 1) 5 ∷ answers [] (enter 2147483647 1 1) 5 ∷ answers [] (enter 2147483646 1 1) 0
     ∷ has-level 2147483646 2 ∷ has-home 1 2147483646 0 3
     -- P8
-    ∷ answers [] (put 3 100 101) 6 ∷ answers [] (put 3 100 100) 0
+    ∷ answers [] (enter 3 100 101) 6 ∷ answers [] (enter 3 100 100) 0
     -- P9
     ∷ makes (with-number 0 prime) 181 1 ∷ makes (with-number 0 (prime - 1)) 181 0
     ∷ makes (sized 2 2 2 2) 117 2 ∷ makes (sized 2 2 2 3) 149 0
@@ -139,7 +139,7 @@ seed-limits (suc i) = makes (with-number i (prime - 1)) 181 0 ∷ makes (with-nu
 unfoldable pub left-open : List Example
 left-open =
     -- all 53 bytes of the header: of the full run's table, and of the other make's, with 600 orders
-    leaves-bytes (put-6 ∷ put-3 ∷ put 4 10 0 ∷ []) 0
+    leaves-bytes (enter-6 ∷ enter-3 ∷ enter 4 10 0 ∷ []) 0
     (1 ∷ 0 ∷ 0 ∷ 0 ∷ 181 ∷ 2 ∷ 2 ∷ 0 ∷ 2 ∷ 0 ∷ 4 ∷ 0 ∷ 2
     ∷ 0 ∷ 0 ∷ 0 ∷ 0 ∷ 0 ∷ 0 ∷ 0 ∷ 1 ∷ 0 ∷ 0 ∷ 0 ∷ 0 ∷ 0 ∷ 0 ∷ 0 ∷ 0 ∷ 0 ∷ 0 ∷ 0 ∷ 0
     ∷ 0 ∷ 0 ∷ 0 ∷ 0 ∷ 0 ∷ 0 ∷ 0 ∷ 1 ∷ 0 ∷ 0 ∷ 0 ∷ 0 ∷ 0 ∷ 0 ∷ 0 ∷ 0 ∷ 0 ∷ 0 ∷ 0 ∷ 0 ∷ [])
@@ -157,28 +157,32 @@ left-open =
     -- make's 1: 40 bytes
     ∷ makes (parameters 2 2 2 4 (replicate 39 0)) 181 1 ∷ makes (parameters 2 2 2 4 (replicate 40 0)) 181 0 ∷ makes (parameters 2 2 2 4 (replicate 41 0)) 181 1
     -- 5 and 6: key 1..p-1, total 1..4,294,967,295, displayed 0..total
-    ∷ answers [] (put 0 1 1) 5 ∷ answers [] (put 1 1 1) 0 ∷ answers [] (put (prime - 1) 1 1) 0 ∷ answers [] (put prime 1 1) 5
-    ∷ answers [] (put 3 0 0) 6 ∷ answers [] (put 3 1 0) 0 ∷ answers [] (put 3 4294967295 0) 0 ∷ answers [] (put 3 4294967296 0) 6
-    ∷ answers [] (put 3 4294967295 4294967295) 0 ∷ answers [] (put 3 7 8) 6
-    -- 7, and that a held key is not turned down by it; 9, 10, 11, 12; no question after 4
-    ∷ answers (put-6 ∷ put-3 ∷ []) (put 4 10 0) 7 ∷ answers (put-6 ∷ put-3 ∷ []) (put 3 10 0) 0
-    ∷ answers (put-3 ∷ []) (cancel 6) 9 ∷ answers (put-3 ∷ []) (lookup 6) 9 ∷ answers (put-3 ∷ []) (lookup 3) 0
+    ∷ answers [] (enter 0 1 1) 5 ∷ answers [] (enter 1 1 1) 0 ∷ answers [] (enter (prime - 1) 1 1) 0 ∷ answers [] (enter prime 1 1) 5
+    ∷ answers [] (enter 3 0 0) 6 ∷ answers [] (enter 3 1 0) 0 ∷ answers [] (enter 3 4294967295 0) 0 ∷ answers [] (enter 3 4294967296 0) 6
+    ∷ answers [] (enter 3 4294967295 4294967295) 0 ∷ answers [] (enter 3 7 8) 6
+    -- 7, 9, 10, 11, 12; no question after 4
+    ∷ answers (enter-6 ∷ enter-3 ∷ []) (enter 4 10 0) 7
+    ∷ answers (enter-3 ∷ []) (cancel 6) 9 ∷ answers (enter-3 ∷ []) (lookup 6) 9 ∷ answers (enter-3 ∷ []) (lookup 3) 0
     ∷ answers [] (span 1 9 []) 0 ∷ answers [] (span 2 1 []) 10 ∷ answers [] (span 1 prime []) 5
-    ∷ answers (put-3 ∷ []) (span 1 9 (replicate 11 0)) 11 ∷ answers (put-3 ∷ []) (span 3 3 (replicate 12 0)) 0
-    ∷ answers (put-3 ∷ []) (seek 1 9 80) 0 ∷ answers (put-3 ∷ []) (seek 1 9 81) 12 ∷ answers (put-3 ∷ []) check 0
+    ∷ answers (enter-3 ∷ []) (span 1 9 (replicate 11 0)) 11 ∷ answers (enter-3 ∷ []) (span 3 3 (replicate 12 0)) 0
+    ∷ answers (enter-3 ∷ []) (seek 1 9 80) 0 ∷ answers (enter-3 ∷ []) (seek 1 9 81) 12 ∷ answers (enter-3 ∷ []) check 0
     -- A.2 of document 02: a wholly hidden order has reserve 0, at any total; with r = 0 it is found; the others have what they do not display
-    ∷ answers (put 3 100 0 ∷ []) (seek 1 9 0) 0 ∷ answers (put 3 100 0 ∷ []) (seek 1 9 1) 12 ∷ answers (put 3 100 0 ∷ []) (seek 1 9 100) 12
-    ∷ answers (put 3 100 1 ∷ []) (seek 1 9 99) 0 ∷ answers (put 3 100 1 ∷ []) (seek 1 9 100) 12
-    ∷ answers (put-6 ∷ []) (seek 1 9 0) 0 ∷ answers (put-6 ∷ []) (seek 1 9 1) 12 ∷ answers [] (seek 1 9 0) 12
+    ∷ answers (enter 3 100 0 ∷ []) (seek 1 9 0) 0 ∷ answers (enter 3 100 0 ∷ []) (seek 1 9 1) 12 ∷ answers (enter 3 100 0 ∷ []) (seek 1 9 100) 12
+    ∷ answers (enter 3 100 1 ∷ []) (seek 1 9 99) 0 ∷ answers (enter 3 100 1 ∷ []) (seek 1 9 100) 12
+    ∷ answers (enter-6 ∷ []) (seek 1 9 0) 0 ∷ answers (enter-6 ∷ []) (seek 1 9 1) 12 ∷ answers [] (seek 1 9 0) 12
+    -- A.4: a held key is 13, also where there are N orders, after 5 and 6; amend has 9 after 6, no 7 and no 8, and replaces both quantities
+    ∷ answers (enter-6 ∷ enter-3 ∷ []) (enter 3 10 0) 13 ∷ answers (enter-3 ∷ []) (enter 3 7 8) 6 ∷ alike (enter-3 ∷ enter 3 10 0 ∷ []) (enter-3 ∷ [])
+    ∷ answers (enter-6 ∷ enter-3 ∷ []) (amend 3 10 0) 0 ∷ answers (enter-3 ∷ []) (amend 6 10 0) 9 ∷ answers (enter-3 ∷ []) (amend 6 7 8) 6 ∷ answers [] (amend 0 1 1) 5
+    ∷ alike (enter-3 ∷ amend 3 50 10 ∷ []) (enter 3 50 10 ∷ []) ∷ alike (enter-3 ∷ amend 6 50 50 ∷ []) (enter-3 ∷ [])
     -- the chunk number counts in a home, and quantities above level 1 are zero
     ∷ has-home 1 0 1 1 ∷ has-home 2 6 3 1
-    ∷ leaves-bytes (put-3 ∷ put-6 ∷ []) 85 (2 ∷ 2 ∷ replicate 18 0 ++ (0 ∷ 0 ∷ 0 ∷ 6 ∷ replicate 8 0))
+    ∷ leaves-bytes (enter-3 ∷ enter-6 ∷ []) 85 (2 ∷ 2 ∷ replicate 18 0 ++ (0 ∷ 0 ∷ 0 ∷ 6 ∷ replicate 8 0))
     -- A.1 of document 02: a key held above level 1 heads its own partition; a key that is not held; a chunk whose first key is larger is not on the path
-    ∷ goes (put-3 ∷ put-6 ∷ []) 6 (3 ∷ 1 ∷ 2 ∷ []) ∷ goes (put-3 ∷ put-6 ∷ []) 5 (3 ∷ 1 ∷ 0 ∷ []) ∷ goes [] 9 (2 ∷ 1 ∷ 0 ∷ [])
-    ∷ goes (put-3 ∷ put 1 1 1 ∷ []) 2 (3 ∷ 2 ∷ 0 ∷ []) ∷ goes (put-3 ∷ put 1 1 1 ∷ []) 3 (3 ∷ 2 ∷ 0 ∷ 1 ∷ [])
+    ∷ goes (enter-3 ∷ enter-6 ∷ []) 6 (3 ∷ 1 ∷ 2 ∷ []) ∷ goes (enter-3 ∷ enter-6 ∷ []) 5 (3 ∷ 1 ∷ 0 ∷ []) ∷ goes [] 9 (2 ∷ 1 ∷ 0 ∷ [])
+    ∷ goes (enter-3 ∷ enter 1 1 1 ∷ []) 2 (3 ∷ 2 ∷ 0 ∷ []) ∷ goes (enter-3 ∷ enter 1 1 1 ∷ []) 3 (3 ∷ 2 ∷ 0 ∷ 1 ∷ [])
     -- .. and 5, 11, 9, in this order
-    ∷ answers (put-3 ∷ []) (descent 0 []) 5 ∷ answers (put-3 ∷ []) (descent 6 (replicate 5 0)) 11 ∷ answers (put-3 ∷ []) (descent 6 (replicate 6 0)) 9
-    ∷ answers (put-3 ∷ []) (descent 3 (replicate 6 0)) 0
+    ∷ answers (enter-3 ∷ []) (descent 0 []) 5 ∷ answers (enter-3 ∷ []) (descent 6 (replicate 5 0)) 11 ∷ answers (enter-3 ∷ []) (descent 6 (replicate 6 0)) 9
+    ∷ answers (enter-3 ∷ []) (descent 3 (replicate 6 0)) 0
     ∷ seed-limits 10
 
 unfoldable pub Examples-hold : Type 0

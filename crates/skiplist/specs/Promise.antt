@@ -1,7 +1,7 @@
 -- What is promised of images and of lists of calls. Each statement is a type; its proof stands in proofs/.
 use mathlib.Core.Path.{_≡_}
 use mathlib.Core.Bool.{Bool, true, _&&_}
-use mathlib.Core.List.{List, [], _∷_}
+use mathlib.Core.List.{List, [], _∷_, map}
 use Prim.Native.Nat.{ℕ}
 use lib.Dec.{ltb}
 use lib.ListN.{length}
@@ -13,6 +13,7 @@ use Rattle.sizes.specs.declared.Sizes.{Sizes}
 use Rattle.placement.specs.declared.Order.{Order}
 use Rattle.skiplist.specs.Lists.{chunks, blocks}
 use Rattle.skiplist.specs.Image.{image, is-image, orders-in, orders-good, fits}
+use Rattle.skiplist.specs.Questions.{all-yes, held, asks-room}
 use Rattle.skiplist.specs.Book.{Call, book, after}
 
 -- ---- DEMAND 2: images
@@ -42,6 +43,20 @@ unfoldable pub One-arrangement : Type 0
 One-arrangement =
     (s : Sizes) (os : List Order) (bs : List (Block Chunk)) → made s ≡ true → orders-good 1 os ≡ true → fits s os ≡ true → length bs ≡ s .blocks →
     Rule-3 (chunk-home s) chunk-before (s .blocks) bs → ((c : Chunk) → Among c (chunks s os) → Stands (s .blocks) bs c) → how-many bs ≡ length (chunks s os) → bs ≡ blocks s os
+
+-- ---- Document 02, A.4: amend asks neither 7 nor 8
+
+-- the number of chunks depends on the keys alone
+unfoldable pub Chunks-by-keys : Type 0
+Chunks-by-keys =
+    (s : Sizes) (os qs : List Order) → made s ≡ true → orders-good 1 os ≡ true → orders-good 1 qs ≡ true →
+    map (λ (o : Order). o .key) os ≡ map (λ (o : Order). o .key) qs → length (chunks s os) ≡ length (chunks s qs)
+
+-- so both would have a yes for a key that is held
+unfoldable pub Amend-has-room : Type 0
+Amend-has-room =
+    (s : Sizes) (os : List Order) (k t d : ℕ) → made s ≡ true → orders-good 1 os ≡ true → fits s os ≡ true → held k os ≡ true →
+    all-yes (asks-room s k t d os) ≡ true
 
 -- ---- DEMAND 3 over the definitions alone: the table that calls leave is the image of what the plain book leaves
 

@@ -1,7 +1,7 @@
 -- Questions and their numbers. Document 01, "Calls and their questions": they run in order, the first "no" ends the call with its number, success is 0.
 use mathlib.Core.Path.{_≡_}
 use mathlib.Core.Logic.{_⊎_}
-use mathlib.Core.Bool.{Bool, true, false, _&&_, _||_, cond}
+use mathlib.Core.Bool.{Bool, true, false, not, _&&_, _||_, cond}
 use mathlib.Core.List.{List, [], _∷_, _++_}
 use Prim.Native.Nat.{ℕ, _*_, _-_}
 use lib.Dec.{ltb, leb, eqb}
@@ -104,15 +104,22 @@ asks-make q l =
 unfoldable pub asks-image : (table : List ℕ) → List Question
 asks-image x = ask 4 (is-image x) ∷ []
 
--- put and cancel, as they are asked of a set of orders
-unfoldable pub asks-put : Sizes → (key total displayed : ℕ) → List Order → List Question
-asks-put s k t d os =
-    ask 5 (is-key k)
-    ∷ ask 6 (quantities-good t d)
-    ∷ ask 7 (held k os || ltb (length os) (s .orders))
-    ∷ ask 8 (fits s (with-order (order k t d) os))
-    ∷ []
+-- the others are asked of a set of orders. Is it an order, and is there room for it?
+unfoldable pub asks-order : (key total displayed : ℕ) → List Question
+asks-order k t d = ask 5 (is-key k) ∷ ask 6 (quantities-good t d) ∷ []
 
+unfoldable pub asks-room : Sizes → (key total displayed : ℕ) → List Order → List Question
+asks-room s k t d os = ask 7 (held k os || ltb (length os) (s .orders)) ∷ ask 8 (fits s (with-order (order k t d) os)) ∷ []
+
+-- Document 02, A.4. "Enter takes a key that is not held and asks 4, 5, 6, 13, 7, 8"; "13, enter only, after 6: is the key free?"
+unfoldable pub asks-enter : Sizes → (key total displayed : ℕ) → List Order → List Question
+asks-enter s k t d os = asks-order k t d ++ ask 13 (not (held k os)) ∷ asks-room s k t d os
+
+-- "Amend replaces the quantities of a held one and asks 4, 5, 6, 9"
+unfoldable pub asks-amend : (key total displayed : ℕ) → List Order → List Question
+asks-amend k t d os = asks-order k t d ++ ask 9 (held k os) ∷ []
+
+-- cancel and lookup
 unfoldable pub asks-key : (key : ℕ) → List Order → List Question
 asks-key k os = ask 5 (is-key k) ∷ ask 9 (held k os) ∷ []
 

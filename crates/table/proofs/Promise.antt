@@ -11,7 +11,7 @@ use Rattle.table.proofs.Laws.Demands.{demand-3, demand-2-rules, demand-
 pub record Kept-promise : Type 0 where
   -- images, their rules and the definitions: all that the crate below promises
   pub images : Proved
-  -- DEMAND 1: after any list, a put or cancel answers what the plain book answers
+  -- DEMAND 1: after any list, an enter, amend or cancel answers what the plain book answers
   pub edits : Demand-1-edits
   -- DEMAND 2: after any list, the published rules, and the orders read back by number, by descent, by span, by seek; a descent's quantities are a lookup's
   pub rules : Demand-2-rules

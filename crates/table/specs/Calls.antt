@@ -13,7 +13,7 @@ use Rattle.skiplist.specs.Questions.{Question, ask, first-no, is-key, Parameter
 use Rattle.skiplist.specs.Paths.{descent-path, path-bytes}
 -- passed on: a contract of make builds what it is asked from its arguments
 pub use Rattle.skiplist.specs.Questions.{parameters}
-use Rattle.skiplist.specs.Book.{Call, put, cancel, lookup, descent, span, seek, check, make-refusal, refusal, done}
+use Rattle.skiplist.specs.Book.{Call, enter, amend, cancel, lookup, descent, span, seek, check, make-refusal, refusal, done}
 use Rattle.table.specs.declared.Reply.{Reply}
 
 -- every part of an answer; on a refusal all other parts are 0
@@ -28,12 +28,15 @@ Make-says q r x z = (r ≡ make-refusal q (length x)) × (z ≡ cond (eqb (make-
 unfoldable pub check-number : (table : List ℕ) → ℕ
 check-number x = refusal check x
 
--- PUT and CANCEL: 4, then 5, 6, 7, 8, or 5, 9; the table is the image of the orders as they change them
+-- ENTER, AMEND and CANCEL: 4, then 5, 6, 13, 7, 8, or 5, 6, 9, or 5, 9; the table is the image of the orders as they change them
 unfoldable pub Edit-says : Call → (r : ℕ) → (table table-now : List ℕ) → Type 0
 Edit-says c r x z = (r ≡ refusal c x) × (z ≡ done c x)
 
-unfoldable pub Put-says : (key total displayed : ℕ) → (r : ℕ) → (table table-now : List ℕ) → Type 0
-Put-says k t d r x z = Edit-says (put k t d) r x z
+unfoldable pub Enter-says : (key total displayed : ℕ) → (r : ℕ) → (table table-now : List ℕ) → Type 0
+Enter-says k t d r x z = Edit-says (enter k t d) r x z
+
+unfoldable pub Amend-says : (key total displayed : ℕ) → (r : ℕ) → (table table-now : List ℕ) → Type 0
+Amend-says k t d r x z = Edit-says (amend k t d) r x z
 
 unfoldable pub Cancel-says : (key : ℕ) → (r : ℕ) → (table table-now : List ℕ) → Type 0
 Cancel-says k r x z = Edit-says (cancel k) r x z

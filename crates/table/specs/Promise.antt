@@ -13,15 +13,16 @@ use Rattle.placement.specs.declared.Order.{Order}
 use Rattle.skiplist.specs.Image.{image, is-image}
 use Rattle.skiplist.specs.Questions.{Parameters, sizes, held, between}
 use Rattle.skiplist.specs.Paths.{descent-path}
-use Rattle.skiplist.specs.Book.{Call, put, cancel, lookup, descent, span, seek, check, make-refusal, book-refusal, book}
+use Rattle.skiplist.specs.Book.{Call, enter, amend, cancel, lookup, descent, span, seek, check, make-refusal, book-refusal, book}
 use Rattle.skiplist.specs.Rules.{Rules}
 use Rattle.skiplist.specs.Promise.{byte-list}
-use Rattle.table.specs.Calls.{Make-says, check-number, Put-says, Cancel-says, total-of, displayed-of, Look-says, Look-as, Descent-says, Descent-as, Span-says, Span-as, Seek-says, Seek-as}
+use Rattle.table.specs.Calls.{Make-says, check-number, Enter-says, Amend-says, Cancel-says, total-of, displayed-of, Look-says, Look-as, Descent-says, Descent-as, Span-says, Span-as, Seek-says, Seek-as}
 use Rattle.table.specs.declared.Reply.{Reply}
 
 -- WHAT A CALL DOES TO A TABLE, by its contract alone. A reading leaves the table
 unfoldable pub Does : Call → (table table-now : List ℕ) → Type 0
-Does (put k t d) x z = (r : ℕ) × Put-says k t d r x z
+Does (enter k t d) x z = (r : ℕ) × Enter-says k t d r x z
+Does (amend k t d) x z = (r : ℕ) × Amend-says k t d r x z
 Does (cancel k) x z = (r : ℕ) × Cancel-says k r x z
 Does (lookup k) x z = (r : Reply) × Look-says x k r × (z ≡ x)
 Does (descent k o) x z = (r : Reply) × (now : List ℕ) × Descent-says x k r o now × (z ≡ x)
@@ -58,7 +59,8 @@ unfoldable pub word : ℕ → Bool
 word x = ltb x 4294967296
 
 unfoldable pub in-range : Call → Bool
-in-range (put k t d) = word k && (word t && word d)
+in-range (enter k t d) = word k && (word t && word d)
+in-range (amend k t d) = word k && (word t && word d)
 in-range (cancel k) = word k
 in-range (lookup k) = word k
 in-range (descent k o) = word k && byte-list o
@@ -136,10 +138,11 @@ Demand-2-span =
 unfoldable pub Demand-2-seek : Type 0
 Demand-2-seek = After-any (λ s os z. (lo hi l : ℕ) (r : Reply) → Seek-says z lo hi l r → Seek-as (book-refusal s (seek lo hi l) os) os lo hi l r)
 
--- DEMAND 1 after any list: no call meets 4, and a put or cancel answers what the plain book answers
+-- DEMAND 1 after any list: no call meets 4, and an enter, amend or cancel answers what the plain book answers
 unfoldable pub Demand-1-edits : Type 0
 Demand-1-edits =
     After-any
     (λ s os z.
-    ((k t d r : ℕ) (y : List ℕ) → Put-says k t d r z y → r ≡ book-refusal s (put k t d) os)
+    ((k t d r : ℕ) (y : List ℕ) → Enter-says k t d r z y → r ≡ book-refusal s (enter k t d) os)
+    × ((k t d r : ℕ) (y : List ℕ) → Amend-says k t d r z y → r ≡ book-refusal s (amend k t d) os)
     × ((k r : ℕ) (y : List ℕ) → Cancel-says k r z y → r ≡ book-refusal s (cancel k) os))

@@ -16,11 +16,12 @@ use Rattle.lines.proofs.Call.{the-type}
 use Rattle.lines.specs.declared.Call.{Call}
 use Rattle.lines.specs.declared.Call.the-variants.{Bad, Make, Put, Cancel, Show, Span, Seek, Blocks}
 use Rattle.skiplist.specs.Image.{image}
-use Rattle.table.specs.Calls.{Make-says, Edit-says, Put-says, Cancel-says}
+use Rattle.table.specs.Calls.{Make-says, Edit-says, Cancel-says}
 use Rattle.answers.specs.Answers.{answer-lines, mark-lines, make-number, make-lines, make-leaves, show-lines, span-lines, Seek-lines, blocks-lines, Answered, Step}
 use Rattle.answers.specs.Asked.{piece, sizes-asked, long-asked, Make-asked}
 use Rattle.answers.specs.Lent.{Lent, Front}
 use Rattle.answers.specs.Output.{Said, Prints}
+use Rattle.answers.specs.Put.{Put-does}
 use Rattle.answers.specs.declared.Lengths.{Lengths}
 
 abbrev lengths : (long used : ℕ) → Lengths
@@ -100,9 +101,9 @@ module _ (c : Call) (p table out out′ : List ℕ) (room : ℕ) (d : Lengths) (
       → Answered c p room (take (d .long) table) (take (d .long) new) lines → Said out (d .used) lines out′ u → Step c p room d table out (lengths (d .long) u) new out′
   step-changed new lines w b a s = record { lines = lines; answered = a; behind = b; lent = record { whole = w ∙ l .whole; within = l .within }; said = s }
 
-  pub step-put : (new : List ℕ) (n : ℕ) → c ≡ Put → Front (d .long) table new (Put-says (piece p 1) (piece p 2) (piece p 3) n) → Said out (d .used) (row n [] ∷ []) out′ u
+  pub step-put : (new : List ℕ) (n : ℕ) → c ≡ Put → Front (d .long) table new (Put-does (piece p 1) (piece p 2) (piece p 3) n) → Said out (d .used) (row n [] ∷ []) out′ u
       → Step c p room d table out (lengths (d .long) u) new out′
-  unfolding Answered Put-says Edit-says
+  unfolding Answered Put-does
   step-put new n e f s = step-changed new (row n [] ∷ []) (f .whole) (f .behind) (rw e (f .says .1, alone n ∙ rw (f .says .0))) s
 
   pub step-cancel : (new : List ℕ) (n : ℕ) → c ≡ Cancel → Front (d .long) table new (Cancel-says (piece p 1) n) → Said out (d .used) (row n [] ∷ []) out′ u

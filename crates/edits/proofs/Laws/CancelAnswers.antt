@@ -7,7 +7,8 @@ use native.Mathlib.Omega.{arith}
 use lib.ListN.{length, length-append}
 use lib.Seq.{sets}
 use Rattle.sizes.specs.Numbers.{big}
-use Rattle.sizes.specs.Header.{held-in}
+use Rattle.sizes.specs.Hash.{level}
+use Rattle.sizes.specs.Header.{sizes-in, held-in}
 use Rattle.sizes.specs.declared.Sizes.{Sizes}
 use Rattle.skiplist.specs.Image.{image, is-image, orders-in}
 use Rattle.skiplist.specs.Questions.{first-no, asks-image, asks-key, is-key, held, without}
@@ -17,7 +18,7 @@ use Rattle.skiplist.proofs.Laws.Edits.{level-most}
 use Rattle.table.specs.Calls.{Cancel-says}
 use Rattle.levels.specs.Edit.{Leads}
 use Rattle.readings.proofs.Laws.Answers.{known-image, known-at}
-use Rattle.edits.specs.Change.{Setting, Cancel-held, Sized}
+use Rattle.edits.specs.Change.{Setting, Cancel-held}
 use Rattle.edits.proofs.Laws.Settings.{held-way}
 use Rattle.edits.proofs.Laws.EditAnswers.{refused, accepted, image-held, Held-at, held-at}
 
@@ -51,15 +52,15 @@ module _ (bs : List ℕ) (k : ℕ) where
     pub held-some : (m : ℕ) → m ≡ held-in bs → 1 ≤ m
     held-some m q = omega (arith, image-held bs e, out-length)
 
-    pub cancel-done : (s : Sizes) (l f m : ℕ) (bs₁ bs′ : List ℕ) → is-key k ≡ true → Sized bs s l k → Leads s bs l k f → Cancel-held s f l k bs bs₁ → m ≡ held-in bs → bs′ ≡ sets bs₁ 11 (big 2 (m - 1)) → Cancel-says k 0 bs bs′
+    pub cancel-done : (s : Sizes) (l f m : ℕ) (bs₁ bs′ : List ℕ) → is-key k ≡ true → s ≡ sizes-in bs → l ≡ level s k → Leads s bs l k f → Cancel-held s f l k bs bs₁ → m ≡ held-in bs → bs′ ≡ sets bs₁ 11 (big 2 (m - 1)) → Cancel-says k 0 bs bs′
     unfolding Cancel-says refusal asks changed first-no asks-image asks-key Cancel-held Leads
-    cancel-done s l f m bs₁ bs′ q z ld c n i =
-        let w = known-at bs s e (z .sizes-are) in
+    cancel-done s l f m bs₁ bs′ q es el ld c n i =
+        let w = known-at bs s e es in
         let r : m - 1 ≡ length (without k (orders-in bs)) = omega (arith, image-held bs e, out-length) in
         let v : Setting s (at .before) (at .own) (at .behind) = record { sizes = w .sizes-made; good = rw (at .is) at (w .good); fit = rw (at .is) at (w .fit) } in
         let was : bs ≡ image s (at .before ++ at .own ∷ at .behind) = rw (at .is) at (sym (w .bytes)) in
         let leads = ld (at .before) (at .own ∷ at .behind) (held-way s (at .before) (at .own) (at .behind) v bs k was (at .key))
-        (omega (arith, z .level-is, level-most s k)) in
+        (omega (arith, el, level-most s k)) in
         accepted (cancel k) bs bs′ (rw (e, q, h))
-        (subst (λ (x : Sizes). bs′ ≡ image x (without k (orders-in bs))) (z .sizes-are)
-        (i ∙ rw (r, out-is) (c (at .before) (at .own) (at .behind) v (at .key) leads (z .level-is) was)))
+        (subst (λ (x : Sizes). bs′ ≡ image x (without k (orders-in bs))) es
+        (i ∙ rw (r, out-is) (c (at .before) (at .own) (at .behind) v (at .key) leads el was)))

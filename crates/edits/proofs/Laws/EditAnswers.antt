@@ -1,6 +1,6 @@
--- Which number a put or a cancel gives, question by question, and what an image tells of its header.
-use mathlib.Core.Path.{_≡_, sym, ap, _∙_}
-use mathlib.Core.Bool.{Bool, true, false, _&&_, and-false, true≢false}
+-- Which number an enter, amend or cancel gives, question by question, and what an image tells of its header.
+use mathlib.Core.Path.{_≡_, refl, sym, ap, _∙_}
+use mathlib.Core.Bool.{Bool, true, false, _&&_, cond, and-false, true≢false}
 use mathlib.Core.List.{List, [], _∷_, _++_}
 use Prim.Native.Nat.{ℕ, suc, _+_, _≤_, _<_}
 use native.Mathlib.Omega.{arith}
@@ -20,15 +20,17 @@ use Rattle.placement.specs.declared.Order.{Order}
 use Rattle.sizes.proofs.Laws.Sizes.{Limits, limits}
 use Rattle.sizes.proofs.Laws.Numbers.{field-big}
 use Rattle.skiplist.specs.Image.{image, is-image, orders-in, quantities-good}
-use Rattle.skiplist.specs.Questions.{first-no, asks-image, asks-put, is-key, held}
-use Rattle.skiplist.specs.Book.{Call, put, asks, changed, refusal, done}
+use Rattle.skiplist.specs.Questions.{Question, ask, first-no, asks-image, asks-order, asks-enter, asks-amend, is-key, held}
+use Rattle.skiplist.specs.Book.{Call, enter, amend, asks, changed, refusal, done}
 use Rattle.skiplist.proofs.Laws.Parts.{Up, below}
 use Rattle.skiplist.proofs.Laws.Shapes.{Place, there, absent, place, held-there, held-absent}
+use Rattle.skiplist.proofs.Laws.Questions.{passes}
 use Rattle.skiplist.proofs.Laws.Kept.{fits-parts, Kept}
-use Rattle.table.specs.Calls.{Edit-says, Put-says}
+use Rattle.table.specs.Calls.{Edit-says, Enter-says, Amend-says}
 use Rattle.readings.specs.Visit.{Known}
 use Rattle.readings.proofs.Laws.Answers.{known-image, known-at, known-long}
-use Rattle.edits.specs.Change.{Put-sure, Sized}
+use Rattle.readings.proofs.Laws.Replies.{key-least}
+use Rattle.edits.specs.Change.{Sure}
 
 -- what a function answers, as its caller knows it
 pub told : (b v t : Bool) → b ≡ v → b ≡ t → v ≡ t
@@ -85,38 +87,63 @@ pub accepted : (c : Call) (bs bs′ : List ℕ) → refusal c bs ≡ 0 → bs′
 unfolding Edit-says done
 accepted c bs bs′ e h = (sym e, rw e h)
 
--- ---- a put
+-- ---- 4, 5 and 6, which enter and amend share
 
-module _ (bs : List ℕ) (k t d : ℕ) where
-  pub put-no-4 : is-image bs ≡ false → Put-says k t d 4 bs bs
-  unfolding Put-says refusal first-no asks-image
-  put-no-4 e = refused (put k t d) 4 bs (rw e) (λ z. omega arith)
+module _ (c : Bool) (k t d : ℕ) where
+  pub asked-4 : c ≡ false → 4 ≡ first-no (ask 4 c ∷ asks-order k t d)
+  unfolding first-no
+  asked-4 e = rw e
 
-  pub put-no-5 : is-image bs ≡ true → is-key k ≡ false → Put-says k t d 5 bs bs
-  unfolding Put-says refusal asks first-no asks-image asks-put
-  put-no-5 e q = refused (put k t d) 5 bs (rw (e, q)) (λ z. omega arith)
+  pub asked-5 : c ≡ true → (b : Bool) → b ≡ is-key k → b ≡ false → 5 ≡ first-no (ask 4 c ∷ asks-order k t d)
+  unfolding first-no asks-order
+  asked-5 e b eb h = rw (e, ← eb, h)
 
-  no-6 : is-image bs ≡ true → is-key k ≡ true → quantities-good t d ≡ false → Put-says k t d 6 bs bs
-  unfolding Put-says refusal asks first-no asks-image asks-put
-  no-6 e q r = refused (put k t d) 6 bs (rw (e, q, r)) (λ z. omega arith)
+  module _ (e : c ≡ true) (b : Bool) (eb : b ≡ is-key k) (h : b ≡ true) where
+    pub asked-6-none : t ≡ 0 → 6 ≡ first-no (ask 4 c ∷ asks-order k t d)
+    unfolding first-no asks-order quantities-good
+    asked-6-none z = rw (e, ← eb, h, lt-leb 1 t (omega arith))
 
-  pub put-no-6-none : is-image bs ≡ true → is-key k ≡ true → t ≡ 0 → Put-says k t d 6 bs bs
-  unfolding quantities-good
-  put-no-6-none e q r = no-6 e q (rw (lt-leb 1 t (omega arith)))
+    pub asked-6-less : t < d → 6 ≡ first-no (ask 4 c ∷ asks-order k t d)
+    unfolding first-no asks-order quantities-good
+    asked-6-less z = rw (e, ← eb, h, lt-leb d t z, and-false (leb 1 t && leb t 4294967295))
 
-  pub put-no-6-less : is-image bs ≡ true → is-key k ≡ true → t < d → Put-says k t d 6 bs bs
-  unfolding quantities-good
-  put-no-6-less e q r = no-6 e q (rw (lt-leb d t r) (and-false (leb 1 t && leb t 4294967295)))
+    pub asked-0 : (t ≡ 0 → ⊥) → d ≤ t → t < 4294967296 → 0 ≡ first-no (ask 4 c ∷ asks-order k t d)
+    unfolding first-no asks-order quantities-good
+    asked-0 z g m = rw (e, ← eb, h, le-leb 1 t (omega (arith, z)), le-leb t 4294967295 (omega arith), le-leb d t g)
 
-  pub put-sure : is-image bs ≡ true → is-key k ≡ true → (t ≡ 0 → ⊥) → d ≤ t → t < 4294967296 → Put-sure bs k t d
-  unfolding quantities-good
-  put-sure e q r f h = record { image = e; key = q; quantities = rw (le-leb 1 t (omega (arith, r)), le-leb t 4294967295 (omega arith), le-leb d t f) }
+-- a key is at least 1
+pub key-some : (k : ℕ) → is-key k ≡ true → 1 ≤ k
+key-some k e = key-least k (is-key k) refl e
+
+-- .. and what they leave of the questions behind them
+module _ (bs : List ℕ) (c : Bool) (ec : c ≡ is-image bs) (k t d n : ℕ) (en : n ≡ first-no (ask 4 c ∷ asks-order k t d)) where
+  pub asked-sure : n ≡ 0 → Sure bs k t d
+  unfolding first-no asks-order
+  asked-sure z =
+      let a = passes 3 c _ (sym en ∙ z) in
+      let b = passes 4 (is-key k) _ (a .1) in
+      record { image = sym ec ∙ a .0; key = b .0; quantities = passes 5 (quantities-good t d) 0 (b .1) .0 }
+
+  asked-more : (qs : List Question) → (n ≡ 0 → ⊥) → first-no (asks-image bs ++ (asks-order k t d ++ qs)) ≡ n
+  unfolding first-no asks-image asks-order
+  asked-more qs z = rw (← ec) (go c (is-key k) (quantities-good t d) en)
+    where
+      go : (a b f : Bool) → n ≡ cond a (cond b (cond f 0 6) 5) 4 → cond a (cond b (cond f (first-no qs) 6) 5) 4 ≡ n
+      go true true true e = absurd (z e)
+      go true true false e = sym e
+      go true false f e = sym e
+      go false b f e = sym e
+
+  pub enter-asked : (n ≡ 0 → ⊥) → Enter-says k t d n bs bs
+  unfolding Enter-says refusal asks asks-enter
+  enter-asked z = refused (enter k t d) n bs (asked-more _ z) z
+
+  pub amend-asked : (n ≡ 0 → ⊥) → Amend-says k t d n bs bs
+  unfolding Amend-says refusal asks asks-amend
+  amend-asked z = refused (amend k t d) n bs (asked-more _ z) z
 
 pub known-kept : (bs : List ℕ) (s : Sizes) → Known s bs → Kept s (orders-in bs)
 known-kept bs s w = record { good = w .good; fit = w .fit }
-
-pub sized : (bs : List ℕ) (s : Sizes) (l k : ℕ) → s ≡ sizes-in bs → l ≡ level s k → Sized bs s l k
-sized bs s l k q e = record { sizes-are = q; level-is = e }
 
 -- ---- where a key stands among orders, or would
 

@@ -1,69 +1,110 @@
--- Where the node of a held key stands at level 1: at the head of a partition of its own, or behind the nodes below it.
+-- The node of a held key of level 1: the way down to the key ends at it, at the head of a partition of its own or behind the nodes below it; with its
+-- quantities replaced there, the table is the image of the orders with these quantities.
 use mathlib.Core.Path.{_≡_, refl, sym, ap, _∙_, subst}
 use mathlib.Core.Bool.{Bool, true, false}
-use mathlib.Core.List.{List, [], _∷_, _++_}
-use Prim.Native.Nat.{ℕ, _≤_, _<_}
+use mathlib.Core.List.{List, [], _∷_, _++_, append-assoc}
+use Prim.Native.Nat.{ℕ, suc, _-_, _≤_, _<_}
 use native.Mathlib.Omega.{arith}
-use borrow.Author.Tests.{eqb-true, eqb-false}
+use borrow.Author.Tests.{eqb-true, eqb-false, lt-ltb}
 use lib.Dec.{eqb}
-use lib.ListN.{length-append}
+use lib.ListN.{length, length-append}
 use Rattle.sizes.specs.Sizes.{beta}
 use Rattle.sizes.specs.Hash.{level}
 use Rattle.sizes.specs.declared.Sizes.{Sizes}
 use Rattle.placement.specs.declared.Order.{Order}
+use Rattle.sizes.proofs.Laws.Round.{Which, which, less, same, more}
+use Rattle.sizes.proofs.Laws.Sizes.{limits}
 use Rattle.skiplist.specs.Lists.{first-key}
-use Rattle.skiplist.proofs.Laws.Parts.{part}
-use Rattle.skiplist.proofs.Laws.Edits.{beta-least, level-least, head-part, tail-part, part-in, part-left, part-right, part-other}
-use Rattle.levels.specs.declared.Spot.{Spot}
-use Rattle.levels.specs.Edit.{Reaches, Replaces, Way, Leads}
-use Rattle.levels.proofs.Laws.Growing.{seen}
-use Rattle.edits.specs.Change.{Put-held}
+use Rattle.skiplist.specs.Image.{image}
+use Rattle.skiplist.proofs.Laws.Parts.{below, up-front, part}
+use Rattle.skiplist.proofs.Laws.Nodes.{below-more}
+use Rattle.skiplist.proofs.Laws.Descent.{below-both, start-top, head-high, head-low}
+use Rattle.skiplist.proofs.Laws.Edits.{beta-least, level-least, head-part, tail-part, head-part-first, part-in, part-left, part-right, part-other}
 use Rattle.table.proofs.Laws.MaskedKeys.{head-most, tail-most}
-use Rattle.edits.proofs.Laws.Settings.{all-up, held-way, few-orders, part-beside}
+use Rattle.levels.specs.declared.Trail.{Trail}
+use Rattle.levels.specs.Edit.{Way, replaced}
+use Rattle.levels.specs.Ways.{Trek, trek, starting, down-in, way-down}
+use Rattle.levels.proofs.Laws.Leading.{Seated}
+use Rattle.levels.proofs.Laws.Arriving.{arrives}
+use Rattle.levels.proofs.Laws.Changing.{replace-at}
+use Rattle.edits.specs.Change.{Setting}
+use Rattle.edits.proofs.Laws.Settings.{all-up, front-below, behind-up, key-pos, few-orders, part-beside}
 use Rattle.edits.proofs.Laws.Swaps.{swapped}
 
-module _ (s : Sizes) (l : ℕ) (o : Order) (bs bs′ : List ℕ) where
-  pub put-held-high : 1 < l → Replaces s (o .key) 0 o bs bs′ → Put-held s l o bs bs′
-  unfolding Put-held
-  put-held-high h r xs y zs w v e le i =
-      swapped s xs y o zs e w v (o .key) 0 [] (tail-part s 1 zs) bs bs′ r i refl (omega (arith, tail-most s 1 zs, few-orders s xs o zs v))
-      (subst (λ (g : ℕ). part s (xs ++ y ∷ zs) 1 g ≡ y ∷ tail-part s 1 zs) e (part-right s 1 xs y zs (all-up s xs y zs w) up-y))
-      (part-right s 1 xs o zs (all-up s xs o zs v) up-o) (λ g n. go g n (eqb (first-key (head-part s 1 xs)) g) refl)
-    where
-      up-o : 1 < level s (o .key)
-      up-o = omega (arith, h, le)
+module _ (s : Sizes) (xs : List Order) (y o : Order) (zs : List Order) (e : y .key ≡ o .key) (w : Setting s xs y zs) (v : Setting s xs o zs) (bs : List ℕ)
+    (i : bs ≡ image s (xs ++ y ∷ zs)) where
+  abbrev place : ℕ
+  place = way-down s bs (beta s) 0 (o .key) .at
 
+  -- WHERE IT STANDS: it is the last of the orders not above its key
+  cut : Way s bs (suc (o .key)) (xs ++ y ∷ []) zs
+  unfolding below
+  cut =
+      let a : (xs ++ y ∷ []) ++ zs ≡ xs ++ y ∷ zs = append-assoc xs (y ∷ []) zs in
+      record {
+        good = w .sizes;
+        orders = rw a (w .good);
+        fit = rw a (w .fit);
+        is = rw a i;
+        low = below-both (suc (o .key)) xs (y ∷ []) (below-more (y .key) (suc (o .key)) xs (omega (arith, e)) (front-below s xs y zs w)) (rw (lt-ltb (y .key) (suc (o .key)) (omega (arith, e))));
+        high = rw e at (behind-up s xs y zs w);
+        pos = omega arith;
+      }
+
+  seat : Seated s bs 1 (first-key (head-part s 1 (xs ++ y ∷ []))) (length (head-part s 1 (xs ++ y ∷ [])) - 1) place
+  unfolding way-down
+  seat =
+      let up = up-front (xs ++ y ∷ []) zs 1 (rw (append-assoc xs (y ∷ []) zs) (all-up s xs y zs w)) in
+      let a = arrives s bs (o .key) (xs ++ y ∷ []) zs cut (beta s) (omega arith) starting (sym (start-top s (xs ++ y ∷ []) up)) (0 ∷ []) in
+      let top : beta s - 0 ≡ beta s = omega arith in
+      let is : place ≡ a .trail .at = ap (λ (n : ℕ). down-in s bs 0 (o .key) n (trek starting (0 ∷ [])) .trail .at) top ∙ ap (λ (x : Trek). x .trail .at) (a .is) in
+      subst (Seated s bs 1 (first-key (head-part s 1 (xs ++ y ∷ []))) (length (head-part s 1 (xs ++ y ∷ [])) - 1)) (sym is) (a .ended (omega (arith, beta-least s)) .seat)
+
+  two : 2 ≤ s .nodes
+  two = limits s (w .sizes) .nodes-least
+
+  -- AT THE HEAD of its own partition
+  high-done : 1 < level s (o .key) → replaced bs place o ≡ image s (xs ++ o ∷ zs)
+  unfolding first-key
+  high-done h =
+      swapped s xs y o zs e w v (o .key) 0 [] (tail-part s 1 zs) bs (replaced bs place o) (replace-at s (o .key) 0 o bs two place there) i refl
+      (omega (arith, tail-most s 1 zs, few-orders s xs o zs v))
+      (subst (λ (g : ℕ). part s (xs ++ y ∷ zs) 1 g ≡ y ∷ tail-part s 1 zs) e (part-right s 1 xs y zs (all-up s xs y zs w) up-y))
+      (part-right s 1 xs o zs (all-up s xs o zs v) h) (λ g n. go g n (eqb (first-key (head-part s 1 xs)) g) refl)
+    where
       up-y : 1 < level s (y .key)
-      up-y = subst (λ (z : ℕ). 1 < level s z) (sym e) up-o
+      up-y = rw e h
+
+      there : Seated s bs 1 (o .key) 0 place
+      there = rw (head-high s xs y up-y, e) at seat
 
       go : (g : ℕ) → (o .key ≡ g → ⊥) → (t : Bool) → eqb (first-key (head-part s 1 xs)) g ≡ t → part s (xs ++ y ∷ zs) 1 g ≡ part s (xs ++ o ∷ zs) 1 g
-      go g n true z = rw (← eqb-true (first-key (head-part s 1 xs)) g z) (part-left s 1 xs y zs (all-up s xs y zs w) up-y ∙ sym (part-left s 1 xs o zs (all-up s xs o zs v) up-o))
+      go g n true z = rw (← eqb-true (first-key (head-part s 1 xs)) g z) (part-left s 1 xs y zs (all-up s xs y zs w) up-y ∙ sym (part-left s 1 xs o zs (all-up s xs o zs v) h))
       go g n false z =
           part-other s 1 xs y zs (all-up s xs y zs w) g (eqb-false (first-key (head-part s 1 xs)) g z) (λ q. n (sym e ∙ q))
           ∙ sym (part-other s 1 xs o zs (all-up s xs o zs v) g (eqb-false (first-key (head-part s 1 xs)) g z) n)
 
-  pub put-held-low : (f : ℕ) (x : Spot) → l ≤ 1 → Leads s bs 1 (o .key) f → Reaches s bs 1 f (o .key) x → Replaces s f (x .below) o bs bs′ → Put-held s l o bs bs′
-  unfolding Put-held Leads
-  put-held-low f x h b sc r xs y zs w v e le i =
-      swapped s xs y o zs e w v (first-key (head-part s 1 xs)) (x .below) (head-part s 1 xs) (tail-part s 1 zs) bs bs′ (rw fe at r) i
-      (seen s bs (o .key) xs (y ∷ zs) way 1 (omega arith) top f fe x sc .0)
-      (simp length-append (omega (arith, head-most s 1 xs, tail-most s 1 zs, few-orders s xs o zs v))) in-y (part-in s 1 xs o zs (all-up s xs o zs v) at-o)
-      (λ g n. part-beside s xs y zs w 1 g at-y n ∙ sym (part-beside s xs o zs v 1 g at-o n))
+  -- BEHIND the nodes below it
+  low-done : level s (o .key) ≡ 1 → replaced bs place o ≡ image s (xs ++ o ∷ zs)
+  low-done h =
+      swapped s xs y o zs e w v (first-key (head-part s 1 xs)) (length (head-part s 1 xs)) (head-part s 1 xs) (tail-part s 1 zs) bs (replaced bs place o)
+      (replace-at s (first-key (head-part s 1 xs)) (length (head-part s 1 xs)) o bs two place there) i refl
+      (simp length-append (omega (arith, head-most s 1 xs, tail-most s 1 zs, few-orders s xs o zs v)))
+      (part-in s 1 xs y zs (all-up s xs y zs w) at-y) (part-in s 1 xs o zs (all-up s xs o zs v) h)
+      (λ g n. part-beside s xs y zs w 1 g at-y n ∙ sym (part-beside s xs o zs v 1 g h n))
     where
-      at-o : level s (o .key) ≡ 1
-      at-o = omega (arith, h, le, level-least s (o .key))
-
       at-y : level s (y .key) ≡ 1
-      at-y = ap (level s) e ∙ at-o
+      at-y = ap (level s) e ∙ h
 
-      in-y : part s (xs ++ y ∷ zs) 1 (first-key (head-part s 1 xs)) ≡ head-part s 1 xs ++ y ∷ tail-part s 1 zs
-      in-y = part-in s 1 xs y zs (all-up s xs y zs w) at-y
+      there : Seated s bs 1 (first-key (head-part s 1 xs)) (length (head-part s 1 xs)) place
+      there =
+          let n : length (head-part s 1 xs ++ y ∷ []) - 1 ≡ length (head-part s 1 xs) = omega (arith, length-append (head-part s 1 xs) (y ∷ [])) in
+          rw (n, head-part-first s 1 xs (y ∷ [])) at (rw (head-low s xs y (key-pos s xs y zs w) at-y) at seat)
 
-      way : Way s bs (o .key) xs (y ∷ zs)
-      way = held-way s xs y zs w bs (o .key) i e
-
-      top : 1 ≤ beta s
-      top = omega (arith, beta-least s)
-
-      fe : f ≡ first-key (head-part s 1 xs)
-      fe = b xs (y ∷ zs) way top
+  pub held-done : replaced bs place o ≡ image s (xs ++ o ∷ zs)
+  held-done = go (which 1 (level s (o .key)))
+    where
+      go : Which 1 (level s (o .key)) → replaced bs place o ≡ image s (xs ++ o ∷ zs)
+      go (less h) = high-done h
+      go (same h) = low-done (sym h)
+      go (more h) = absurd (omega (arith, h, level-least s (o .key)))

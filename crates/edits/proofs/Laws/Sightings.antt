@@ -4,8 +4,6 @@ use mathlib.Core.Bool.{Bool, true, false}
 use mathlib.Core.List.{List}
 use Prim.Native.Nat.{ℕ}
 use native.Mathlib.Omega.{arith}
-use borrow.Author.Tests.{eq-eqb}
-use lib.Dec.{eqb}
 use Rattle.placement.specs.declared.Order.{Order}
 use Rattle.skiplist.specs.Questions.{is-key, held, between}
 use Rattle.table.specs.Calls.{Cancel-says}
@@ -22,8 +20,8 @@ module _ (k : ℕ) (os : List Order) (q : Sought) (e : q ≡ first-enough 0 (bet
     pub seen-held : held (o .key) os ≡ true
     seen-held = spot-held o os (spot-inside k k o os (first-is 0 (between k k os) o (sym z ∙ e) .spot) .spot)
 
-    pub seen-is : eqb (o .key) k ≡ held k os
-    seen-is = eq-eqb (o .key) k seen-key ∙ sym seen-held ∙ ap (λ (i : ℕ). held i os) seen-key
+    pub seen-own : held k os ≡ true
+    seen-own = subst (λ (i : ℕ). held i os ≡ true) seen-key seen-held
 
     pub seen-is-key : (b : Bool) → b ≡ is-key k → b ≡ true → is-key (o .key) ≡ true
     seen-is-key b eb h = ap is-key seen-key ∙ sym eb ∙ h
@@ -33,6 +31,3 @@ module _ (k : ℕ) (os : List Order) (q : Sought) (e : q ≡ first-enough 0 (bet
 
   pub unseen-held : q ≡ Nothing → held k os ≡ false
   unseen-held z = none-held k os (first-empty (between k k os) (sym z ∙ e))
-
-  pub unseen-is : q ≡ Nothing → false ≡ held k os
-  unseen-is z = sym (unseen-held z)

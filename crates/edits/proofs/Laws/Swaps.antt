@@ -1,11 +1,10 @@
--- A put of a held key: the quantities of its node of level 1 change, and nothing else.
+-- An amend: the quantities of a node of level 1 change, and nothing else.
 use mathlib.Core.Path.{_≡_, refl, sym, ap, _∙_, subst}
 use mathlib.Core.Bool.{Bool, true, false, cond}
 use mathlib.Core.List.{List, _∷_, _++_, map, map-append}
 use Prim.Native.Nat.{ℕ, _*_, _≤_, _<_}
-use native.Mathlib.Nat.{zero-add}
 use native.Mathlib.Omega.{arith}
-use borrow.Author.Tests.{ltb-true, ltb-false, eqb-true, eqb-false, ne-eqb}
+use borrow.Author.Tests.{ne-eqb}
 use lib.Dec.{ltb, eqb}
 use lib.ListN.{length, take, drop, length-append}
 use Rattle.sizes.specs.Sizes.{beta}
@@ -17,41 +16,16 @@ use Rattle.skiplist.specs.Lists.{masked, first-key, chunks}
 use Rattle.skiplist.specs.Image.{image}
 use Rattle.skiplist.proofs.Laws.Parts.{Up, part}
 use Rattle.skiplist.proofs.Laws.Masks.{masked-one}
-use Rattle.skiplist.proofs.Laws.Count.{count, counts, count-low, count-same, count-high, length-chunks}
+use Rattle.skiplist.proofs.Laws.Keys.{count-swap}
 use Rattle.skiplist.proofs.Laws.Edits.{beta-least, head-part, tail-part, part-with, with-part}
-use Rattle.levels.specs.Edit.{Replaces}
 use Rattle.edits.specs.Change.{Setting, Between}
 use Rattle.levels.proofs.Laws.Growing.{level-nodes, as-pieces}
-use Rattle.edits.proofs.Laws.WayLevels.{counts-kept}
+use Rattle.levels.proofs.Laws.Changing.{Replaces}
 use Rattle.edits.proofs.Laws.Changed.{one-changed}
 use Rattle.edits.proofs.Laws.Settings.{all-up, key-pos, order-fine, some-nodes}
 use Rattle.edits.proofs.Laws.Ways.{way-start, way-even}
 
 module _ (s : Sizes) (xs : List Order) (y o : Order) (zs : List Order) (e : y .key ≡ o .key) where
-  same-level : level s (y .key) ≡ level s (o .key)
-  same-level = ap (level s) e
-
-  -- as many chunks
-  pub count-swap : (l : ℕ) → 0 < y .key → 0 < o .key → count s l (xs ++ y ∷ zs) ≡ count s l (xs ++ o ∷ zs)
-  count-swap l p q = go (ltb l (level s (o .key))) refl (eqb l (level s (o .key))) refl
-    where
-      go : (t : Bool) → ltb l (level s (o .key)) ≡ t → (r : Bool) → eqb l (level s (o .key)) ≡ r → count s l (xs ++ y ∷ zs) ≡ count s l (xs ++ o ∷ zs)
-      go true a r b =
-          let h = ltb-true l (level s (o .key)) a in
-          omega (arith, count-high s l xs y zs p (rw same-level h), count-high s l xs o zs q h)
-      go false a true b =
-          let h = sym (eqb-true l (level s (o .key)) b) in
-          omega (arith, count-same s l xs y zs p (same-level ∙ h), count-same s l xs o zs q h)
-      go false a false b =
-          let h : level s (o .key) < l = omega (arith, ltb-false l (level s (o .key)) a, eqb-false l (level s (o .key)) b) in
-          count-low s l xs y zs p (rw same-level h) ∙ sym (count-low s l xs o zs q h)
-
-  pub chunks-swap : 0 < y .key → 0 < o .key → 0 < s .nodes → length (chunks s (xs ++ y ∷ zs)) ≡ length (chunks s (xs ++ o ∷ zs))
-  unfolding counts
-  chunks-swap p q b =
-      let e = counts-kept s (xs ++ y ∷ zs) (xs ++ o ∷ zs) 0 (beta s) (λ l h low. count-swap l p q) in
-      omega (arith, length-chunks s (xs ++ y ∷ zs) b, length-chunks s (xs ++ o ∷ zs) b, rw (zero-add (beta s)) at e)
-
   -- above level 1 the nodes have the key only
   masked-swap : (l : ℕ) → 1 < l → masked l y ≡ masked l o
   unfolding masked
@@ -90,7 +64,7 @@ module _ (s : Sizes) (xs : List Order) (y o : Order) (zs : List Order) (e : y .k
         level-nodes s (xs ++ y ∷ zs) (some-nodes s xs y zs w) (all-up s xs y zs w) l (omega arith) low f i
         ∙ ap (λ (ns : List Order). take (s .nodes) (drop (i * s .nodes) ns)) (part-swap l f q (all-up s xs y zs w) (all-up s xs o zs v))
         ∙ sym (level-nodes s (xs ++ o ∷ zs) (some-nodes s xs o zs v) (all-up s xs o zs v) l (omega arith) low f i))
-        (λ l q low. count-swap l (key-pos s xs y zs w) (key-pos s xs o zs v))
+        (λ l q low. count-swap s xs y o zs e (key-pos s xs y zs w) l)
 
     -- the node stands between ps and qs in partition f of level 1
     pub swapped : (f m : ℕ) (ps qs : List Order) (bs bs′ : List ℕ) → Replaces s f m o bs bs′ → bs ≡ image s (xs ++ y ∷ zs) → m ≡ length ps → length (ps ++ y ∷ qs) ≤ 65536 →
@@ -106,5 +80,5 @@ module _ (s : Sizes) (xs : List Order) (y o : Order) (zs : List Order) (e : y .k
         way-even s (xs ++ y ∷ zs) (xs ++ o ∷ zs) (w .good) (v .good) (v .fit) bs′
         (one-changed s (xs ++ y ∷ zs) (xs ++ o ∷ zs) (some-nodes s xs y zs w) (all-up s xs y zs w) (all-up s xs o zs v) 0 low bs t bs′ f (ps ++ y ∷ qs) (ps ++ o ∷ qs)
         (rw (masked-one (ps ++ y ∷ qs), masked-one (ps ++ o ∷ qs)) k) c h
-        (simp length-append (omega (arith, count-swap 1 (key-pos s xs y zs w) (key-pos s xs o zs v)))))
+        (simp length-append (omega (arith, count-swap s xs y o zs e (key-pos s xs y zs w) 1))))
         (simp length-append)

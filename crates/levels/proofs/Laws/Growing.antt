@@ -18,16 +18,15 @@ use Rattle.sizes.proofs.Laws.Sizes.{some-nodes}
 use Rattle.skiplist.specs.Lists.{masked, first-key, chunks, blocks}
 use Rattle.skiplist.proofs.Laws.Parts.{Up, below, up-front, good-up, part}
 use Rattle.skiplist.proofs.Laws.Edits.{head-part, tail-part, part-at, level-most}
-use Rattle.skiplist.proofs.Laws.Descent.{last-from, step-down, start-top, head-below, tail-above}
+use Rattle.skiplist.proofs.Laws.Descent.{last-from, step-down, head-below, tail-above}
 use Rattle.skiplist.proofs.Laws.Count.{pieces, pieces-up, pieces-cut, count, counts, count-low, count-same, count-high, length-chunks}
 use Rattle.skiplist.proofs.Laws.Faithful.{map-is}
 use Rattle.skiplist.proofs.Laws.Masks.{map-take, map-drop, below-masked, up-masked, last-masked}
 use Rattle.skiplist.proofs.Laws.Image.{image-keeps}
 use Rattle.levels.specs.declared.Spot.{Spot}
-use Rattle.levels.specs.Edit.{Pieces, Scans, Reaches, Way, Leads, Grows}
+use Rattle.levels.specs.Edit.{Pieces, Scans, Way, Grows}
 use Rattle.levels.specs.Scan.{Grown}
 use Rattle.levels.proofs.Laws.Chunking.{pieces-full, pieces-up-to}
-use Rattle.levels.proofs.Laws.Scanning.{reached}
 
 -- THE CHUNKS of so many nodes
 module _ (b n : ℕ) where
@@ -128,22 +127,26 @@ module _ (s : Sizes) (bs : List ℕ) (y : ℕ) (xs zs : List Order) (w : Way s b
     pub upper : Up y (map (masked k) (tail-part s k zs))
     upper = up-masked k y (tail-part s k zs) (tail-above s k y zs (w .high))
 
+    abbrev nodes : List Order → List Order
+    nodes ns = map (masked k) ns
+
     module _ (x : Spot) where
-      -- what a reach then says
-      pub seen : Reaches s bs k f y x → (x .below ≡ length (head-part s k xs)) × (x .last ≡ last-from 0 (head-part s k xs))
-      unfolding Reaches
-      seen h =
-          let e = h _ _ _ (map (masked k) (head-part s k xs)) (map (masked k) (tail-part s k zs)) kept lo there lower upper in
-          (e .0 ∙ length-map (head-part s k xs) (masked k), e .1 ∙ last-masked k 0 (head-part s k xs))
+      -- what a scan then says
+      module _ (h : Scans s bs k f y x) where
+        scanned : x ≡ record { below = length (nodes (head-part s k xs)); last = last-from 0 (nodes (head-part s k xs)); size = length (nodes (head-part s k xs) ++ nodes (tail-part s k zs)) }
+        unfolding Scans
+        scanned = h _ _ _ (nodes (head-part s k xs)) (nodes (tail-part s k zs)) kept lo there lower upper
 
-      -- .. and a scan
-      pub seen-size : Scans s bs k f y x → x .size ≡ length (head-part s k xs) + length (tail-part s k zs)
-      unfolding Scans
-      seen-size h =
-          ap (λ (z : Spot). z .size) (h _ _ _ (map (masked k) (head-part s k xs)) (map (masked k) (tail-part s k zs)) kept lo there lower upper)
-          ∙ simp (length-append, length-map)
+        pub seen-below : x .below ≡ length (head-part s k xs)
+        seen-below = ap (λ (z : Spot). z .below) scanned ∙ length-map (head-part s k xs) (masked k)
 
--- the partition that a reach comes to, from partition f of level top on: after it, the one that its last node heads
+        pub seen-last : x .last ≡ last-from 0 (head-part s k xs)
+        seen-last = ap (λ (z : Spot). z .last) scanned ∙ last-masked k 0 (head-part s k xs)
+
+        pub seen-size : x .size ≡ length (head-part s k xs) + length (tail-part s k zs)
+        seen-size = ap (λ (z : Spot). z .size) scanned ∙ simp (length-append, length-map)
+
+-- the partition that scans come to, from partition f of level top on: after it, the one that its last node heads
 pub record Down (s : Sizes) (bs : List ℕ) (top f y k first : ℕ) : Type 0 where
   pub within : k ≤ top
   pub so-far : (xs zs : List Order) → Way s bs y xs zs → top ≤ beta s → f ≡ first-key (head-part s top xs) → first ≡ first-key (head-part s k xs)
@@ -153,36 +156,16 @@ module _ (s : Sizes) (bs : List ℕ) (top f y : ℕ) where
   down-start = record { within = omega arith; so-far = λ xs zs w h e. e }
 
   module _ (k first : ℕ) (d : Down s bs top f y k first) where
-    pub down-more : 0 < k → (x : Spot) → Reaches s bs k first y x → Down s bs top f y (k - 1) (x .last)
-    down-more h x re = record {
+    pub down-more : 0 < k → (x : Spot) → Scans s bs k first y x → Down s bs top f y (k - 1) (x .last)
+    down-more h x sc = record {
       within = omega (arith, d .within);
       so-far = λ xs zs w t e.
-          seen s bs y xs zs w k h (omega (arith, d .within)) first (d .so-far xs zs w t e) x re .1
+          seen-last s bs y xs zs w k h (omega (arith, d .within)) first (d .so-far xs zs w t e) x sc
           ∙ sym (step-down s (k - 1) xs (up-front xs zs 1 (rising s bs y xs zs w)) ∙ ap (λ (j : ℕ). last-from 0 (head-part s j xs)) up);
     }
       where
         up : suc (k - 1) ≡ k
         up = omega arith
-
--- .. from the top to level l
-pub record Lowering (s : Sizes) (bs : List ℕ) (l y k first : ℕ) : Type 0 where
-  pub down : Down s bs (beta s) 0 y k first
-  pub some : l ≤ beta s → l ≤ k
-
-module _ (s : Sizes) (bs : List ℕ) (l y : ℕ) where
-  pub lowering-start : (top : ℕ) → top ≡ beta s → Lowering s bs l y top 0
-  lowering-start top e = rw e (record { down = down-start s bs (beta s) 0 y; some = λ h. h })
-
-  module _ (k first : ℕ) (d : Lowering s bs l y k first) where
-    pub lowering-more : l < k → (x : Spot) → Reaches s bs k first y x → Lowering s bs l y (k - 1) (x .last)
-    lowering-more h x re = record { down = down-more s bs (beta s) 0 y k first (d .down) (omega arith) x re; some = λ g. omega arith }
-
-    pub lowering-end : k ≤ l → Leads s bs l y first
-    unfolding Leads
-    lowering-end h xs zs w le =
-        let z : k ≡ l = omega (arith, d .some le) in
-        d .down .so-far xs zs w (omega arith) (sym (start-top s xs (up-front xs zs 1 (rising s bs y xs zs w))))
-        ∙ ap (λ (j : ℕ). first-key (head-part s j xs)) z
 
 -- no level above a key's own has more chunks for it
 counts-low : (n k : ℕ) (s : Sizes) (xs : List Order) (o : Order) (zs : List Order) → 0 < o .key → level s (o .key) < k → counts n k s (xs ++ zs) ≡ counts n k s (xs ++ o ∷ zs)
@@ -214,7 +197,7 @@ module _ (s : Sizes) (bs : List ℕ) (f l y : ℕ) where
       size = seen-size s bs y xs zs w k h top first (g .down .so-far xs zs w (omega (arith, level-most s y)) ef) x sc
 
       under : x .below ≡ length (head-part s k xs)
-      under = seen s bs y xs zs w k h top first (g .down .so-far xs zs w (omega (arith, level-most s y)) ef) x (reached s bs k first y x sc) .0
+      under = seen-below s bs y xs zs w k h top first (g .down .so-far xs zs w (omega (arith, level-most s y)) ef) x sc
 
       -- one level
       level-more : r + count s k (xs ++ zs) ≡ count s k (xs ++ o ∷ zs)
@@ -253,7 +236,7 @@ module _ (s : Sizes) (bs : List ℕ) (f l y : ℕ) where
 
     pub growing-more : Growing s bs f l y (k - 1) (sum + r) (x .last)
     growing-more = record {
-      down = down-more s bs l f y k first (g .down) h x (reached s bs k first y x sc);
+      down = down-more s bs l f y k first (g .down) h x sc;
       few = omega (arith, g .few, gr .few, g .down .within);
       more = levels-more;
     }

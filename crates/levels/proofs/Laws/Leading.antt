@@ -2,9 +2,9 @@
 use mathlib.Core.Path.{_≡_, refl, sym, ap, _∙_, subst}
 use mathlib.Core.Bool.{true}
 use mathlib.Core.List.{List, [], _∷_, _++_, map}
-use Prim.Native.Nat.{ℕ, zero, suc, _+_, _*_, _-_, _≤_, _<_}
+use Prim.Native.Nat.{ℕ, zero, suc, _+_, _*_, _-_, _/_, _%_, _≤_, _<_}
 use native.Mathlib.Decide.{decLt}
-use native.Mathlib.Nat.{add-zero, zero-mul, suc-mul, add-comm}
+use native.Mathlib.Nat.{add-zero, zero-mul, suc-mul, add-comm, div-eq-of-lt, mod-eq-of-lt, mul-add-div-right, mul-add-mod-self-right}
 use native.Mathlib.Omega.{arith}
 use borrow.Author.Tests.{ltb-true, ne-eqb, le-ltb, lt-ltb}
 use lib.Dec.{ltb}
@@ -127,6 +127,10 @@ module _ (s : Sizes) (F : Map) (n : ℕ) (hd bs : List ℕ) (t : Table s F n hd 
           go Nothing er = absurd (omega (arith, ap length (none-found s F n hd bs t (label k f j) pos Nothing er refl)))
           go (At b) er = (b, sym er)
 
+      chunk-found : sought j ≡ At (found-block (sought j))
+      unfolding found-block
+      chunk-found = there .1 ∙ ap (λ (r : Found). At (found-block r)) (sym (there .1))
+
       -- its block
       chunk-block : found-block (sought j) ≡ stands-in (t .blocks) (label k f j)
       unfolding found-block
@@ -152,28 +156,50 @@ module _ (s : Sizes) (F : Map) (n : ℕ) (hd bs : List ℕ) (t : Table s F n hd 
 abbrev pub Ends : List ℕ → Trail → Order → Type 0
 Ends bs x z = (x .first ≡ z .key) × Node-at bs (x .at) z
 
+-- WHERE NODE m of partition f of level k stands, counted from 0: in the block of its chunk
+pub record Seated (s : Sizes) (bs : List ℕ) (k f m a : ℕ) : Type 0 where
+  pub block : ℕ
+  pub found : search-in s bs (label k f (m / s .nodes)) ≡ At block
+  pub is : a ≡ 53 + block * block-long s + (8 + 12 * (m % s .nodes))
+
+-- .. as node n of chunk j, counted from 1
+seated : (s : Sizes) (bs : List ℕ) (k f j b n m : ℕ) → search-in s bs (label k f j) ≡ At b → 0 < n → n ≤ s .nodes → m + 1 ≡ j * s .nodes + n → Seated s bs k f m (node-place s b n)
+unfolding node-place
+seated s bs k f j b n m h lo hi e =
+    let less : n - 1 < s .nodes = omega arith in
+    let is : m ≡ j * s .nodes + (n - 1) = omega arith in
+    let q : m / s .nodes ≡ j = rw (is, mul-add-div-right {m = s .nodes} (omega arith) j (n - 1), div-eq-of-lt less) (omega arith) in
+    let r : m % s .nodes ≡ n - 1 = rw (is, mul-add-mod-self-right j (s .nodes) (n - 1)) (mod-eq-of-lt less) in
+    record { block = b; found = rw q h; is = rw r }
+
 -- where it has come, from x and an output o on, through chunks j, j + 1, .. that begin with the nodes ps, if these are all that are not above the key
 pub record Landed (s : Sizes) (bs : List ℕ) (bl : List (Block Chunk)) (k f : ℕ) (r : Trek) (j : ℕ) (ps : List Order) (x : Trail) (o : List ℕ) : Type 0 where
   pub trail : Trail
   pub is : r ≡ trek trail (numbers-in o (x .count) (map (stands-in bl) (labels-from (pieces (s .nodes) (length ps)) k f j)))
   pub count : trail .count ≡ x .count + pieces (s .nodes) (length ps)
   pub ends : (z : Order) → (length ps ≡ 0 → Ends bs x z) → Ends bs trail (last-of z ps)
+  pub seat : (m : ℕ) → (length ps ≡ 0 → Seated s bs k f m (x .at)) → (0 < length ps → m + 1 ≡ j * s .nodes + length ps) → Seated s bs k f m (trail .at)
 
 module _ (s : Sizes) (bs : List ℕ) (bl : List (Block Chunk)) (k f : ℕ) where
   landed-none : (j : ℕ) (x : Trail) (o : List ℕ) → Landed s bs bl k f (trek x o) j [] x o
   unfolding numbers-in labels-from last-of
-  landed-none j x o = record { trail = x; is = rw (pieces-none (s .nodes)); count = omega (arith, pieces-none (s .nodes)); ends = λ z h. h refl }
+  landed-none j x o = record { trail = x; is = rw (pieces-none (s .nodes)); count = omega (arith, pieces-none (s .nodes)); ends = λ z h. h refl; seat = λ m h g. h refl }
 
   -- one chunk more, in block i
-  landed-more : (r : Trek) (j : ℕ) (own rest : List Order) (x : Trail) (o : List ℕ) (i : ℕ) → i ≡ stands-in bl (label k f j) → 0 < length own →
+  landed-more : (r : Trek) (j : ℕ) (own rest : List Order) (x : Trail) (o : List ℕ) (i : ℕ) → i ≡ stands-in bl (label k f j) → search-in s bs (label k f j) ≡ At i → 0 < length own →
+      length own ≤ s .nodes → (0 < length rest → length own ≡ s .nodes) →
       pieces (s .nodes) (length (own ++ rest)) ≡ suc (pieces (s .nodes) (length rest)) → Node-at bs (node-place s i (length own)) (node-at own (length own - 1)) →
       Landed s bs bl k f r (suc j) rest (trod s bs i (length own) (trek x o) .trail) (trod s bs i (length own) (trek x o) .path) → Landed s bs bl k f r j (own ++ rest) x o
   unfolding numbers-in labels-from trod
-  landed-more r j own rest x o i ei some e h w = record {
+  landed-more r j own rest x o i ei found some few full e h w = record {
     trail = w .trail;
     is = w .is ∙ rw (e, ← ei);
     count = omega (arith, w .count, e);
     ends = λ z q. rw (last-append z own rest, last-at z own some) (w .ends (node-at own (length own - 1)) (λ g. (h .1, h)));
+    seat = λ m z g.
+        w .seat m
+        (λ q. seated s bs k f j i (length own) m found some few (omega (arith, g (omega (arith, length-append own rest)), length-append own rest)))
+        (λ q. omega (arith, g (omega (arith, length-append own rest)), length-append own rest, suc-mul j (s .nodes), full q));
   }
 
 -- the first of some pieces, and the others
@@ -233,7 +259,8 @@ module _ (s : Sizes) (F : Map) (n : ℕ) (hd bs : List ℕ) (t : Table s F n hd 
     one-more : (r : Trek) → Landed s bs (t .blocks) k f r (suc j) rest (trodden .trail) (trodden .path) → Landed s bs (t .blocks) k f r j ps x o
     one-more r w =
         subst (λ (z : List Order). Landed s bs (t .blocks) k f r j z x o) (take-append-drop (s .nodes) ps)
-        (landed-more s bs (t .blocks) k f r j own rest x o block (chunk-block s F n hd bs t k f pos j (omega (arith, many, own-some))) own-some
+        (landed-more s bs (t .blocks) k f r j own rest x o block (chunk-block s F n hd bs t k f pos j (omega (arith, many, own-some)))
+        (chunk-found s F n hd bs t k f pos j (omega (arith, many, own-some))) own-some (rw length-take (omega arith)) (λ g. rw length-take (omega (arith, length-drop (s .nodes) ps)))
         (rw (take-append-drop, length-drop) (pieces-full (s .nodes) (length ps) some long)) node w)
 
     pub chunk-last : (m : ℕ) → length ps < s .nodes → Landed s bs (t .blocks) k f (chunks-in s bs k f y (suc m) j (trek x o)) j ps x o

@@ -1,7 +1,7 @@
 -- Laws of a scan: a node comes by, the nodes of a chunk, the chunks of a partition.
 use mathlib.Core.Path.{_≡_, refl, sym, ap, _∙_}
 use mathlib.Core.Logic.{_≢_}
-use mathlib.Core.Bool.{Bool, true, false, true≢false}
+use mathlib.Core.Bool.{true}
 use mathlib.Core.List.{List, [], _∷_, _++_}
 use Prim.Native.Nat.{ℕ, zero, suc, _+_, _*_, _-_, _≤_, _<_}
 use native.Mathlib.Nat.{zero-mul, add-zero, sub-zero, suc-mul, mul-le-mul-right}
@@ -9,7 +9,7 @@ use native.Mathlib.Numerals.{add-one}
 use native.Mathlib.Omega.{arith}
 use borrow.Author.Tests.{ltb-true, lt-ltb, le-ltb}
 use lib.Dec.{ltb}
-use lib.ListN.{length, getD, take, drop, length-append, length-take, length-drop, take-append-drop}
+use lib.ListN.{length, getD, take, drop, length-append, length-take, length-drop}
 use lib.Seq.{take-all, take-add}
 use Rattle.sizes.specs.Numbers.{field}
 use Rattle.sizes.specs.Header.{block-long}
@@ -23,11 +23,11 @@ use Rattle.placement.specs.declared.Found.the-variants.{At, Nothing}
 use Rattle.sizes.proofs.Laws.Sizes.{some-nodes}
 use Rattle.placement.proofs.Laws.Tables.{count-most, count-some, remove-keeps}
 use Rattle.placement.proofs.Laws.Reading.{node-at, key-read}
-use Rattle.skiplist.proofs.Laws.Parts.{Up, below, up-front, and-left, and-right}
+use Rattle.skiplist.proofs.Laws.Parts.{Up, below, and-left, and-right}
 use Rattle.skiplist.proofs.Laws.Count.{pieces}
 use Rattle.skiplist.proofs.Laws.Descent.{last-from}
 use Rattle.levels.specs.declared.Spot.{Spot}
-use Rattle.levels.specs.Edit.{Pieces, Scans, Reaches, Spots}
+use Rattle.levels.specs.Edit.{Pieces, most-nodes, Scans}
 use Rattle.levels.specs.Scan.{passed, passes}
 use Rattle.levels.proofs.Laws.MapLabels.{cleared-other}
 use Rattle.levels.proofs.Laws.Takes.{none-found, some-found, counted}
@@ -120,20 +120,6 @@ passed-both y ps qs l u w ew =
     let m : w .size ≡ length (ps ++ qs) = rw length-append (omega (arith, b .2, r .2)) in
     λ i. record { below = n i; last = (r .1 ∙ b .1) i; size = m i }
 
--- .. or as many as it takes for one that is not below y
-passed-some : (y m : ℕ) (ps qs : List Order) (x : Spot) → below y ps ≡ true → Up y qs → x .size ≤ x .below → (w : Spot) → w ≡ passed-all y (take m (ps ++ qs)) x →
-    w .below < w .size → (w .below ≡ x .below + length ps) × (w .last ≡ last-from (x .last) ps)
-unfolding passed-all below last-from
-passed-some y m [] qs x l u e w ew h =
-    let r = passed-above y y (take m qs) x (omega arith) (up-front (take m qs) (drop m qs) y (rw take-append-drop u)) w ew in
-    (omega (arith, r .0), r .1)
-passed-some y zero (p ∷ ps) qs x l u e w ew h = absurd (omega (arith, ap (λ (v : Spot). v .below) ew, ap (λ (v : Spot). v .size) ew))
-passed-some y (suc m) (p ∷ ps) qs x l u e w ew h =
-    let lt = ltb-true (p .key) y (and-left (ltb (p .key) y) (below y ps) l) in
-    let r = passed-some y m ps qs (record { below = x .below + 1; last = p .key; size = x .size + 1 }) (and-right (ltb (p .key) y) (below y ps) l) u (omega arith) w
-    (ew ∙ ap (passed-all y (take m (ps ++ qs))) (sym (passed-low (p .key) y x lt))) h in
-    (omega (arith, r .0), r .1)
-
 -- the keys that stand in bytes are those of some nodes
 keys-read : (bs : List ℕ) (y : ℕ) (ns : List Order) (a : ℕ) (x : Spot) → ((j : ℕ) → j < length ns → field (a + 12 * j) 4 bs ≡ node-at ns j .key) →
     passes bs (length ns) a y x ≡ passed-all y ns x
@@ -186,12 +172,6 @@ pub record Came (s : Sizes) (bs : List ℕ) (k f y i n : ℕ) (w : Spot) : Type 
   pub next : Scanning s bs k f y (i + 1) w
   pub stop : n < s .nodes → Scans s bs k f y w
 
--- what a scan says, as far as a reach says it
-pub reached : (s : Sizes) (bs : List ℕ) (k f y : ℕ) (z : Spot) → Scans s bs k f y z → Reaches s bs k f y z
-unfolding Scans Reaches
-reached s bs k f y z sc F n hd ps qs t pos c low high =
-    let e = sc F n hd ps qs t pos c low high in (ap (λ (v : Spot). v .below) e, ap (λ (v : Spot). v .last) e)
-
 -- no more nodes than came by
 all-came : (s : Sizes) (bs : List ℕ) (k f y i : ℕ) (z : Spot) → Scanning s bs k f y i z →
     ((F : Map) (n : ℕ) (hd : List ℕ) (ns : List Order) → Table s F n hd bs → 0 < k → Pieces F (s .nodes) k f 0 ns → length ns ≤ i * s .nodes) → Scans s bs k f y z
@@ -204,19 +184,9 @@ module _ (s : Sizes) (bs : List ℕ) (k f y i : ℕ) (z : Spot) (p : Scanning s 
   pub scanning-end : s .blocks ≤ i → Scans s bs k f y z
   scanning-end h = all-came s bs k f y i z p (λ F n hd ns t pos c. omega (arith, chunks-most s k f pos F n hd bs ns t c, mul-le-mul-right (s .nodes) h))
 
-  -- what a spot says once all nodes came by
-  pub spot-all : s .blocks ≤ 65535 → (whole : Bool) → Scans s bs k f y z → Spots s bs k f y whole z
-  spot-all b whole sc = record { reaches = reached s bs k f y z sc; scans = λ e. sc; few = p .few; most = omega (arith, p .most, p .within) }
-
-  -- .. or one that is not below y
-  past : z .below < z .size → Reaches s bs k f y z
-  unfolding Reaches
-  past h F n hd ps qs t pos c low high =
-      let r = passed-some y (i * s .nodes) ps qs start low high (omega arith) z (p .so-far F n hd (ps ++ qs) t pos c) h in
-      (omega (arith, r .0), r .1)
-
-  pub spot-past : s .blocks ≤ 65535 → (whole : Bool) → whole ≡ false → z .below < z .size → Spots s bs k f y whole z
-  spot-past b whole n h = record { reaches = past h; scans = λ e. absurd (true≢false (sym e ∙ n)); few = p .few; most = omega (arith, p .most, p .within) }
+  -- what a scan says once all nodes came by
+  pub scanned : s .blocks ≤ 65535 → Scans s bs k f y z → Scans s bs k f y z × (z .below ≤ z .size) × (z .size ≤ most-nodes)
+  scanned b sc = (sc, p .few, omega (arith, p .most, p .within))
 
   module _ (r : Found) (er : r ≡ search-in s bs (label k f i)) where
     pub scanning-none : r ≡ Nothing → Scans s bs k f y z

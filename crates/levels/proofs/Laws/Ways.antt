@@ -1,6 +1,6 @@
 -- Laws of the way down on any bytes: the nodes of a chunk, the chunks of a level, the levels.
 use mathlib.Core.Path.{_≡_, refl, sym, ap, _∙_}
-use mathlib.Core.List.{List}
+use mathlib.Core.List.{List, [], _∷_}
 use Prim.Native.Nat.{ℕ, suc, _+_, _*_, _-_, _≤_, _<_}
 use native.Mathlib.Nat.{zero-add}
 use native.Mathlib.Omega.{arith}
@@ -22,7 +22,7 @@ use Rattle.placement.proofs.Laws.Cells.{cond-valid}
 use Rattle.placement.proofs.Laws.Loops.{search-below}
 use Rattle.placement.proofs.Laws.Behind.{search-behind}
 use Rattle.levels.specs.declared.Trail.{Trail}
-use Rattle.levels.specs.Ways.{Trek, trek, coming, starting, number-in, upto-in, reached-in, found-upto, found-block, node-place, trod, chunks-in, along-in, down-in}
+use Rattle.levels.specs.Ways.{Trek, trek, coming, starting, number-in, upto-in, reached-in, found-upto, found-block, node-place, trod, chunks-in, along-in, down-in, way-down}
 
 -- THE NODES of a chunk
 pub record Upto (bs : List ℕ) (n at y i : ℕ) : Type 0 where
@@ -220,3 +220,8 @@ module _ (s : Sizes) (bs : List ℕ) (top l y : ℕ) (o : List ℕ) where
     down-end h =
         let d : k - l ≡ 0 = omega arith in
         sym (p .rest ∙ rw d)
+
+-- THE WAY ALONE
+pub way-alone : (s : Sizes) (bs : List ℕ) (top l y : ℕ) (t : Trail) (z : List ℕ) → trek t z ≡ down-in s bs l y (top - l) (trek starting (0 ∷ [])) → t ≡ way-down s bs top l y
+unfolding way-down
+way-alone s bs top l y t z e = ap (λ (x : Trek). x .trail) e

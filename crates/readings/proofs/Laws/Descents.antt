@@ -30,7 +30,7 @@ use Rattle.table.specs.Walk.{node-of}
 use Rattle.table.proofs.Laws.Descents.{path-long}
 use Rattle.levels.specs.declared.Trail.{Trail}
 use Rattle.levels.specs.Edit.{Way}
-use Rattle.levels.specs.Ways.{Trek, trek, starting, down-in}
+use Rattle.levels.specs.Ways.{Trek, trek, starting, down-in, way-down}
 use Rattle.levels.proofs.Laws.Numbers.{numbers-in, numbers-long, numbers-room, Goes, goes-down}
 use Rattle.levels.proofs.Laws.Leading.{last-of, last-append, Ends}
 use Rattle.levels.proofs.Laws.Arriving.{arrives, last-listed}
@@ -157,7 +157,7 @@ module _ (s : Sizes) (bs : List ℕ) (w : Known s bs) (k : ℕ) (pos : 1 ≤ k) 
           trail = a .trail;
           is = rw (e, eq, top) (a .is);
           count = rw (e, length-map) (a .count ∙ zero-add _);
-          ends = rw (last-listed s xs) at (a .ends (omega (arith, rk .top-least, rk .top-is, ap beta eq)));
+          ends = rw (last-listed s xs) at (a .ended (omega (arith, rk .top-least, rk .top-is, ap beta eq)) .ends);
         }
 
     -- THE ORDER OF THE KEY is what stands there, if it has the key
@@ -185,3 +185,8 @@ module _ (s : Sizes) (bs : List ℕ) (w : Known s bs) (k : ℕ) (pos : 1 ≤ k) 
     order-right o t z e r er =
         let v = ends-right o in
         er ∙ ap (λ (x : Trek). landed bs (x .trail .at) k) (e ∙ v .1 .is) ∙ landed-is bs k (v .1 .trail) (v .0) (v .1 .ends) ∙ v .2
+
+    -- .. by the way alone
+    pub order-alone : (t : Trail) → t ≡ way-down (q .sizes) bs (q .top) 0 k → (r : Sought) → r ≡ landed bs (t .at) k → r ≡ first-enough 0 (between k k (orders-in bs))
+    unfolding way-down
+    order-alone t e r er = order-right (0 ∷ []) t (way q bs k (0 ∷ []) .path) (ap (λ (x : Trail). trek x (way q bs k (0 ∷ []) .path)) e) r er

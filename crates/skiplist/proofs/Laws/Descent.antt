@@ -1,6 +1,6 @@
 -- The way down: the partition that is open at a level after some orders is headed by the last node of the one open a level up.
 use mathlib.Core.Path.{_≡_, refl, sym, _∙_}
-use mathlib.Core.Bool.{Bool, true, _&&_, cond}
+use mathlib.Core.Bool.{Bool, true, false, _&&_, cond}
 use mathlib.Core.List.{List, [], _∷_, _++_}
 use Prim.Native.Nat.{ℕ, suc, _<_}
 use native.Mathlib.Omega.{arith}
@@ -69,6 +69,29 @@ pub all-there : (s : Sizes) (xs : List Order) → at-least s 1 xs ≡ xs
 unfolding at-least
 all-there s [] = refl
 all-there s (x ∷ xs) = rw (le-leb 1 (level s (x .key)) (level-least s (x .key)), all-there s xs)
+
+-- the partition that is open after some orders and one more
+opened-one : (st : Order → Bool) (p xs : List Order) (y : Order) → opened st p (xs ++ y ∷ []) ≡ opened st (opened st p xs) (y ∷ [])
+unfolding opened
+opened-one st p [] y = refl
+opened-one st p (x ∷ xs) y = go (st x) (opened-one st (x ∷ []) xs y) (opened-one st (p ++ x ∷ []) xs y)
+  where
+    go : (t : Bool) → opened st (x ∷ []) (xs ++ y ∷ []) ≡ opened st (opened st (x ∷ []) xs) (y ∷ []) →
+        opened st (p ++ x ∷ []) (xs ++ y ∷ []) ≡ opened st (opened st (p ++ x ∷ []) xs) (y ∷ []) →
+        cond t (opened st (x ∷ []) (xs ++ y ∷ [])) (opened st (p ++ x ∷ []) (xs ++ y ∷ []))
+        ≡ opened st (cond t (opened st (x ∷ []) xs) (opened st (p ++ x ∷ []) xs)) (y ∷ [])
+    go true a b = a
+    go false a b = b
+
+-- .. at level 1
+module _ (s : Sizes) (xs : List Order) (y : Order) where
+  pub head-high : 1 < level s (y .key) → head-part s 1 (xs ++ y ∷ []) ≡ y ∷ []
+  unfolding head-part opened
+  head-high h = rw (all-there s (xs ++ y ∷ []), opened-one (starts-one s 1) (front ∷ []) xs y, starts s 1 y h)
+
+  pub head-low : 0 < y .key → level s (y .key) ≡ 1 → head-part s 1 (xs ++ y ∷ []) ≡ head-part s 1 xs ++ y ∷ []
+  unfolding head-part opened
+  head-low p h = rw (all-there s (xs ++ y ∷ []), all-there s xs, opened-one (starts-one s 1) (front ∷ []) xs y, stays s 1 y p (omega arith))
 
 -- keys of what is open are below, of what goes on above
 pub below-both : (k : ℕ) (xs zs : List Order) → below k xs ≡ true → below k zs ≡ true → below k (xs ++ zs) ≡ true

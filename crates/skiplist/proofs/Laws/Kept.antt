@@ -1,6 +1,6 @@
 -- What the plain book keeps: orders stay good and fit.
 use mathlib.Core.Path.{_≡_, refl, sym, _∙_, subst}
-use mathlib.Core.Bool.{Bool, true, false, _||_, cond, false≢true}
+use mathlib.Core.Bool.{Bool, true, false, not, _||_, cond, false≢true}
 use mathlib.Core.List.{List, [], _∷_, _++_, append-nil}
 use Prim.Native.Nat.{ℕ, suc, _≤_, _<_}
 use native.Mathlib.Omega.{arith}
@@ -11,16 +11,17 @@ use Rattle.sizes.specs.Sizes.{prime, beta}
 use Rattle.sizes.specs.declared.Sizes.{Sizes}
 use Rattle.placement.specs.declared.Order.{Order}
 use Rattle.placement.proofs.Laws.Cells.{cond-valid}
-use Rattle.sizes.proofs.Laws.Sizes.{and-parts}
 use Rattle.skiplist.specs.Lists.{chunks}
 use Rattle.skiplist.specs.Image.{into, quantities-good, orders-good, fits}
-use Rattle.skiplist.specs.Questions.{first-no, is-key, held, without, with-order, order, asks-put, asks-key}
-use Rattle.skiplist.specs.Book.{Call, put, cancel, lookup, descent, span, seek, check, asks, changed, book-refusal, booked, book}
+use Rattle.skiplist.specs.Questions.{first-no, all-yes, is-key, held, without, with-order, order, asks-order, asks-room, asks-enter, asks-amend, asks-key}
+use Rattle.skiplist.specs.Book.{Call, enter, amend, cancel, lookup, descent, span, seek, check, asks, changed, book-refusal, booked, book}
+use Rattle.skiplist.specs.Promise.{Amend-has-room}
 use Rattle.skiplist.proofs.Laws.Questions.{passes}
 use Rattle.skiplist.proofs.Laws.Parts.{Up, up-from, and-left, and-right, or-left, or-right, up-past, Good, good-parts, good-up, without-here, up-out, below}
-use Rattle.skiplist.proofs.Laws.Shapes.{Place, there, absent, place, held-absent}
+use Rattle.skiplist.proofs.Laws.Shapes.{Place, there, absent, place, held-absent, put-old}
+use Rattle.skiplist.proofs.Laws.Keys.{chunks-swap}
 use Rattle.skiplist.proofs.Laws.Count.{length-chunks, chunks-more, counts-none}
-use Rattle.sizes.proofs.Laws.Sizes.{Limits}
+use Rattle.sizes.proofs.Laws.Sizes.{Limits, some-nodes, and-parts}
 
 pub good-make : (a : ℕ) (o : Order) (os : List Order) → a ≤ o .key → ltb (o .key) prime ≡ true → quantities-good (o .total) (o .displayed) ≡ true → orders-good (suc (o .key)) os ≡ true → orders-good a (o ∷ os) ≡ true
 unfolding orders-good
@@ -102,6 +103,23 @@ fits-without s k os b u h e = go (place k 1 os u)
         (subst (λ (n : ℕ). fits s (without n (xs ++ y ∷ zs)) ≡ true) p (rw (without-here xs y zs 1 v) (fits-fewer s xs y zs b (up-past xs y zs 1 v) (rw q at e))))
     go (absent xs zs q f g) = absurd (false≢true (sym (held-absent k xs zs f g) ∙ subst (λ (z : List Order). held k z ≡ true) q h))
 
+-- with the quantities of a held key replaced it fits as before
+pub fits-over : (s : Sizes) (k t d : ℕ) (os : List Order) → 0 < s .nodes → Up 1 os → held k os ≡ true → fits s os ≡ true → fits s (with-order (order k t d) os) ≡ true
+fits-over s k t d os b u h e = go (place k 1 os u)
+  where
+    go : Place k os → fits s (with-order (order k t d) os) ≡ true
+    go (there xs y zs q p) =
+        let v : Up 1 (xs ++ y ∷ zs) = subst (Up 1) q u in
+        let w = fits-parts s (xs ++ y ∷ zs) (rw q at e) in
+        let n : length (xs ++ y ∷ zs) ≡ length (xs ++ order k t d ∷ zs) = simp length-append in
+        rw (q, put-old (order k t d) y xs zs 1 p v)
+        (fits-make s (xs ++ order k t d ∷ zs) (omega (arith, w .few, n)) (omega (arith, w .room, chunks-swap s xs y (order k t d) zs p (up-past xs y zs 1 v) b)))
+    go (absent xs zs q f g) = absurd (false≢true (sym (held-absent k xs zs f g) ∙ subst (λ (z : List Order). held k z ≡ true) q h))
+
+pub amend-has-room : Amend-has-room
+unfolding Amend-has-room all-yes asks-room
+amend-has-room s os k t d m g e h = rw (h, fits-over s k t d os (some-nodes s m) (good-up 1 os g) h e)
+
 -- THE BOOK KEEPS WHAT A TABLE NEEDS
 pub record Kept (s : Sizes) (os : List Order) : Type 0 where
   pub good : orders-good 1 os ≡ true
@@ -111,18 +129,28 @@ pub kept-none : (s : Sizes) → Limits s → Kept s []
 unfolding orders-good
 kept-none s m = record { good = refl; fit = fits-make s [] (omega arith) (rw (length-chunks s [] (m .nodes-some), counts-none (beta s) 1 s) (m .blocks-least)) }
 
-pub kept-put : (s : Sizes) (k t d : ℕ) (os : List Order) → Kept s os → book-refusal s (put k t d) os ≡ 0 → Kept s (with-order (order k t d) os)
-unfolding book-refusal asks first-no asks-put with-order is-key
-kept-put s k t d os w e =
+good-with : (k t d : ℕ) (os : List Order) → orders-good 1 os ≡ true → is-key k ≡ true → quantities-good t d ≡ true → orders-good 1 (with-order (order k t d) os) ≡ true
+unfolding with-order is-key
+good-with k t d os w a q =
+    good-into 1 (order k t d) (without k os) (leb-true 1 k (and-left (leb 1 k) (ltb k prime) a)) (and-right (leb 1 k) (ltb k prime) a) q
+    (held-without k 1 os (good-up 1 os w)) (good-without 1 k os w)
+
+pub kept-enter : (s : Sizes) (k t d : ℕ) (os : List Order) → Kept s os → book-refusal s (enter k t d) os ≡ 0 → Kept s (with-order (order k t d) os)
+unfolding book-refusal asks first-no asks-enter asks-order asks-room
+kept-enter s k t d os w e =
     let a = passes 4 (is-key k) _ e in
     let q = passes 5 (quantities-good t d) _ (a .1) in
-    let f = passes 7 (fits s (with-order (order k t d) os)) 0 (passes 6 (held k os || ltb (length os) (s .orders)) _ (q .1) .1) in
-    record {
-      good =
-          good-into 1 (order k t d) (without k os) (leb-true 1 k (and-left (leb 1 k) (ltb k prime) (a .0))) (and-right (leb 1 k) (ltb k prime) (a .0)) (q .0)
-          (held-without k 1 os (good-up 1 os (w .good))) (good-without 1 k os (w .good));
-      fit = f .0;
-    }
+    let r = passes 12 (not (held k os)) _ (q .1) in
+    let f = passes 7 (fits s (with-order (order k t d) os)) 0 (passes 6 (held k os || ltb (length os) (s .orders)) _ (r .1) .1) in
+    record { good = good-with k t d os (w .good) (a .0) (q .0); fit = f .0 }
+
+pub kept-amend : (s : Sizes) → Limits s → (k t d : ℕ) (os : List Order) → Kept s os → book-refusal s (amend k t d) os ≡ 0 → Kept s (with-order (order k t d) os)
+unfolding book-refusal asks first-no asks-amend asks-order
+kept-amend s m k t d os w e =
+    let a = passes 4 (is-key k) _ e in
+    let q = passes 5 (quantities-good t d) _ (a .1) in
+    let h = passes 8 (held k os) 0 (q .1) in
+    record { good = good-with k t d os (w .good) (a .0) (q .0); fit = fits-over s k t d os (m .nodes-some) (good-up 1 os (w .good)) (h .0) (w .fit) }
 
 pub kept-cancel : (s : Sizes) → Limits s → (k : ℕ) (os : List Order) → Kept s os → book-refusal s (cancel k) os ≡ 0 → Kept s (without k os)
 unfolding book-refusal asks first-no asks-key
@@ -132,7 +160,8 @@ kept-cancel s m k os w e =
 
 pub kept-changed : (s : Sizes) → Limits s → (c : Call) (os : List Order) → Kept s os → book-refusal s c os ≡ 0 → Kept s (changed c os)
 unfolding changed
-kept-changed s m (put k t d) os w e = kept-put s k t d os w e
+kept-changed s m (enter k t d) os w e = kept-enter s k t d os w e
+kept-changed s m (amend k t d) os w e = kept-amend s m k t d os w e
 kept-changed s m (cancel k) os w e = kept-cancel s m k os w e
 kept-changed s m (lookup k) os w e = w
 kept-changed s m (descent k o) os w e = w

@@ -1,6 +1,6 @@
 -- Calls on a table, from what an image reads back as: the table that they leave is the image of what the plain book leaves.
 use mathlib.Core.Path.{_≡_, refl, sym, ap, _∙_}
-use mathlib.Core.Bool.{Bool, true, false, _&&_, cond, false≢true, or-true}
+use mathlib.Core.Bool.{Bool, true, false, _&&_, cond, false≢true}
 use mathlib.Core.List.{List, [], _∷_, _++_, append-assoc, append-nil}
 use Prim.Native.Nat.{ℕ, suc, _<_}
 use native.Mathlib.Omega.{arith}
@@ -14,44 +14,45 @@ use Rattle.sizes.specs.declared.Sizes.{Sizes}
 use Rattle.placement.specs.declared.Order.{Order}
 use Rattle.placement.proofs.Laws.Cells.{cond-out}
 use Rattle.skiplist.specs.Image.{image, orders-in, orders-good, fits, same, is-image}
-use Rattle.skiplist.specs.Questions.{first-no, is-key, held, asks-image, asks-put}
-use Rattle.skiplist.specs.Book.{Call, put, asks, changed, book-refusal, booked, book, refusal, done, after}
+use Rattle.skiplist.specs.Questions.{first-no, is-key, held, asks-image, asks-order, asks-room, asks-enter}
+use Rattle.skiplist.specs.Book.{Call, enter, asks, changed, book-refusal, booked, book, refusal, done, after}
 use Rattle.skiplist.specs.Promise.{Image-reads-back, Lists-image, Equal-exactly, Checks-exactly}
 use Rattle.skiplist.proofs.Laws.Questions.{passes}
 use Rattle.skiplist.proofs.Laws.Parts.{and-left, and-right, up-past, Good, good-parts, good-up, below-here}
-use Rattle.skiplist.proofs.Laws.Shapes.{put-new}
+use Rattle.skiplist.proofs.Laws.Shapes.{held-absent, put-new}
 use Rattle.skiplist.proofs.Laws.Kept.{fits-parts, fits-prefix, Kept, kept-none, kept-booked, kept-book}
 use Rattle.sizes.proofs.Laws.Sizes.{Limits, limits}
 
--- a list of puts that gives some orders
-unfoldable pub puts : List Order → List Call
-puts [] = []
-puts (o ∷ os) = put (o .key) (o .total) (o .displayed) ∷ puts os
+-- a list of calls that enters some orders
+unfoldable pub enters : List Order → List Call
+enters [] = []
+enters (o ∷ os) = enter (o .key) (o .total) (o .displayed) ∷ enters os
 
 pub good-at : (xs : List Order) (z : Order) (zs : List Order) (a : ℕ) → orders-good a (xs ++ z ∷ zs) ≡ true → Good 0 z zs
 good-at [] z zs a e = let w = good-parts a z zs e in record { from = omega arith; key = w .key; quantity = w .quantity; others = w .others }
 good-at (x ∷ xs) z zs a e = good-at xs z zs (suc (x .key)) (good-parts a x (xs ++ z ∷ zs) e .others)
 
--- a put of one more order, above all held
+-- one more order, above all held
 pub booked-last : (s : Sizes) (xs : List Order) (z : Order) (zs : List Order) → Limits s → orders-good 1 (xs ++ z ∷ zs) ≡ true → fits s (xs ++ z ∷ []) ≡ true →
-    booked s (put (z .key) (z .total) (z .displayed)) xs ≡ xs ++ z ∷ []
-unfolding booked book-refusal asks changed first-no asks-put is-key
+    booked s (enter (z .key) (z .total) (z .displayed)) xs ≡ xs ++ z ∷ []
+unfolding booked book-refusal asks changed first-no asks-enter asks-order asks-room is-key
 booked-last s xs z zs m g f =
     let u = good-up 1 (xs ++ z ∷ zs) g in
     let w = good-at xs z zs 1 g in
     let v = below-here xs z zs 1 u in
+    let free : held (z .key) xs ≡ false = rw append-nil at (held-absent (z .key) xs [] v tt) in
     let n : length xs < s .orders = omega (arith, simp length-append at (fits-parts s (xs ++ z ∷ []) f .few)) in
-    rw (le-leb 1 (z .key) (up-past xs z zs 1 u), w .key, w .quantity, lt-ltb (length xs) (s .orders) n, or-true (held (z .key) xs), rw append-nil at (put-new z xs [] v tt), f)
+    rw (le-leb 1 (z .key) (up-past xs z zs 1 u), w .key, w .quantity, free, lt-ltb (length xs) (s .orders) n, rw append-nil at (put-new z xs [] v tt), f)
 
-pub book-puts : (s : Sizes) (zs xs : List Order) → Limits s → orders-good 1 (xs ++ zs) ≡ true → fits s (xs ++ zs) ≡ true → book s (puts zs) xs ≡ xs ++ zs
-unfolding book puts
-book-puts s [] xs m g f = sym (append-nil xs)
-book-puts s (z ∷ zs) xs m g f =
+pub book-enters : (s : Sizes) (zs xs : List Order) → Limits s → orders-good 1 (xs ++ zs) ≡ true → fits s (xs ++ zs) ≡ true → book s (enters zs) xs ≡ xs ++ zs
+unfolding book enters
+book-enters s [] xs m g f = sym (append-nil xs)
+book-enters s (z ∷ zs) xs m g f =
     let e : xs ++ z ∷ [] ++ zs ≡ xs ++ z ∷ zs = append-assoc xs (z ∷ []) zs in
     let g′ : orders-good 1 (xs ++ z ∷ [] ++ zs) ≡ true = rw e g in
     let f′ : fits s (xs ++ z ∷ [] ++ zs) ≡ true = rw e f in
-    ap (book s (puts zs)) (booked-last s xs z zs m g (fits-prefix s (xs ++ z ∷ []) zs (m .nodes-some) (good-up 1 (xs ++ z ∷ [] ++ zs) g′) f′))
-    ∙ book-puts s zs (xs ++ z ∷ []) m g′ f′ ∙ e
+    ap (book s (enters zs)) (booked-last s xs z zs m g (fits-prefix s (xs ++ z ∷ []) zs (m .nodes-some) (good-up 1 (xs ++ z ∷ [] ++ zs) g′) f′))
+    ∙ book-enters s zs (xs ++ z ∷ []) m g′ f′ ∙ e
 
 pub same-is : (a b : List ℕ) → same a b ≡ true → a ≡ b
 unfolding same
@@ -137,9 +138,9 @@ module _ (reads : Image-reads-back) where
         let s = sizes-in bs in
         let os = orders-in bs in (
           s,
-          puts os,
+          enters os,
           w .sizes-made,
-          lists-image s (puts os) (w .sizes-made) ∙ rw (book-puts s os [] (limits s (w .sizes-made)) (w .orders-kept .good) (w .orders-kept .fit)) (w .bytes),
+          lists-image s (enters os) (w .sizes-made) ∙ rw (book-enters s os [] (limits s (w .sizes-made)) (w .orders-kept .good) (w .orders-kept .fit)) (w .bytes),
         ),
     λ s cs m e.
         let k = kept-book s (limits s m) cs [] (kept-none s (limits s m)) in

@@ -10,11 +10,11 @@ use lib.ListN.{length}
 use Rattle.placement.specs.declared.Order.{Order}
 use Rattle.skiplist.specs.Image.{is-image, orders-in}
 use Rattle.skiplist.specs.Questions.{first-no, asks-image, asks-range, asks-seek, is-key, held, between, reserve, any-reserve}
-use Rattle.skiplist.specs.Book.{Call, put, cancel, lookup, descent, span, seek, check, asks, refusal, done}
+use Rattle.skiplist.specs.Book.{Call, enter, amend, cancel, lookup, descent, span, seek, check, asks, refusal, done}
 use Rattle.skiplist.proofs.Laws.Questions.{passes}
 use Rattle.skiplist.proofs.Laws.Parts.{Up, good-up}
 use Rattle.skiplist.proofs.Laws.Third.{image-parts}
-use Rattle.table.specs.Calls.{says, Edit-says, Put-says, Cancel-says, check-number, Look-says, Span-says, Span-as, Seek-gives, Seek-says, Seek-as}
+use Rattle.table.specs.Calls.{says, Edit-says, Enter-says, Amend-says, Cancel-says, check-number, Look-says, Span-says, Span-as, Seek-gives, Seek-says, Seek-as}
 use Rattle.table.specs.Promise.{Does, Runs, Runs-exist}
 use Rattle.table.specs.declared.Reply.{Reply}
 use Rattle.table.proofs.Laws.Alike.{here, there}
@@ -91,8 +91,9 @@ span-some zero os o = (record { number = 0; key = 0; total = 0; displayed = 0; c
 span-some (suc n) os o = (record { number = suc n; key = 0; total = 0; displayed = 0; count = 0 }, o, ((refl, refl, refl, refl, refl), refl))
 
 does-some : (c : Call) (x : List ℕ) → (z : List ℕ) × Does c x z
-unfolding Does Put-says Cancel-says Edit-says Look-says Span-says Seek-says
-does-some (put k t d) x = (done (put k t d) x, (refusal (put k t d) x, (refl, refl)))
+unfolding Does Enter-says Amend-says Cancel-says Edit-says Look-says Span-says Seek-says
+does-some (enter k t d) x = (done (enter k t d) x, (refusal (enter k t d) x, (refl, refl)))
+does-some (amend k t d) x = (done (amend k t d) x, (refusal (amend k t d) x, (refl, refl)))
 does-some (cancel k) x = (done (cancel k) x, (refusal (cancel k) x, (refl, refl)))
 does-some (lookup k) x = let w = look-some (refusal (lookup k) x) 0 k (orders-in x) in (x, (w .0, w .1, refl))
 does-some (descent k o) x = let w = descent-some x k o in (x, (w .0, w .1, w .2, refl))

@@ -17,17 +17,17 @@ use Rattle.skiplist.specs.Questions.{first-no, asks-image}
 use Rattle.skiplist.specs.Book.{asks, book, refusal}
 use Rattle.skiplist.proofs.Laws.Questions.{passes}
 use Rattle.skiplist.proofs.Laws.Parts.{good-parts}
-use Rattle.skiplist.proofs.Laws.Third.{image-parts, puts, book-puts}
+use Rattle.skiplist.proofs.Laws.Third.{image-parts, enters, book-enters}
 use Rattle.table.specs.Calls.{check-number}
 use Rattle.table.specs.Promise.{Runs, Made-by, in-range, all-in-range, Given, Demand-3-check, Runs-exist, Make-reaches}
 use Rattle.table.proofs.Laws.Makes.{is-word, make-reaches, make-writes}
 use Rattle.table.proofs.Laws.Runs.{run-holds}
 use Rattle.table.proofs.Laws.Meeting.{runs-exist}
 
-puts-in-range : (a : ℕ) (os : List Order) → orders-good a os ≡ true → all-in-range (puts os) ≡ true
-unfolding all-in-range in-range puts quantities-good
-puts-in-range a [] e = refl
-puts-in-range a (o ∷ os) e =
+enters-in-range : (a : ℕ) (os : List Order) → orders-good a os ≡ true → all-in-range (enters os) ≡ true
+unfolding all-in-range in-range enters quantities-good
+enters-in-range a [] e = refl
+enters-in-range a (o ∷ os) e =
     let w = good-parts a o os e in
     let q = and-parts (leb 1 (o .total) && leb (o .total) 4294967295) (leb (o .displayed) (o .total)) (w .quantity) in
     let t : o .total ≤ 4294967295 = leb-true (o .total) 4294967295 (and-parts (leb 1 (o .total)) (leb (o .total) 4294967295) (q .0) .1) in
@@ -35,7 +35,7 @@ puts-in-range a (o ∷ os) e =
       is-word (o .key) (omega (arith, ltb-true (o .key) prime (w .key))),
       is-word (o .total) (omega arith),
       is-word (o .displayed) (omega (arith, leb-true (o .displayed) (o .total) (q .1))),
-    ) (puts-in-range (suc (o .key)) os (w .others))
+    ) (enters-in-range (suc (o .key)) os (w .others))
 
 given : (bs : List ℕ) → is-image bs ≡ true → Given bs
 unfolding Make-reaches Made-by Runs-exist
@@ -46,17 +46,17 @@ given bs e =
     let m = w .sizes-made in
     let v = make-reaches s m in
     let by : Made-by (v .0) (image s []) = (replicate (table-long s) 0, make-writes s (v .0) (v .2) (v .3)) in
-    let r = runs-exist (puts os) (image s []) in
-    let h = run-holds (v .0) (image s []) (r .0) (puts os) by (r .1) in
-    let o : book s (puts os) [] ≡ os = book-puts s os [] (limits s m) (w .orders-kept .good) (w .orders-kept .fit) in
+    let r = runs-exist (enters os) (image s []) in
+    let h = run-holds (v .0) (image s []) (r .0) (enters os) by (r .1) in
+    let o : book s (enters os) [] ≡ os = book-enters s os [] (limits s m) (w .orders-kept .good) (w .orders-kept .fit) in
     record {
       asked = v .0;
       table = image s [];
-      calls = puts os;
+      calls = enters os;
       makes = by;
-      runs = subst (Runs (puts os) (image s [])) (h .bytes ∙ ap (λ (t : Sizes). image t (book t (puts os) [])) (v .2) ∙ ap (image s) o ∙ w .bytes) (r .1);
+      runs = subst (Runs (enters os) (image s [])) (h .bytes ∙ ap (λ (t : Sizes). image t (book t (enters os) [])) (v .2) ∙ ap (image s) o ∙ w .bytes) (r .1);
       make-in-range = v .1;
-      calls-in-range = puts-in-range 1 os (w .orders-kept .good);
+      calls-in-range = enters-in-range 1 os (w .orders-kept .good);
     }
 
 pub demand-3-check : Demand-3-check

@@ -10,19 +10,20 @@ use Rattle.placement.specs.declared.Order.{Order}
 use Rattle.sizes.proofs.Laws.Sizes.{limits}
 use Rattle.skiplist.specs.Image.{image, is-image, orders-in}
 use Rattle.skiplist.specs.Questions.{sizes}
-use Rattle.skiplist.specs.Book.{Call, put, cancel, lookup, descent, span, seek, check, changed, book, done, after}
+use Rattle.skiplist.specs.Book.{Call, enter, amend, cancel, lookup, descent, span, seek, check, changed, book, done, after}
 use Rattle.skiplist.specs.Promise.{Image-reads-back, Lists-image}
 use Rattle.skiplist.proofs.Laws.Kept.{Kept, kept-none, kept-book}
 use Rattle.skiplist.proofs.Laws.Third.{done-same}
 use Rattle.skiplist.proofs.Laws.Readback.{reads-back, lists-image-holds}
-use Rattle.table.specs.Calls.{Edit-says, Put-says, Cancel-says}
+use Rattle.table.specs.Calls.{Edit-says, Enter-says, Amend-says, Cancel-says}
 use Rattle.table.specs.Promise.{Does, Runs, Made-by, Runs-fixed, Make-only, After-any}
 use Rattle.table.proofs.Laws.Makes.{make-only}
 
 -- a call does to the table what the definitions say
 does-done : (c : Call) (x z : List ℕ) → Does c x z → z ≡ done c x
-unfolding Does Put-says Cancel-says Edit-says changed
-does-done (put k t d) x z h = h .1 .1
+unfolding Does Enter-says Amend-says Cancel-says Edit-says changed
+does-done (enter k t d) x z h = h .1 .1
+does-done (amend k t d) x z h = h .1 .1
 does-done (cancel k) x z h = h .1 .1
 does-done (lookup k) x z h = h .2 ∙ sym (done-same (lookup k) x refl)
 does-done (descent k o) x z h = h .3 ∙ sym (done-same (descent k o) x refl)

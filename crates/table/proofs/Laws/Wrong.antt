@@ -1,6 +1,6 @@
--- The wrong programs of document 01, "Contracts", with those of a descent and of the reserve, and the clause that excludes each: on every table, and then on tables of the run.
+-- The wrong programs of document 01, "Contracts", with those of a descent, of the reserve, of enter and of amend, and the clause that excludes each: on every table, and then on tables of the run.
 use mathlib.Core.Path.{_≡_, refl, sym, ap, _∙_, subst}
-use mathlib.Core.Bool.{Bool, true, false, _&&_, cond, not, false≢true}
+use mathlib.Core.Bool.{Bool, true, false, cond, not, false≢true}
 use mathlib.Core.List.{List, [], _∷_, _++_}
 use Prim.Native.Nat.{ℕ, zero, suc, _*_, _≤_}
 use native.Mathlib.Omega.{arith}
@@ -17,24 +17,24 @@ use Rattle.placement.specs.Chunks.{node-bytes, block-bytes}
 use Rattle.placement.specs.Decode.{node-in, head-label, chunk-of, block-of, blocks-in}
 use Rattle.sizes.specs.declared.Sizes.{Sizes}
 use Rattle.placement.specs.declared.Order.{Order}
-use Rattle.sizes.proofs.Laws.Sizes.{and-parts, limits}
+use Rattle.sizes.proofs.Laws.Sizes.{limits}
 use Rattle.skiplist.specs.Lists.{front, at-least, list-at, starts-one, run, rest, partitions, first-key, pick, part, last-from, masked, chunks-of, pieces, all-chunks, chunks-from, chunks, blocks}
 use Rattle.skiplist.specs.Image.{image, into, all-into, gathered, orders-in, quantities-good, orders-good, fits, same, is-image}
-use Rattle.skiplist.specs.Questions.{Question, ask, first-no, is-key, held, without, with-order, order, between, reserve, any-reserve, any-order, Zero-finds-any, asks-image, asks-put, asks-key, asks-range, asks-span, asks-seek}
+use Rattle.skiplist.specs.Questions.{ask, first-no, is-key, held, without, with-order, order, between, reserve, any-reserve, any-order, Zero-finds-any, asks-image, asks-order, asks-room, asks-enter, asks-amend, asks-key, asks-range, asks-span, asks-seek}
 use Rattle.skiplist.specs.Paths.{greatest, nodes-upto, labels-from, path-labels, stands-in, descent-path, path-bytes, asks-descent}
-use Rattle.skiplist.specs.Book.{Call, put, cancel, lookup, descent, span, seek, check, asks, changed, book-refusal, refusal, done}
-use Rattle.skiplist.specs.Examples.{run-seed, run-sizes, empty-table, put-3, put-6}
-use Rattle.skiplist.proofs.Laws.Questions.{passes, zero-finds-any}
+use Rattle.skiplist.specs.Book.{Call, enter, amend, cancel, lookup, descent, span, seek, check, asks, changed, book-refusal, refusal, done}
+use Rattle.skiplist.specs.Examples.{run-seed, run-sizes, empty-table, enter-3, enter-6}
+use Rattle.skiplist.proofs.Laws.Questions.{passes, zero-finds-any, apart, never, own-question, others, asked-before}
 use Rattle.skiplist.proofs.Laws.Parts.{or-left, or-right, good-up}
 use Rattle.skiplist.proofs.Laws.Kept.{held-without, kept-none, kept-changed}
 use Rattle.skiplist.proofs.Laws.Third.{image-parts, taken}
-use Rattle.table.specs.Calls.{says, Edit-says, Put-says, Cancel-says, check-number, Look-says, shown, Descent-as, Descent-says, Span-says, Span-as, Seek-says, Seek-as}
+use Rattle.table.specs.Calls.{says, Edit-says, Enter-says, Amend-says, Cancel-says, check-number, Look-says, shown, Descent-as, Descent-says, Span-says, Span-as, Seek-says, Seek-as}
 use Rattle.table.specs.declared.Reply.{Reply}
 use Rattle.table.proofs.Laws.Runs.{Holds, holds-image}
 use Rattle.table.proofs.Laws.Descents.{look-number, look-count}
 use Rattle.table.proofs.Laws.Alike.{Tells, here, there, none-held}
 
--- ---- THE CLAUSE ON THE TABLE. A put or cancel that returns 0 leaves the orders as it changes them
+-- ---- THE CLAUSE ON THE TABLE. An enter, amend or cancel that returns 0 leaves the orders as it changes them
 edit-holds : (c : Call) (x z : List ℕ) → Edit-says c 0 x z → Holds (sizes-in x) (changed c (orders-in x)) z
 unfolding Edit-says done
 edit-holds c x z w =
@@ -43,7 +43,7 @@ edit-holds c x z w =
     let p = image-parts x (i .0) in
     holds-image s (changed c (orders-in x)) z (p .sizes-made) (kept-changed s (limits s (p .sizes-made)) c (orders-in x) (p .orders-kept) (i .1)) (w .1 ∙ rw (← w .0))
 
--- a put: its order, with its quantities
+-- an order, with its quantities
 into-tells : (o : Order) (os : List Order) → held (o .key) os ≡ false → Tells (o .key) (o .total) (o .displayed) (into o os)
 unfolding into held
 into-tells o [] e = here o []
@@ -55,11 +55,20 @@ into-tells o (q ∷ os) e = go (ltb (o .key) (q .key)) (into-tells o os (or-righ
         let n = there (o .key) q (into o os) (eqb-false (q .key) (o .key) (or-left (eqb (q .key) (o .key)) (held (o .key) os) e)) in
         (n .0 ∙ w .0, n .1 ∙ w .1, n .2 ∙ w .2)
 
-pub put-tells : (k t d : ℕ) (x z : List ℕ) → Put-says k t d 0 x z → Tells k t d (orders-in z)
-unfolding Put-says Edit-says changed with-order
-put-tells k t d x z w =
-    let p = image-parts x (taken (put k t d) x (sym (w .0)) .0) in
-    rw (edit-holds (put k t d) x z w .orders) (into-tells (order k t d) (without k (orders-in x)) (held-without k 1 (orders-in x) (good-up 1 (orders-in x) (p .orders-kept .good))))
+with-tells : (c : Call) (k t d : ℕ) (x z : List ℕ) → changed c (orders-in x) ≡ with-order (order k t d) (orders-in x) → Edit-says c 0 x z → Tells k t d (orders-in z)
+unfolding Edit-says with-order
+with-tells c k t d x z e w =
+    let p = image-parts x (taken c x (sym (w .0)) .0) in
+    rw (edit-holds c x z w .orders, e) (into-tells (order k t d) (without k (orders-in x)) (held-without k 1 (orders-in x) (good-up 1 (orders-in x) (p .orders-kept .good))))
+
+pub enter-tells : (k t d : ℕ) (x z : List ℕ) → Enter-says k t d 0 x z → Tells k t d (orders-in z)
+unfolding Enter-says changed
+enter-tells k t d x z w = with-tells (enter k t d) k t d x z refl w
+
+-- an amend that leaves the old displayed quantity, or the old total
+pub amend-tells : (k t d : ℕ) (x z : List ℕ) → Amend-says k t d 0 x z → Tells k t d (orders-in z)
+unfolding Amend-says changed
+amend-tells k t d x z w = with-tells (amend k t d) k t d x z refl w
 
 -- a cancel: an order was there, and is gone
 key-held : (s : Sizes) (k : ℕ) (os : List Order) → book-refusal s (cancel k) os ≡ 0 → held k os ≡ true
@@ -73,19 +82,19 @@ cancel-tells k x z w =
     let p = image-parts x (i .0) in
     (key-held (sizes-in x) k (orders-in x) (i .1), ap (held k) (edit-holds (cancel k) x z w .orders) ∙ held-without k 1 (orders-in x) (good-up 1 (orders-in x) (p .orders-kept .good)))
 
--- a put that returns 0 and leaves the table, whatever it did before
-pub idle-put : (k t d : ℕ) (x : List ℕ) → held k (orders-in x) ≡ false → Put-says k t d 0 x x → ⊥
-idle-put k t d x e w = false≢true (sym e ∙ put-tells k t d x x w .0)
+-- an enter that returns 0 and leaves the table, whatever it did before
+pub idle-enter : (k t d : ℕ) (x : List ℕ) → held k (orders-in x) ≡ false → Enter-says k t d 0 x x → ⊥
+idle-enter k t d x e w = false≢true (sym e ∙ enter-tells k t d x x w .0)
 
 -- such a cancel
 pub idle-cancel : (k : ℕ) (x : List ℕ) → Cancel-says k 0 x x → ⊥
 idle-cancel k x w = let t = cancel-tells k x x w in false≢true (sym (t .1) ∙ t .0)
 
 -- a table always written as P3
-pub always-empty : (k t d : ℕ) (x : List ℕ) (s : Sizes) → made s ≡ true → Put-says k t d 0 x (image s []) → ⊥
+pub always-empty : (k t d : ℕ) (x : List ℕ) (s : Sizes) → made s ≡ true → Enter-says k t d 0 x (image s []) → ⊥
 always-empty k t d x s m w =
     let e = holds-image s [] (image s []) m (kept-none s (limits s m)) refl .orders in
-    false≢true (sym (none-held k) ∙ ap (held k) (sym e) ∙ put-tells k t d x (image s []) w .0)
+    false≢true (sym (none-held k) ∙ ap (held k) (sym e) ∙ enter-tells k t d x (image s []) w .0)
 
 -- ---- THE CLAUSES ON THE ANSWER
 span-number : (n : ℕ) (os : List Order) (r : Reply) (o z : List ℕ) → Span-as n os r o z → r .number ≡ n
@@ -134,28 +143,44 @@ early-9 x k r o z i w e =
     go true false c n = absurd (omega arith)
     go false false c n = absurd (omega arith)
 
--- A NUMBER IS GIVEN FOR ITS OWN QUESTION, where no other question has it
-unfoldable apart : (n : ℕ) → List Question → Bool
-apart n [] = not (eqb n 0)
-apart n (ask m t ∷ qs) = not (eqb m n) && apart n qs
-
-never : (n : ℕ) (qs : List Question) → apart n qs ≡ true → first-no qs ≡ n → ⊥
-unfolding apart first-no
-never n [] a e = false≢true (sym (ap not (eq-eqb n 0 (sym e))) ∙ a)
-never n (ask m true ∷ qs) a e = never n qs (and-parts (not (eqb m n)) (apart n qs) a .1) e
-never n (ask m false ∷ qs) a e = false≢true (sym (ap not (eq-eqb m n e)) ∙ and-parts (not (eqb m n)) (apart n qs) a .0)
-
-own-question : (n : ℕ) (qs rs : List Question) (t : Bool) → apart n (qs ++ rs) ≡ true → first-no (qs ++ ask n t ∷ rs) ≡ n → t ≡ false
-unfolding apart first-no
-own-question n [] rs true a e = absurd (never n rs a e)
-own-question n [] rs false a e = refl
-own-question n (ask m true ∷ qs) rs t a e = own-question n qs rs t (and-parts (not (eqb m n)) (apart n (qs ++ rs)) a .1) e
-own-question n (ask m false ∷ qs) rs t a e = absurd (false≢true (sym (ap not (eq-eqb m n e)) ∙ and-parts (not (eqb m n)) (apart n (qs ++ rs)) a .0))
-
 -- an 8 given without looking
-pub blind-8 : (k t d : ℕ) (x z : List ℕ) → Put-says k t d 8 x z → fits (sizes-in x) (with-order (order k t d) (orders-in x)) ≡ false
-unfolding Put-says Edit-says refusal asks first-no asks-image asks-put apart
-blind-8 k t d x z w = own-question 8 (take 4 (asks-image x ++ asks-put (sizes-in x) k t d (orders-in x))) [] _ refl (sym (w .0))
+pub blind-8 : (k t d : ℕ) (x z : List ℕ) → Enter-says k t d 8 x z → fits (sizes-in x) (with-order (order k t d) (orders-in x)) ≡ false
+unfolding Enter-says Edit-says refusal asks first-no asks-image asks-enter asks-order asks-room apart
+blind-8 k t d x z w = own-question 8 (take 5 (asks-image x ++ asks-enter (sizes-in x) k t d (orders-in x))) [] _ refl (sym (w .0))
+
+not-held : (t : Bool) → not t ≡ true → t ≡ false
+not-held true e = sym e
+not-held false e = refl
+
+module _ (k t d : ℕ) (x z : List ℕ) where
+  -- an enter that overwrites a held key
+  pub overwrites : Enter-says k t d 0 x z → held k (orders-in x) ≡ false
+  unfolding Enter-says Edit-says refusal asks first-no asks-image asks-enter asks-order others
+  overwrites w = not-held _ (asked-before 0 (asks-image x ++ asks-order k t d) (asks-room (sizes-in x) k t d (orders-in x)) 13 _ refl (sym (w .0)))
+
+  -- one that asks 7 before 13: a 7 says that the key is free
+  pub early-7 : Enter-says k t d 7 x z → held k (orders-in x) ≡ false
+  unfolding Enter-says Edit-says refusal asks first-no asks-image asks-enter asks-order others
+  early-7 w = not-held _ (asked-before 7 (asks-image x ++ asks-order k t d) (asks-room (sizes-in x) k t d (orders-in x)) 13 _ refl (sym (w .0)))
+
+  -- an amend that adds a key
+  pub amend-adds : Amend-says k t d 0 x z → held k (orders-in x) ≡ true
+  unfolding Amend-says Edit-says refusal asks first-no asks-image asks-amend asks-order others
+  amend-adds w = asked-before 0 (asks-image x ++ asks-order k t d) [] 9 _ refl (sym (w .0))
+
+  -- one that asks 9 before 6: a 9 says that the quantities are good
+  pub amend-9 : Amend-says k t d 9 x z → quantities-good t d ≡ true
+  unfolding Amend-says Edit-says refusal asks first-no asks-image asks-amend asks-order others
+  amend-9 w = asked-before 9 (asks-image x ++ take 1 (asks-order k t d)) (ask 9 (held k (orders-in x)) ∷ []) 6 _ refl (sym (w .0))
+
+  -- one that is turned down by 7 or by 8
+  pub amend-7 : Amend-says k t d 7 x z → ⊥
+  unfolding Amend-says Edit-says refusal asks first-no asks-image asks-amend asks-order apart
+  amend-7 w = never 7 (asks-image x ++ asks-amend k t d (orders-in x)) refl (sym (w .0))
+
+  pub amend-8 : Amend-says k t d 8 x z → ⊥
+  unfolding Amend-says Edit-says refusal asks first-no asks-image asks-amend asks-order apart
+  amend-8 w = never 8 (asks-image x ++ asks-amend k t d (orders-in x)) refl (sym (w .0))
 
 -- a 12 given without looking
 pub blind-12 : (x : List ℕ) (lo hi l : ℕ) (r : Reply) → Seek-says x lo hi l r → r .number ≡ 12 → any-reserve l (between lo hi (orders-in x)) ≡ false
@@ -179,8 +204,9 @@ hidden-given x lo hi l r w h n e = omega (arith, rw (eq-eqb (r .displayed) 0 e) 
 
 -- a call that gives 4 to all: 4 is given only of bytes that are no image
 no-other-4 : (s : Sizes) (c : Call) (os : List Order) → apart 4 (asks s c os) ≡ true
-unfolding asks asks-put asks-key asks-descent asks-range asks-span asks-seek apart
-no-other-4 s (put k t d) os = refl
+unfolding asks asks-enter asks-amend asks-order asks-room asks-key asks-descent asks-range asks-span asks-seek apart
+no-other-4 s (enter k t d) os = refl
+no-other-4 s (amend k t d) os = refl
 no-other-4 s (cancel k) os = refl
 no-other-4 s (lookup k) os = refl
 no-other-4 s (descent k o) os = refl
@@ -192,9 +218,13 @@ blind-4 : (c : Call) (x : List ℕ) → refusal c x ≡ 4 → is-image x ≡ fal
 unfolding refusal asks-image
 blind-4 c x e = own-question 4 [] (asks (sizes-in x) c (orders-in x)) _ (no-other-4 (sizes-in x) c (orders-in x)) e
 
-pub put-4 : (k t d : ℕ) (x z : List ℕ) → Put-says k t d 4 x z → is-image x ≡ false
-unfolding Put-says Edit-says
-put-4 k t d x z w = blind-4 (put k t d) x (sym (w .0))
+pub enter-4 : (k t d : ℕ) (x z : List ℕ) → Enter-says k t d 4 x z → is-image x ≡ false
+unfolding Enter-says Edit-says
+enter-4 k t d x z w = blind-4 (enter k t d) x (sym (w .0))
+
+pub amend-4 : (k t d : ℕ) (x z : List ℕ) → Amend-says k t d 4 x z → is-image x ≡ false
+unfolding Amend-says Edit-says
+amend-4 k t d x z w = blind-4 (amend k t d) x (sym (w .0))
 
 pub cancel-4 : (k : ℕ) (x z : List ℕ) → Cancel-says k 4 x z → is-image x ≡ false
 unfolding Cancel-says Edit-says
@@ -226,17 +256,17 @@ check-4 x e = blind-4 check x e
 
 -- ---- ON TABLES OF THE RUN, where no question turns these calls down
 unfoldable pub with-6 : List ℕ
-with-6 = done put-6 empty-table
+with-6 = done enter-6 empty-table
 
 unfoldable pub with-both : List ℕ
-with-both = done put-3 with-6
+with-both = done enter-3 with-6
 
 unfoldable pub with-hidden : List ℕ
-with-hidden = done (put 3 100 0) empty-table
+with-hidden = done (enter 3 100 0) empty-table
 
 record Computed : Type 0 where
-  six : refusal put-6 empty-table ≡ 0
-  three : refusal put-3 with-6 ≡ 0
+  six : refusal enter-6 empty-table ≡ 0
+  three : refusal enter-3 with-6 ≡ 0
   not-yet : held 3 (orders-in with-6) ≡ false
   cancels : refusal (cancel 6) with-6 ≡ 0
   allowed : made run-sizes ≡ true
@@ -245,35 +275,38 @@ record Computed : Type 0 where
   seeks : refusal (seek 1 9 80) with-both ≡ 0
   zero : refusal (seek 1 9 0) with-hidden ≡ 0
   one : refusal (seek 1 9 1) with-hidden ≡ 12
+  taken-3 : refusal (enter 3 10 0) with-both ≡ 13
+  lacks-4 : refusal (amend 4 10 0) with-both ≡ 9
+  amends : refusal (amend 3 10 0) with-both ≡ 0
   both : is-image with-both ≡ true
   lacks : refusal (descent 4 (replicate 6 7)) with-both ≡ 9
   goes : descent-path (sizes-in with-both) (orders-in with-both) 4 ≡ 3 ∷ 1 ∷ 0 ∷ []
 
 computed : Computed
-unfolding big value-from field rows rows-in least-power beta sizes-good seed-good made hash-from h g divides-from level block-long table-long header sizes-in held-in rule-1 around stored place-from placed home node-bytes block-bytes node-in head-label chunk-of block-of blocks-in front at-least list-at starts-one run rest partitions first-key masked chunks-of all-chunks chunks-from chunks blocks image into all-into gathered orders-in quantities-good orders-good fits same is-image pick part last-from pieces greatest nodes-upto labels-from path-labels same-label stands-in descent-path first-no is-key held without with-order between reserve any-reserve asks-image asks-put asks-key asks-descent asks-range asks-span asks-seek asks changed refusal done run-seed run-sizes empty-table put-3 put-6 with-6 with-both with-hidden
-computed = record { six = refl; three = refl; not-yet = refl; cancels = refl; allowed = refl; spans = refl; finds = refl; seeks = refl; zero = refl; one = refl; both = refl; lacks = refl; goes = refl }
+unfolding big value-from field rows rows-in least-power beta sizes-good seed-good made hash-from h g divides-from level block-long table-long header sizes-in held-in rule-1 around stored place-from placed home node-bytes block-bytes node-in head-label chunk-of block-of blocks-in front at-least list-at starts-one run rest partitions first-key masked chunks-of all-chunks chunks-from chunks blocks image into all-into gathered orders-in quantities-good orders-good fits same is-image pick part last-from pieces greatest nodes-upto labels-from path-labels same-label stands-in descent-path first-no is-key held without with-order between reserve any-reserve asks-image asks-order asks-room asks-enter asks-amend asks-key asks-descent asks-range asks-span asks-seek asks changed refusal done run-seed run-sizes empty-table enter-3 enter-6 with-6 with-both with-hidden
+computed = record { six = refl; three = refl; not-yet = refl; cancels = refl; allowed = refl; spans = refl; finds = refl; seeks = refl; zero = refl; one = refl; taken-3 = refl; lacks-4 = refl; amends = refl; both = refl; lacks = refl; goes = refl }
 
--- a put that edits properly once and later only returns 0, or returns whatever it likes
-pub once-right : Put-says 6 50 50 0 empty-table with-6
-unfolding Put-says Edit-says put-6 with-6
+-- an enter that edits properly once and later only returns 0, or returns whatever it likes
+pub once-right : Enter-says 6 50 50 0 empty-table with-6
+unfolding Enter-says Edit-says enter-6 with-6
 once-right = (sym (computed .six), refl)
 
-pub later-idle : (r : ℕ) → Put-says 3 100 20 r with-6 with-6 → ⊥
-unfolding Put-says Edit-says put-3
-later-idle r w = idle-put 3 100 20 with-6 (computed .not-yet) (sym (computed .three), w .1)
+pub later-idle : (r : ℕ) → Enter-says 3 100 20 r with-6 with-6 → ⊥
+unfolding Enter-says Edit-says enter-3
+later-idle r w = idle-enter 3 100 20 with-6 (computed .not-yet) (sym (computed .three), w .1)
 
--- a put or cancel that leaves the table
-pub put-idle : (r : ℕ) → Put-says 6 50 50 r empty-table empty-table → ⊥
-unfolding Put-says Edit-says put-6 empty-table
-put-idle r w = always-empty 6 50 50 empty-table run-sizes (computed .allowed) (sym (computed .six), w .1)
+-- an enter or cancel that leaves the table
+pub enter-idle : (r : ℕ) → Enter-says 6 50 50 r empty-table empty-table → ⊥
+unfolding Enter-says Edit-says enter-6 empty-table
+enter-idle r w = always-empty 6 50 50 empty-table run-sizes (computed .allowed) (sym (computed .six), w .1)
 
 pub cancel-idle : (r : ℕ) → Cancel-says 6 r with-6 with-6 → ⊥
 unfolding Cancel-says Edit-says
 cancel-idle r w = idle-cancel 6 with-6 (sym (computed .cancels), w .1)
 
 -- a table always written as P3
-pub written-empty : (r : ℕ) → Put-says 3 100 20 r with-6 empty-table → ⊥
-unfolding Put-says Edit-says put-3 empty-table
+pub written-empty : (r : ℕ) → Enter-says 3 100 20 r with-6 empty-table → ⊥
+unfolding Enter-says Edit-says enter-3 empty-table
 written-empty r w = always-empty 3 100 20 with-6 run-sizes (computed .allowed) (sym (computed .three), w .1)
 
 -- a span whose count is invented
@@ -291,13 +324,26 @@ nine-counts r z w =
 pub not-9 : (r : Reply) (z : List ℕ) → Descent-says with-both 4 r (replicate 5 7) z → r .number ≡ 9 → ⊥
 not-9 r z w e = omega (arith, early-9 with-both 4 r (replicate 5 7) z (computed .both) w e, ap length (computed .goes))
 
+-- on the full table of the run: a held key overwritten or counted as one more, a key added; amended, it has both quantities
+pub not-over : (r : ℕ) (z : List ℕ) → Enter-says 3 10 0 r with-both z → r ≡ 13
+unfolding Enter-says Edit-says
+not-over r z w = w .0 ∙ computed .taken-3
+
+pub not-added : (r : ℕ) (z : List ℕ) → Amend-says 4 10 0 r with-both z → r ≡ 9
+unfolding Amend-says Edit-says
+not-added r z w = w .0 ∙ computed .lacks-4
+
+pub amended : (r : ℕ) (z : List ℕ) → Amend-says 3 10 0 r with-both z → (r ≡ 0) × Tells 3 10 0 (orders-in z)
+unfolding Amend-says Edit-says
+amended r z w = (w .0 ∙ computed .amends, amend-tells 3 10 0 with-both z (sym (computed .amends), w .1))
+
 -- an 8, a 4, a 12 without looking
-pub not-8 : (z : List ℕ) → Put-says 6 50 50 8 empty-table z → ⊥
-unfolding Put-says Edit-says put-6
+pub not-8 : (z : List ℕ) → Enter-says 6 50 50 8 empty-table z → ⊥
+unfolding Enter-says Edit-says enter-6
 not-8 z w = omega (arith, w .0, computed .six)
 
-pub not-4 : (z : List ℕ) → Put-says 6 50 50 4 empty-table z → ⊥
-unfolding Put-says Edit-says put-6
+pub not-4 : (z : List ℕ) → Enter-says 6 50 50 4 empty-table z → ⊥
+unfolding Enter-says Edit-says enter-6
 not-4 z w = omega (arith, w .0, computed .six)
 
 pub not-12 : (r : Reply) → Seek-says with-both 1 9 80 r → r .number ≡ 12 → ⊥

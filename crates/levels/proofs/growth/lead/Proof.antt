@@ -1,18 +1,11 @@
--- `levels::growth::lead` meets its contract: each need follows from the laws listed.
+-- `levels::growth::lead` meets its contract: the way to the key before comes to the partition.
 use borrow.Author.Needs.{needs}
-use Rattle.levels.proofs.Laws.Growing.{Lowering, lowering-start, lowering-more, lowering-end}
+use Rattle.levels.proofs.Laws.Arriving.{lead-right}
 use Rattle.levels.proofs.growth.lead.Statement.{statement}
 use Rattle.levels.proofs.growth.lead.Tie as tie
 
-ruleset laws = (needs, lowering-start, lowering-more, lowering-end)
-
-abbrev Inv-loop : tie.InvT-loop
-Inv-loop table q l y first₀ level₀ first level = Lowering (q .sizes) table l y level first
-
-abbrev μ-loop : tie.MeasureT-loop
-μ-loop table q l y first₀ level₀ first level = level
+returns : tie.Need-returns
+returns c = let p = c .before .before .pre in lead-right _ _ _ _ _ (p .1 .top-is) (p .2) _ (c .way-down .ensures .0)
 
 pub lead-spec : {M : Type 1} → statement M
-lead-spec =
-    tie.close
-    (tie.spec Inv-loop μ-loop (λ c. search laws) (λ c κs. search laws) (λ c. search laws) (λ c. search laws) (λ c. search laws) (λ c. search laws))
+lead-spec = tie.close (tie.spec (λ c. search needs) (λ c κs. search needs) returns)
