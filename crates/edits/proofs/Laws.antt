@@ -1,9 +1,9 @@
--- Laws by subject: one level after the other, and what put and cancel answer.
+-- Laws by subject: one level after the other, and what enter, amend and cancel answer.
 pub mod WayLevels
 pub mod Settings
 pub mod WaySpots
 pub mod Changed
-pub mod PutTurns
+pub mod EnterTurns
 pub mod CancelTurns
 pub mod Ways
 pub mod TurnLoops

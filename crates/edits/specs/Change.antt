@@ -33,8 +33,8 @@ pub record Between (s : Sizes) (old new : List Order) (k : ℕ) (bs : List ℕ) 
   pub count : full + counts k 1 s new ≡ length (chunks s new) + counts k 1 s old
 
 -- ONE LEVEL OF AN ENTER, and of a cancel, not above the key's own; r is the first key of the partition one level down
-unfoldable pub Put-turn : Sizes → (k l f : ℕ) → Order → (bs bs′ : List ℕ) → (r : ℕ) → Type 0
-Put-turn s k l f o bs bs′ r =
+unfoldable pub Enter-turn : Sizes → (k l f : ℕ) → Order → (bs bs′ : List ℕ) → (r : ℕ) → Type 0
+Enter-turn s k l f o bs bs′ r =
     (xs zs : List Order) → Setting s xs o zs → l ≡ level s (o .key) → 0 < k → k ≤ l → f ≡ first-key (head-part s k xs) → Between s (xs ++ zs) (xs ++ o ∷ zs) k bs →
     (r ≡ first-key (head-part s (k - 1) xs)) × Between s (xs ++ zs) (xs ++ o ∷ zs) (k - 1) bs′
 
@@ -44,8 +44,8 @@ Cancel-turn s k l f y bs bs′ r =
     Between s (xs ++ o ∷ zs) (xs ++ zs) k bs → (r ≡ first-key (head-part s (k - 1) xs)) × Between s (xs ++ o ∷ zs) (xs ++ zs) (k - 1) bs′
 
 -- ALL LEVELS, from the key's own, where f leads to it, down: with the number of orders written, the table is the image of the new orders
-unfoldable pub Put-new : Sizes → (f l : ℕ) → Order → (bs bs′ : List ℕ) → Type 0
-Put-new s f l o bs bs′ =
+unfoldable pub Enter-new : Sizes → (f l : ℕ) → Order → (bs bs′ : List ℕ) → Type 0
+Enter-new s f l o bs bs′ =
     (xs zs : List Order) → Setting s xs o zs → f ≡ first-key (head-part s l xs) → l ≡ level s (o .key) → bs ≡ image s (xs ++ zs) →
     sets bs′ 11 (big 2 (length (xs ++ o ∷ zs))) ≡ image s (xs ++ o ∷ zs)
 

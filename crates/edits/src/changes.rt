@@ -11,11 +11,11 @@ ghost use Rattle.skiplist.specs.Image.{is-image, orders-in};
 ghost use Rattle.skiplist.specs.Questions.{ask, first-no, is-key, held, asks-order};
 ghost use Rattle.placement.specs.Place.{Shaped};
 ghost use Rattle.table.specs.Calls.{Enter-says, Amend-says, Cancel-says};
-ghost use Rattle.edits.specs.Change.{Put-turn, Put-new, Cancel-turn, Cancel-held, Sure, Free};
+ghost use Rattle.edits.specs.Change.{Enter-turn, Enter-new, Cancel-turn, Cancel-held, Sure, Free};
 use levels::edit::cancel_below;
 use levels::edit::cancel_in;
-use levels::edit::put_below;
-use levels::edit::put_in;
+use levels::edit::enter_below;
+use levels::edit::enter_in;
 use levels::edit::replace;
 use levels::growth::growth;
 use levels::growth::lead;
@@ -36,34 +36,34 @@ use table::checking::check;
 use table::checking::examine;
 
 // One level of an enter, the key's own or one below it; the first key of the partition one level down.
-fn put_level(table: &mut [u8], q: Geometry, level: u32, l: u32, first: u32, o: Order) -> u32
+fn enter_level(table: &mut [u8], q: Geometry, level: u32, l: u32, first: u32, o: Order) -> u32
     requires { ⌜ Shaped (q .sizes) (now table) × Reckoned q × (2 ≤ q .sizes .nodes) × (level ≤ q .top) ⌝ }
-    ensures { λ r. ⌜ Put-turn (q .sizes) level l first o (now (table .entry)) (now (table .exit)) r ⌝ }
+    ensures { λ r. ⌜ Enter-turn (q .sizes) level l first o (now (table .entry)) (now (table .exit)) r ⌝ }
 {
     let x = scan(table, q, level, first, o.key);
     if level == l {
-        put_in(table, q.sizes, level, first, x, o);
+        enter_in(table, q.sizes, level, first, x, o);
         return x.last;
     }
-    put_below(table, q.sizes, level, first, x, o);
+    enter_below(table, q.sizes, level, first, x, o);
     x.last
 }
 
 // A new key comes in at each level, from its own down; `first` leads to it there.
-fn put_new(table: &mut [u8], q: Geometry, first: u32, l: u32, o: Order)
+fn enter_new(table: &mut [u8], q: Geometry, first: u32, l: u32, o: Order)
     requires { ⌜ Shaped (q .sizes) (now table) × Reckoned q × (2 ≤ q .sizes .nodes) × (l ≤ q .top) ⌝ }
-    ensures { λ r. ⌜ Put-new (q .sizes) first l o (now (table .entry)) (now (table .exit)) ⌝ }
+    ensures { λ r. ⌜ Enter-new (q .sizes) first l o (now (table .entry)) (now (table .exit)) ⌝ }
 {
     let mut from = first;
     let mut level = l;
     while 0 < level {
-        from = put_level(table, q, level, l, from, o);
+        from = enter_level(table, q, level, l, from, o);
         level -= 1;
     }
 }
 
 // A key that is not held comes in, while there are fewer orders than N: 8 is counted before any change. `full` blocks are not empty.
-fn put_free(table: &mut [u8], q: Geometry, held: u32, full: u32, o: Order) -> u32
+fn enter_free(table: &mut [u8], q: Geometry, held: u32, full: u32, o: Order) -> u32
     requires { ⌜ Sure (now table) (o .key) (o .total) (o .displayed) × Free (now table) (q .sizes) (o .key) × (held ≡ held-in (now table)) × (full ≡ length (chunks (q .sizes) (orders-in (now table)))) × Reckoned q ⌝ }
     ensures { λ r. ⌜ Enter-says (o .key) (o .total) (o .displayed) r (now (table .entry)) (now (table .exit)) ⌝ }
 {
@@ -73,7 +73,7 @@ fn put_free(table: &mut [u8], q: Geometry, held: u32, full: u32, o: Order) -> u3
     if q.sizes.blocks < full + more {
         return 8;
     }
-    put_new(table, q, first, l, o);
+    enter_new(table, q, first, l, o);
     put2(table, Header::HELD, held + 1);
     0
 }
@@ -114,7 +114,7 @@ pub fn enter(table: &mut [u8], key: u32, total: u32, displayed: u32) -> u32
     if q.sizes.orders <= held {
         return 7;
     }
-    put_free(
+    enter_free(
         table,
         q,
         held,

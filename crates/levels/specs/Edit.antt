@@ -1,4 +1,4 @@
--- What the parts of a put and of a cancel do, told by the map that a table keeps.
+-- What the parts of an enter, an amend and a cancel do, told by the map that a table keeps.
 use mathlib.Core.Path.{_≡_}
 use mathlib.Core.Bool.{true}
 use mathlib.Core.List.{List, [], _∷_, _++_}
@@ -51,7 +51,7 @@ pub record Room (s : Sizes) (k f : ℕ) (ps qs : List Order) (x : Spot) (o : Ord
   pub below : x .below ≡ length ps
   pub size : x .size ≡ length (ps ++ qs)
 
--- PUT, at the key's own level: its node comes between ps and qs
+-- ENTER, at the key's own level: its node comes between ps and qs
 pub record Comes-in (s : Sizes) (F : Map) (n : ℕ) (hd bs : List ℕ) (k f : ℕ) (old new : List Order) : Type 0 where
   pub map : Map
   pub full : ℕ
@@ -60,8 +60,8 @@ pub record Comes-in (s : Sizes) (F : Map) (n : ℕ) (hd bs : List ℕ) (k f : �
   pub elsewhere : Elsewhere F map k f
   pub count : full + pieces (s .nodes) (length old) ≡ n + pieces (s .nodes) (length new)
 
-unfoldable pub Puts-in : Sizes → (k f : ℕ) → Spot → Order → (bs bs′ : List ℕ) → Type 0
-Puts-in s k f x o bs bs′ =
+unfoldable pub Enters-in : Sizes → (k f : ℕ) → Spot → Order → (bs bs′ : List ℕ) → Type 0
+Enters-in s k f x o bs bs′ =
     (F : Map) (n : ℕ) (hd : List ℕ) (ps qs : List Order) → Table s F n hd bs → Room s k f ps qs x o → Pieces F (s .nodes) k f 0 (ps ++ qs) →
     n + pieces (s .nodes) (suc (length (ps ++ qs))) ≤ s .blocks + pieces (s .nodes) (length (ps ++ qs)) →
     Comes-in s F n hd bs′ k f (ps ++ qs) (ps ++ masked k o ∷ qs)
@@ -72,7 +72,7 @@ Cancels-in s k f x bs bs′ =
     (F : Map) (n : ℕ) (hd : List ℕ) (ps : List Order) (y : Order) (qs : List Order) → Table s F n hd bs → Room s k f ps (y ∷ qs) x y →
     Pieces F (s .nodes) k f 0 (ps ++ y ∷ qs) → 0 < length ps → Comes-in s F n hd bs′ k f (ps ++ y ∷ qs) (ps ++ qs)
 
--- PUT, below the key's level: ps stay, and the key starts a partition with qs
+-- ENTER, below the key's level: ps stay, and the key starts a partition with qs
 pub record Splits (s : Sizes) (F : Map) (n : ℕ) (hd bs : List ℕ) (k f g : ℕ) (left right : List Order) (old : ℕ) : Type 0 where
   pub map : Map
   pub full : ℕ
@@ -82,8 +82,8 @@ pub record Splits (s : Sizes) (F : Map) (n : ℕ) (hd bs : List ℕ) (k f g : �
   pub elsewhere : Elsewhere-both F map k f g
   pub count : full + old ≡ n + pieces (s .nodes) (length left) + pieces (s .nodes) (length right)
 
-unfoldable pub Puts-below : Sizes → (k f : ℕ) → Spot → Order → (bs bs′ : List ℕ) → Type 0
-Puts-below s k f x o bs bs′ =
+unfoldable pub Enters-below : Sizes → (k f : ℕ) → Spot → Order → (bs bs′ : List ℕ) → Type 0
+Enters-below s k f x o bs bs′ =
     (F : Map) (n : ℕ) (hd : List ℕ) (ps qs : List Order) → Table s F n hd bs → Room s k f ps qs x o → Pieces F (s .nodes) k f 0 (ps ++ qs) → (f ≡ o .key → ⊥) →
     Pieces F (s .nodes) k (o .key) 0 [] → 0 < length ps →
     n + pieces (s .nodes) (length ps) + pieces (s .nodes) (suc (length qs)) ≤ s .blocks + pieces (s .nodes) (length (ps ++ qs)) →

@@ -6,7 +6,7 @@ ghost use lib.Seq.{sets};
 ghost use Rattle.placement.specs.Chunks.{node-bytes};
 ghost use Rattle.skiplist.specs.Lists.{masked};
 ghost use Rattle.placement.specs.Place.{Shaped};
-ghost use Rattle.levels.specs.Edit.{Puts-in, Puts-below, Cancels-in, Cancels-below, replaced};
+ghost use Rattle.levels.specs.Edit.{Enters-in, Enters-below, Cancels-in, Cancels-below, replaced};
 use crate::Spot;
 use crate::pour::pour;
 use crate::pour::read;
@@ -45,9 +45,9 @@ fn write_node(row: &mut [u8], i: u32, level: u32, o: Order)
 }
 
 // The key comes into partition `first`, behind the nodes below it.
-pub fn put_in(table: &mut [u8], s: Sizes, level: u32, first: u32, x: Spot, o: Order)
+pub fn enter_in(table: &mut [u8], s: Sizes, level: u32, first: u32, x: Spot, o: Order)
     requires { ⌜ Shaped s (now table) × (2 ≤ s .nodes) × (level < 256) ⌝ }
-    ensures { λ r. ⌜ Puts-in s level first x o (now (table .entry)) (now (table .exit)) ⌝ }
+    ensures { λ r. ⌜ Enters-in s level first x o (now (table .entry)) (now (table .exit)) ⌝ }
 {
     let mut chunk = [0u8; CHUNK];
     let mut carry = [0u8; SHIFTED];
@@ -71,9 +71,9 @@ pub fn put_in(table: &mut [u8], s: Sizes, level: u32, first: u32, x: Spot, o: Or
 }
 
 // The key starts a partition of its own with the nodes behind it.
-pub fn put_below(table: &mut [u8], s: Sizes, level: u32, first: u32, x: Spot, o: Order)
+pub fn enter_below(table: &mut [u8], s: Sizes, level: u32, first: u32, x: Spot, o: Order)
     requires { ⌜ Shaped s (now table) × (2 ≤ s .nodes) × (level < 256) ⌝ }
-    ensures { λ r. ⌜ Puts-below s level first x o (now (table .entry)) (now (table .exit)) ⌝ }
+    ensures { λ r. ⌜ Enters-below s level first x o (now (table .entry)) (now (table .exit)) ⌝ }
 {
     let mut chunk = [0u8; CHUNK];
     let mut carry = [0u8; POURED];

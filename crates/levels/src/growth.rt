@@ -1,4 +1,4 @@
-// How much a put adds, and the way down to a key.
+// How much an enter adds, and the way down to a key.
 ghost use Prim.Native.Nat.{_*_, _≤_, _<_};
 ghost use Rattle.sizes.specs.Geometry.{Reckoned};
 ghost use Rattle.placement.specs.Place.{Shaped};

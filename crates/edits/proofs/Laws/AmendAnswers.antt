@@ -15,7 +15,7 @@ use Rattle.skiplist.specs.Image.{image, orders-in}
 use Rattle.skiplist.specs.Questions.{first-no, between, asks-image, asks-order, asks-amend, is-key, held, order, with-order}
 use Rattle.skiplist.specs.Book.{amend, asks, changed, book-refusal, refusal}
 use Rattle.skiplist.proofs.Laws.Parts.{Up, good-up}
-use Rattle.skiplist.proofs.Laws.Shapes.{put-old}
+use Rattle.skiplist.proofs.Laws.Shapes.{with-old}
 use Rattle.skiplist.proofs.Laws.Kept.{kept-amend}
 use Rattle.table.specs.Calls.{Amend-says}
 use Rattle.levels.specs.declared.Trail.{Trail}
@@ -63,7 +63,7 @@ module _ (bs : List ℕ) (k t d : ℕ) (p : Sure bs k t d) (q : Geometry) (eq : 
     b = held-at k os (good-up 1 os (w .good)) there
 
     over-is : with-order new os ≡ b .before ++ new ∷ b .behind
-    over-is = ap (with-order new) (b .is) ∙ put-old new (b .own) (b .before) (b .behind) 1 (b .key) (subst (Up 1) (b .is) (good-up 1 os (w .good)))
+    over-is = ap (with-order new) (b .is) ∙ with-old new (b .own) (b .before) (b .behind) 1 (b .key) (subst (Up 1) (b .is) (good-up 1 os (w .good)))
 
     yes : book-refusal s (amend k t d) os ≡ 0
     unfolding book-refusal asks first-no asks-amend asks-order

@@ -22,14 +22,14 @@ use Rattle.skiplist.specs.Questions.{first-no, asks-image, asks-order, asks-roo
 use Rattle.skiplist.specs.Book.{enter, asks, changed, book-refusal, refusal}
 use Rattle.skiplist.proofs.Laws.Parts.{Up, up-from, good-up}
 use Rattle.skiplist.proofs.Laws.Edits.{head-part, level-most}
-use Rattle.skiplist.proofs.Laws.Shapes.{put-new}
+use Rattle.skiplist.proofs.Laws.Shapes.{with-new}
 use Rattle.skiplist.proofs.Laws.Kept.{fits-parts, fits-make, kept-enter}
 use Rattle.table.specs.Calls.{Enter-says}
 use Rattle.levels.specs.Edit.{Way, Leads, Grows}
 use Rattle.readings.specs.Visit.{Known}
 use Rattle.readings.proofs.Laws.Answers.{known-at}
 use Rattle.readings.proofs.Laws.Replies.{key-least}
-use Rattle.edits.specs.Change.{Setting, Put-new, Sure, Free}
+use Rattle.edits.specs.Change.{Setting, Enter-new, Sure, Free}
 use Rattle.edits.proofs.Laws.EditAnswers.{refused, accepted, image-held, known-kept, Free-at, free-at}
 
 -- the number and the table, as the book of sizes s has them
@@ -80,7 +80,7 @@ module _ (bs : List ℕ) (s : Sizes) (k t d : ℕ) (p : Sure bs k t d) (f : Free
   at = free-at k old (good-up 1 old (w .good)) (f .absent-is)
 
   enter-is : with-order own old ≡ at .before ++ own ∷ at .behind
-  enter-is = ap (with-order own) (at .is) ∙ put-new own (at .before) (at .behind) (at .low) (at .high)
+  enter-is = ap (with-order own) (at .is) ∙ with-new own (at .before) (at .behind) (at .low) (at .high)
 
   new-length : length (with-order own old) ≡ suc (length old)
   new-length = rw (enter-is, at .is) (simp length-append (omega arith))
@@ -129,8 +129,8 @@ module _ (bs : List ℕ) (s : Sizes) (k t d : ℕ) (p : Sure bs k t d) (f : Free
         let fit = fits-make s (with-order own old) (rw new-length more) (omega (arith, counted)) in
         rw (p .key, p .quantities, f .absent-is, lt-ltb (length old) (s .orders) more, fit)
 
-    pub enter-done : (m : ℕ) (bs₁ bs′ : List ℕ) → full + g ≤ s .blocks → Put-new s first l own bs bs₁ → m ≡ held-in bs → bs′ ≡ sets bs₁ 11 (big 2 (m + 1)) → Enter-says k t d 0 bs bs′
-    unfolding Put-new
+    pub enter-done : (m : ℕ) (bs₁ bs′ : List ℕ) → full + g ≤ s .blocks → Enter-new s first l own bs bs₁ → m ≡ held-in bs → bs′ ≡ sets bs₁ 11 (big 2 (m + 1)) → Enter-says k t d 0 bs bs′
+    unfolding Enter-new
     enter-done m bs₁ bs′ h v e i =
         let r : m + 1 ≡ length (with-order own old) = omega (arith, new-length, image-held bs (p .image)) in
         let u = kept-enter s k t d old (known-kept bs s w) (yes h) in

@@ -1,4 +1,4 @@
--- The loops of `put_new` and `cancel_held`: one turn for each level, from the key's own down.
+-- The loops of `enter_new` and `cancel_held`: one turn for each level, from the key's own down.
 use mathlib.Core.Path.{_≡_, refl, sym, _∙_, subst}
 use mathlib.Core.List.{List, _∷_, _++_}
 use Prim.Native.Nat.{ℕ, _+_, _-_, _≤_, _<_}
@@ -15,7 +15,7 @@ use Rattle.skiplist.specs.Lists.{first-key, chunks}
 use Rattle.skiplist.specs.Image.{image}
 use Rattle.skiplist.proofs.Laws.Edits.{head-part, level-most, part-above}
 use Rattle.skiplist.proofs.Laws.Count.{count-low}
-use Rattle.edits.specs.Change.{Setting, Between, Put-turn, Cancel-turn, Put-new, Cancel-held}
+use Rattle.edits.specs.Change.{Setting, Between, Enter-turn, Cancel-turn, Enter-new, Cancel-held}
 use Rattle.edits.proofs.Laws.WayLevels.{same-part}
 use Rattle.edits.proofs.Laws.Settings.{all-up, less-up, key-pos, some-nodes, less-good, less-fit}
 use Rattle.edits.proofs.Laws.Ways.{way-start, way-end}
@@ -27,8 +27,8 @@ module _ (s : Sizes) (xs : List Order) (o : Order) (zs : List Order) (w : Settin
       same-part s (xs ++ o ∷ zs) (xs ++ zs) (some-nodes s xs o zs w) (all-up s xs o zs w) (less-up s xs o zs w) l f (omega arith) low
       (part-above s l xs o zs (all-up s xs o zs w) f h) i
 
-  put-above : Between s (xs ++ zs) (xs ++ o ∷ zs) (level s (o .key)) (image s (xs ++ zs))
-  put-above =
+  enter-above : Between s (xs ++ zs) (xs ++ o ∷ zs) (level s (o .key)) (image s (xs ++ zs))
+  enter-above =
       way-start s (xs ++ zs) (xs ++ o ∷ zs) (less-good s xs o zs w) (w .good) (w .sizes) (less-fit s xs o zs w) (level s (o .key)) (level-most s (o .key))
       (λ l f i h low. sym (same-above l f i h low)) (λ l h low. sym (count-low s l xs o zs (key-pos s xs o zs w) h))
 
@@ -37,8 +37,8 @@ module _ (s : Sizes) (xs : List Order) (o : Order) (zs : List Order) (w : Settin
       way-start s (xs ++ o ∷ zs) (xs ++ zs) (w .good) (less-good s xs o zs w) (w .sizes) (w .fit) (level s (o .key)) (level-most s (o .key)) same-above
       (λ l h low. count-low s l xs o zs (key-pos s xs o zs w) h)
 
--- a put under way from partition e of level l: level k is next, in the partition that f heads
-pub record Putting (s : Sizes) (e l : ℕ) (o : Order) (bs₀ : List ℕ) (k f : ℕ) (bs : List ℕ) : Type 0 where
+-- an enter under way from partition e of level l: level k is next, in the partition that f heads
+pub record Entering (s : Sizes) (e l : ℕ) (o : Order) (bs₀ : List ℕ) (k f : ℕ) (bs : List ℕ) : Type 0 where
   pub low : k ≤ l
   pub shaped : Shaped s bs
   pub same : length bs ≡ length bs₀
@@ -46,22 +46,22 @@ pub record Putting (s : Sizes) (e l : ℕ) (o : Order) (bs₀ : List ℕ) (k f :
       (f ≡ first-key (head-part s k xs)) × Between s (xs ++ zs) (xs ++ o ∷ zs) k bs
 
 module _ (s : Sizes) (e l : ℕ) (o : Order) (bs₀ : List ℕ) where
-  pub putting-start : Shaped s bs₀ → Putting s e l o bs₀ l e bs₀
-  putting-start h = record { low = omega arith; shaped = h; same = refl; way = λ xs zs w fe le i. (fe, rw (le, i) (put-above s xs o zs w)) }
+  pub entering-start : Shaped s bs₀ → Entering s e l o bs₀ l e bs₀
+  entering-start h = record { low = omega arith; shaped = h; same = refl; way = λ xs zs w fe le i. (fe, rw (le, i) (enter-above s xs o zs w)) }
 
-  module _ (k f : ℕ) (bs : List ℕ) (p : Putting s e l o bs₀ k f bs) where
-    pub putting-more : 0 < k → (bs′ : List ℕ) (r : ℕ) → length bs′ ≡ length bs → Put-turn s k l f o bs bs′ r → Putting s e l o bs₀ (k - 1) r bs′
-    unfolding Put-turn
-    putting-more h bs′ r n t = record {
+  module _ (k f : ℕ) (bs : List ℕ) (p : Entering s e l o bs₀ k f bs) where
+    pub entering-more : 0 < k → (bs′ : List ℕ) (r : ℕ) → length bs′ ≡ length bs → Enter-turn s k l f o bs bs′ r → Entering s e l o bs₀ (k - 1) r bs′
+    unfolding Enter-turn
+    entering-more h bs′ r n t = record {
       low = omega (arith, p .low);
       shaped = shaped-same s bs bs′ (p .shaped) n;
       same = n ∙ p .same;
       way = λ xs zs w fe le i. let v = p .way xs zs w fe le i in t xs zs w le h (p .low) (v .0) (v .1);
     }
 
-    pub putting-end : k ≤ 0 → Put-new s e l o bs₀ bs
-    unfolding Put-new
-    putting-end h xs zs w fe le i =
+    pub entering-end : k ≤ 0 → Enter-new s e l o bs₀ bs
+    unfolding Enter-new
+    entering-end h xs zs w fe le i =
         let z : k ≡ 0 = omega arith in
         way-end s (xs ++ zs) (xs ++ o ∷ zs) (less-good s xs o zs w) (w .good) (w .fit) bs (subst (λ (n : ℕ). Between s (xs ++ zs) (xs ++ o ∷ zs) n bs) z (p .way xs zs w fe le i .1))
 

@@ -1,4 +1,4 @@
--- What the edits of one level do: a key put into its partition or taken out of it, a partition split or joined.
+-- What the edits of one level do: a key entered into its partition or taken out of it, a partition split or joined.
 use mathlib.Core.Path.{_≡_, refl, sym, ap, _∙_}
 use mathlib.Core.Bool.{Bool, true, false, cond}
 use mathlib.Core.List.{List, [], _∷_, _++_, append-assoc}
@@ -17,7 +17,7 @@ use Rattle.placement.proofs.Laws.Tables.{count-most}
 use Rattle.skiplist.specs.Lists.{masked}
 use Rattle.skiplist.proofs.Laws.Count.{pieces}
 use Rattle.levels.specs.declared.Spot.{Spot}
-use Rattle.levels.specs.Edit.{Pieces, Room, Puts-in, Cancels-in}
+use Rattle.levels.specs.Edit.{Pieces, Room, Enters-in, Cancels-in}
 use Rattle.levels.specs.Pour.{Front, Reads}
 use Rattle.levels.specs.Shift.{Shifts}
 use Rattle.levels.proofs.Laws.CarryFronts.{front-rest, front-none, front-first, front-more, nodes-one}
@@ -50,10 +50,10 @@ module _ (ch ca₀ ca₁ ca₂ : List ℕ) (c : List Order) (o : Order) (n r : �
   carry-before : ca₁ ≡ sets ca₀ 0 (take (12 * r) (drop 0 ch)) → Front ca₁ (take r c)
   carry-before e = front-more ca₀ ca₁ [] (take r c) 0 _ (front-none ca₀) refl (front-first ch c r fr (omega arith)) e (omega (arith, before-long))
 
-  pub carry-put : (ca₃ : List ℕ) → ca₁ ≡ sets ca₀ 0 (take (12 * r) (drop 0 ch)) → ca₂ ≡ sets ca₁ (12 * r) (node-bytes o)
+  pub carry-entered : (ca₃ : List ℕ) → ca₁ ≡ sets ca₀ 0 (take (12 * r) (drop 0 ch)) → ca₂ ≡ sets ca₁ (12 * r) (node-bytes o)
       → ca₃ ≡ sets ca₂ (12 * (r + 1)) (take (12 * (n - r)) (drop (12 * r) ch))
       → Front ca₃ (take r c ++ o ∷ [] ++ drop r c)
-  carry-put ca₃ e₁ e₂ e₃ =
+  carry-entered ca₃ e₁ e₂ e₃ =
       let l₁ : length ca₁ ≡ length ca₀ = ap length e₁ ∙ simp length-sets in
       let l₂ : length ca₂ ≡ length ca₁ = ap length e₂ ∙ simp length-sets in
       let f₂ = front-more ca₁ ca₂ (take r c) (o ∷ []) (12 * r) _ (carry-before e₁) (omega (arith, before-long)) (sym (nodes-one o)) e₂ (omega arith) in
@@ -61,7 +61,7 @@ module _ (ch ca₀ ca₁ ca₂ : List ℕ) (c : List Order) (o : Order) (n r : �
       (front-rest ch c r (n - r) fr (omega arith)) e₃
       (omega (arith, length-drop r c))
 
-  -- .. of a put that splits
+  -- .. of an enter that splits
   pub carry-split : ca₁ ≡ sets ca₀ (12 * 0) (node-bytes o) → ca₂ ≡ sets ca₁ 12 (take (12 * (n - r)) (drop (12 * r) ch)) → Front ca₂ (o ∷ [] ++ drop r c)
   carry-split e₁ e₂ =
       let l₁ : length ca₁ ≡ length ca₀ = ap length e₁ ∙ simp length-sets in
@@ -98,21 +98,21 @@ module _ (s : Sizes) (k f : ℕ) (x : Spot) (bs : List ℕ) (two : 2 ≤ s .node
         fine = fines-there s F m hd bs k f i t;
       }
 
-  -- PUT, AT THE KEY'S OWN LEVEL
+  -- ENTER, AT THE KEY'S OWN LEVEL
   module _ (max : s .nodes ≤ 32) (o : Order) where
-    pub put-in-short : n < r → Puts-in s k f x o bs bs
-    unfolding Puts-in
-    put-in-short h F m hd ps qs t rm p room = let u = chunk-read F m hd ps qs o t rm p in absurd (omega arith)
+    pub enter-in-short : n < r → Enters-in s k f x o bs bs
+    unfolding Enters-in
+    enter-in-short h F m hd ps qs t rm p room = let u = chunk-read F m hd ps qs o t rm p in absurd (omega arith)
 
-    pub put-in-made : (count : ℕ) → count ≡ pieces (s .nodes) (x .size) - (i + 1) → r ≤ n → (ca₀ ca₁ ca₂ ca₃ : List ℕ) → ca₁ ≡ sets ca₀ 0 (take (12 * r) (drop 0 ch))
+    pub enter-in-made : (count : ℕ) → count ≡ pieces (s .nodes) (x .size) - (i + 1) → r ≤ n → (ca₀ ca₁ ca₂ ca₃ : List ℕ) → ca₁ ≡ sets ca₀ 0 (take (12 * r) (drop 0 ch))
         → ca₂ ≡ sets ca₁ (12 * r) (node-bytes (masked k o))
         → ca₃ ≡ sets ca₂ (12 * (r + 1)) (take (12 * (n - r)) (drop (12 * r) ch)) → length ca₀ ≡ 780 → (bs₂ : List ℕ) → Shifts s k f i count (n + 1) bs bs₂ ca₃
-        → Puts-in s k f x o bs bs₂
-    unfolding Puts-in
-    put-in-made count ec h ca₀ ca₁ ca₂ ca₃ e₁ e₂ e₃ long bs₂ sf F m hd ps qs t rm p room =
+        → Enters-in s k f x o bs bs₂
+    unfolding Enters-in
+    enter-in-made count ec h ca₀ ca₁ ca₂ ca₃ e₁ e₂ e₃ long bs₂ sf F m hd ps qs t rm p room =
         let u = chunk-read F m hd ps qs o t rm p in
         let now = F k f i in
-        let fr = carry-put ch ca₀ ca₁ ca₂ now (masked k o) n r (u .front) (u .size) h (omega arith) (omega arith) ca₃ e₁ e₂ e₃ in
+        let fr = carry-entered ch ca₀ ca₁ ca₂ now (masked k o) n r (u .front) (u .size) h (omega arith) (omega arith) ca₃ e₁ e₂ e₃ in
         let c = take r now ++ masked k o ∷ [] ++ drop r now in
         let cl : n + 1 ≡ length c = simp (length-append, length-drop, length-take) (omega arith) in
         let fine = fines-append (take r now ++ masked k o ∷ []) (drop r now)

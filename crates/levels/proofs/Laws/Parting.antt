@@ -16,7 +16,7 @@ use Rattle.placement.proofs.Laws.Tables.{count-most}
 use Rattle.skiplist.specs.Lists.{masked}
 use Rattle.skiplist.proofs.Laws.Count.{pieces, pieces-cut}
 use Rattle.levels.specs.declared.Spot.{Spot}
-use Rattle.levels.specs.Edit.{Pieces, Elsewhere-both, Splits, Puts-below, Cancels-below}
+use Rattle.levels.specs.Edit.{Pieces, Elsewhere-both, Splits, Enters-below, Cancels-below}
 use Rattle.levels.specs.Pour.{Front, one, Reads, Taken, Takes, Pours}
 use Rattle.levels.specs.Shift.{Stored, Stores}
 use Rattle.levels.proofs.Laws.CarryFronts.{front-rest, front-none, front-more}
@@ -193,18 +193,18 @@ module _ (s : Sizes) (F : Map) (m : ℕ) (hd bs : List ℕ) (k f g i r : ℕ) (p
         count = omega (arith, q .count, joined-pieces, first-pieces, second-pieces, tk₁ .count, tk₂ .count, pieces-none (s .nodes));
       }
 
--- AS `put_below` ASKS
+-- AS `enter_below` ASKS
 module _ (s : Sizes) (k f : ℕ) (x : Spot) (bs : List ℕ) (two : 2 ≤ s .nodes) (i r n : ℕ) (ei : i ≡ x .below / s .nodes) (er : r ≡ x .below % s .nodes)
     (ch₀ ch : List ℕ) (rd : Reads s (label k f i) 0 bs ch₀ ch n) (max : s .nodes ≤ 32) (o : Order) where
-  pub put-below-short : n < r → Puts-below s k f x o bs bs
-  unfolding Puts-below
-  put-below-short h F m hd ps qs t rm p ne p′ some room = let u = chunk-read s k f x bs two i r n ei er ch₀ ch rd F m hd ps qs o t rm p in absurd (omega arith)
+  pub enter-below-short : n < r → Enters-below s k f x o bs bs
+  unfolding Enters-below
+  enter-below-short h F m hd ps qs t rm p ne p′ some room = let u = chunk-read s k f x bs two i r n ei er ch₀ ch rd F m hd ps qs o t rm p in absurd (omega arith)
 
-  pub put-below-made : (count : ℕ) → count ≡ pieces (s .nodes) (x .size) - (i + 1) → r ≤ n → (bs₁ : List ℕ) → Stores s (label k f i) r bs bs₁ ch → (ca₀ ca₁ ca₂ : List ℕ)
+  pub enter-below-made : (count : ℕ) → count ≡ pieces (s .nodes) (x .size) - (i + 1) → r ≤ n → (bs₁ : List ℕ) → Stores s (label k f i) r bs bs₁ ch → (ca₀ ca₁ ca₂ : List ℕ)
       → ca₁ ≡ sets ca₀ (12 * 0) (node-bytes (masked k o)) → ca₂ ≡ sets ca₁ 12 (take (12 * (n - r)) (drop (12 * r) ch)) → length ca₀ ≡ 768 → (bs₂ : List ℕ)
-      → Pours s k f (i + 1) count (o .key) 0 (n - r + 1) bs₁ bs₂ ca₂ → Puts-below s k f x o bs bs₂
-  unfolding Puts-below Stores
-  put-below-made count ec h bs₁ st ca₀ ca₁ ca₂ e₁ e₂ long bs₂ pr F m hd ps qs t rm p ne p′ some room =
+      → Pours s k f (i + 1) count (o .key) 0 (n - r + 1) bs₁ bs₂ ca₂ → Enters-below s k f x o bs bs₂
+  unfolding Enters-below Stores
+  enter-below-made count ec h bs₁ st ca₀ ca₁ ca₂ e₁ e₂ long bs₂ pr F m hd ps qs t rm p ne p′ some room =
       let u = chunk-read s k f x bs two i r n ei er ch₀ ch rd F m hd ps qs o t rm p in
       let small : 2 * i ≤ length ps = rw (ei, ← rm .below) (number-half (s .nodes) (x .below) two) in
       let kept = st F m hd (F k f i) t (u .front) (omega arith) (u .fine) (record {

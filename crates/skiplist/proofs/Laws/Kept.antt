@@ -18,7 +18,7 @@ use Rattle.skiplist.specs.Book.{Call, enter, amend, cancel, lookup, desc
 use Rattle.skiplist.specs.Promise.{Amend-has-room}
 use Rattle.skiplist.proofs.Laws.Questions.{passes}
 use Rattle.skiplist.proofs.Laws.Parts.{Up, up-from, and-left, and-right, or-left, or-right, up-past, Good, good-parts, good-up, without-here, up-out, below}
-use Rattle.skiplist.proofs.Laws.Shapes.{Place, there, absent, place, held-absent, put-old}
+use Rattle.skiplist.proofs.Laws.Shapes.{Place, there, absent, place, held-absent, with-old}
 use Rattle.skiplist.proofs.Laws.Keys.{chunks-swap}
 use Rattle.skiplist.proofs.Laws.Count.{length-chunks, chunks-more, counts-none}
 use Rattle.sizes.proofs.Laws.Sizes.{Limits, some-nodes, and-parts}
@@ -112,7 +112,7 @@ fits-over s k t d os b u h e = go (place k 1 os u)
         let v : Up 1 (xs ++ y ∷ zs) = subst (Up 1) q u in
         let w = fits-parts s (xs ++ y ∷ zs) (rw q at e) in
         let n : length (xs ++ y ∷ zs) ≡ length (xs ++ order k t d ∷ zs) = simp length-append in
-        rw (q, put-old (order k t d) y xs zs 1 p v)
+        rw (q, with-old (order k t d) y xs zs 1 p v)
         (fits-make s (xs ++ order k t d ∷ zs) (omega (arith, w .few, n)) (omega (arith, w .room, chunks-swap s xs y (order k t d) zs p (up-past xs y zs 1 v) b)))
     go (absent xs zs q f g) = absurd (false≢true (sym (held-absent k xs zs f g) ∙ subst (λ (z : List Order). held k z ≡ true) q h))
 

@@ -68,14 +68,14 @@ pub up-behind : (xs : List Order) (y : Order) (zs : List Order) (a : ℕ) → Up
 up-behind [] y zs a u = u .1
 up-behind (x ∷ xs) y zs a u = up-behind xs y zs (suc (x .key)) (u .1)
 
--- A PUT of a key that is not held, and of one that is
-pub put-new : (y : Order) (xs zs : List Order) → below (y .key) xs ≡ true → Up (suc (y .key)) zs → with-order y (xs ++ zs) ≡ xs ++ y ∷ zs
+-- AN ORDER whose key is not held comes in; one whose key is held replaces the order there
+pub with-new : (y : Order) (xs zs : List Order) → below (y .key) xs ≡ true → Up (suc (y .key)) zs → with-order y (xs ++ zs) ≡ xs ++ y ∷ zs
 unfolding with-order
-put-new y xs zs e u = rw (without-absent (y .key) (xs ++ zs) (held-absent (y .key) xs zs e u)) (into-between y xs zs e u)
+with-new y xs zs e u = rw (without-absent (y .key) (xs ++ zs) (held-absent (y .key) xs zs e u)) (into-between y xs zs e u)
 
-pub put-old : (y old : Order) (xs zs : List Order) (a : ℕ) → old .key ≡ y .key → Up a (xs ++ old ∷ zs) → with-order y (xs ++ old ∷ zs) ≡ xs ++ y ∷ zs
+pub with-old : (y old : Order) (xs zs : List Order) (a : ℕ) → old .key ≡ y .key → Up a (xs ++ old ∷ zs) → with-order y (xs ++ old ∷ zs) ≡ xs ++ y ∷ zs
 unfolding with-order
-put-old y old xs zs a k u =
+with-old y old xs zs a k u =
     ap (into y) (subst (λ (n : ℕ). without n (xs ++ old ∷ zs) ≡ xs ++ zs) k (without-here xs old zs a u))
     ∙ into-between y xs zs (rw k at (below-here xs old zs a u)) (rw k at (up-behind xs old zs a u))
 

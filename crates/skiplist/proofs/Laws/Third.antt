@@ -19,7 +19,7 @@ use Rattle.skiplist.specs.Book.{Call, enter, asks, changed, book-refusal
 use Rattle.skiplist.specs.Promise.{Image-reads-back, Lists-image, Equal-exactly, Checks-exactly}
 use Rattle.skiplist.proofs.Laws.Questions.{passes}
 use Rattle.skiplist.proofs.Laws.Parts.{and-left, and-right, up-past, Good, good-parts, good-up, below-here}
-use Rattle.skiplist.proofs.Laws.Shapes.{held-absent, put-new}
+use Rattle.skiplist.proofs.Laws.Shapes.{held-absent, with-new}
 use Rattle.skiplist.proofs.Laws.Kept.{fits-parts, fits-prefix, Kept, kept-none, kept-booked, kept-book}
 use Rattle.sizes.proofs.Laws.Sizes.{Limits, limits}
 
@@ -42,7 +42,7 @@ booked-last s xs z zs m g f =
     let v = below-here xs z zs 1 u in
     let free : held (z .key) xs ≡ false = rw append-nil at (held-absent (z .key) xs [] v tt) in
     let n : length xs < s .orders = omega (arith, simp length-append at (fits-parts s (xs ++ z ∷ []) f .few)) in
-    rw (le-leb 1 (z .key) (up-past xs z zs 1 u), w .key, w .quantity, free, lt-ltb (length xs) (s .orders) n, rw append-nil at (put-new z xs [] v tt), f)
+    rw (le-leb 1 (z .key) (up-past xs z zs 1 u), w .key, w .quantity, free, lt-ltb (length xs) (s .orders) n, rw append-nil at (with-new z xs [] v tt), f)
 
 pub book-enters : (s : Sizes) (zs xs : List Order) → Limits s → orders-good 1 (xs ++ zs) ≡ true → fits s (xs ++ zs) ≡ true → book s (enters zs) xs ≡ xs ++ zs
 unfolding book enters

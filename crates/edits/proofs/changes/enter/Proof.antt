@@ -46,8 +46,8 @@ returns-3 c =
     let p = asked-sure _ _ (e .before .before .examine .ensures .image) _ _ _ _ (e .before .asked .ensures) (e .if1 .left) in
     enter-no-7 _ _ _ _ _ p (q .geometry-of .ensures .0) (unseen-held _ _ _ (o .order-of .ensures) (search needs)) _ (held-told _ _ (f .field .ensures)) (c .if2 .taken)
 
-put-free-requires : tie.Need-put-free-requires
-put-free-requires c κs =
+enter-free-requires : tie.Need-enter-free-requires
+enter-free-requires c κs =
     let f = c .before .before .before in
     let o = f .before .before .before .before in
     let q = o .before .before in
@@ -60,4 +60,4 @@ put-free-requires c κs =
 pub enter-spec : {M : Type 1} → statement M
 enter-spec =
     tie.close
-    (tie.spec (λ c κs. search needs) (λ c κs. search needs) (λ c. search needs) returns geometry-of-requires order-of-requires (λ c. search needs) (λ c. search needs) (λ c. search needs) returns-2 field-requires (λ c. search needs) returns-3 put-free-requires (λ c. search needs) (λ c. search needs))
+    (tie.spec (λ c κs. search needs) (λ c κs. search needs) (λ c. search needs) returns geometry-of-requires order-of-requires (λ c. search needs) (λ c. search needs) (λ c. search needs) returns-2 field-requires (λ c. search needs) returns-3 enter-free-requires (λ c. search needs) (λ c. search needs))

@@ -1,12 +1,12 @@
--- `levels::edit::put_in` meets its contract: each need follows from the laws listed.
+-- `levels::edit::enter_in` meets its contract: each need follows from the laws listed.
 use borrow.Author.Needs.{needs}
 use mathlib.Core.Path.{refl}
 use native.Mathlib.Omega.{arith}
-use Rattle.levels.proofs.Laws.Levels.{numbers-shift, put-in-short, put-in-made}
-use Rattle.levels.proofs.edit.put_in.Statement.{statement}
-use Rattle.levels.proofs.edit.put_in.Tie as tie
+use Rattle.levels.proofs.Laws.Levels.{numbers-shift, enter-in-short, enter-in-made}
+use Rattle.levels.proofs.edit.enter_in.Statement.{statement}
+use Rattle.levels.proofs.edit.enter_in.Tie as tie
 
-ruleset laws = (needs, put-in-short)
+ruleset laws = (needs, enter-in-short)
 
 add-shift : tie.Need-add-shift
 add-shift c = record { fits = omega (arith, c .before .before .before .before .before .before .before .before .before .before .before .before .before .before .before .read .ensures .1, c .before .before .before .before .before .before .before .before .before .before .before .before .before .before .before .before .before .before .before .before .before .before .before .before .pre .0 .few) }
@@ -20,9 +20,9 @@ shift-requires c κs =
 returns-2 : tie.Need-returns-2
 returns-2 c =
     let p = c .before .before .before .before .before .before .before .before .before .before .before .before .before .before .before .before .before .before .before .before .before .before .before .before .before .before .before .before .pre in
-    put-in-made _ _ _ _ _ (p .1) _ _ _ refl refl _ _ (c .before .before .before .before .before .before .before .before .before .before .before .before .before .before .before .before .before .before .before .read .ensures .2) (p .0 .few) _ _ (c .before .before .before .before .before .before .before .before .before .before .before .before .before .before .before .before .before .before .before .before .before .before .later .ensures) (omega (arith, c .before .before .before .before .before .before .before .before .before .before .before .before .before .before .before .before .before .if1 .left)) _ _ _ _ (c .before .before .before .before .before .before .before .before .before .before .before .before .before .before .bring .ensures) (c .before .before .before .before .before .before .before .before .before .before .before .write-node .ensures) (c .before .before .before .before .before .before .before .bring2 .ensures) (search needs) _ (c .before .before .before .shift .ensures)
+    enter-in-made _ _ _ _ _ (p .1) _ _ _ refl refl _ _ (c .before .before .before .before .before .before .before .before .before .before .before .before .before .before .before .before .before .before .before .read .ensures .2) (p .0 .few) _ _ (c .before .before .before .before .before .before .before .before .before .before .before .before .before .before .before .before .before .before .before .before .before .before .later .ensures) (omega (arith, c .before .before .before .before .before .before .before .before .before .before .before .before .before .before .before .before .before .if1 .left)) _ _ _ _ (c .before .before .before .before .before .before .before .before .before .before .before .before .before .before .bring .ensures) (c .before .before .before .before .before .before .before .before .before .before .before .write-node .ensures) (c .before .before .before .before .before .before .before .bring2 .ensures) (search needs) _ (c .before .before .before .shift .ensures)
 
-pub put-in-spec : {M : Type 1} → statement M
-put-in-spec =
+pub enter-in-spec : {M : Type 1} → statement M
+enter-in-spec =
     tie.close
     (tie.spec (λ c. search laws) (λ c. search laws) (λ c κs. search laws) (λ c. search laws) (λ c κs. search laws) (λ c. search laws) (λ c. search laws) (λ c. search laws) (λ c. search laws) (λ c. search laws) (λ c. search laws) (λ c κs. search laws) (λ c. search laws) (λ c κs. search laws) (λ c. search laws) (λ c. search laws) (λ c. search laws) (λ c. search laws) (λ c. search laws) (λ c. search laws) (λ c. search laws) (λ c. search laws) (λ c. search laws) (λ c κs. search laws) (λ c. search laws) add-shift shift-requires (λ c. search laws) returns-2)

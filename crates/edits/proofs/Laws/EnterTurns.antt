@@ -1,4 +1,4 @@
--- One level of a put: at the key's level the key comes into a partition, below it the key starts one.
+-- One level of an enter: at the key's level the key comes into a partition, below it the key starts one.
 use mathlib.Core.Path.{_≡_, sym}
 use mathlib.Core.List.{List, [], _∷_, _++_, map, map-append}
 use Prim.Native.Nat.{ℕ, zero, suc, _+_, _≤_, _<_}
@@ -16,8 +16,8 @@ use Rattle.skiplist.proofs.Laws.Descent.{tail-above}
 use Rattle.skiplist.proofs.Laws.Count.{count, count-same, count-high, counts-more}
 use Rattle.skiplist.proofs.Laws.Edits.{level-most, head-part, tail-part, head-part-long, part-at, part-in, part-left, part-right, part-other}
 use Rattle.levels.specs.declared.Spot.{Spot}
-use Rattle.levels.specs.Edit.{Pieces, Scans, Puts-in, Puts-below}
-use Rattle.edits.specs.Change.{Setting, Between, Put-turn}
+use Rattle.levels.specs.Edit.{Pieces, Scans, Enters-in, Enters-below}
+use Rattle.edits.specs.Change.{Setting, Between, Enter-turn}
 use Rattle.table.proofs.Laws.MaskedKeys.{head-most, tail-most}
 use Rattle.edits.proofs.Laws.WayLevels.{pred-suc, counts-one}
 use Rattle.edits.proofs.Laws.Changed.{one-changed, two-changed}
@@ -52,10 +52,10 @@ module _ (s : Sizes) (xs : List Order) (o : Order) (zs : List Order) (w : Settin
           (tail-above s (suc j) (o .key) zs (up-from zs (omega arith) (behind-up s xs o zs w))) sc
 
       -- at the key's level
-      pub put-inside : (bs′ : List ℕ) → level s (o .key) ≡ suc j → Puts-in s (suc j) (first-key (head-part s (suc j) xs)) x o bs bs′ →
+      pub enter-inside : (bs′ : List ℕ) → level s (o .key) ≡ suc j → Enters-in s (suc j) (first-key (head-part s (suc j) xs)) x o bs bs′ →
           (x .last ≡ first-key (head-part s j xs)) × Between s (xs ++ zs) (xs ++ o ∷ zs) j bs′
-      unfolding Puts-in
-      put-inside bs′ h p =
+      unfolding Enters-in
+      enter-inside bs′ h p =
           let ps = head-part s (suc j) xs in
           let qs = tail-part s (suc j) zs in
           let same = count-same s (suc j) xs o zs (key-pos s xs o zs w) h in
@@ -71,10 +71,10 @@ module _ (s : Sizes) (xs : List Order) (o : Order) (zs : List Order) (w : Settin
           )
 
       -- below it
-      pub put-under : (bs′ : List ℕ) → suc j < level s (o .key) → Puts-below s (suc j) (first-key (head-part s (suc j) xs)) x o bs bs′ →
+      pub enter-under : (bs′ : List ℕ) → suc j < level s (o .key) → Enters-below s (suc j) (first-key (head-part s (suc j) xs)) x o bs bs′ →
           (x .last ≡ first-key (head-part s j xs)) × Between s (xs ++ zs) (xs ++ o ∷ zs) j bs′
-      unfolding Puts-below
-      put-under bs′ h p =
+      unfolding Enters-below
+      enter-under bs′ h p =
           let ps = head-part s (suc j) xs in
           let qs = tail-part s (suc j) zs in
           let more = count-high s (suc j) xs o zs (key-pos s xs o zs w) h in
@@ -90,16 +90,16 @@ module _ (s : Sizes) (xs : List Order) (o : Order) (zs : List Order) (w : Settin
                 (λ g n m. sym (part-other s (suc j) xs o zs (all-up s xs o zs w) g n m)) (rw (length-both (suc j) ps qs) more),
           )
 
--- THE TURN, as `put_level` has it
+-- THE TURN, as `enter_level` has it
 module _ (s : Sizes) (l f : ℕ) (o : Order) (bs : List ℕ) (x : Spot) where
-  pub put-turn-in : (k : ℕ) (bs′ : List ℕ) → Scans s bs k f (o .key) x → k ≡ l → Puts-in s k f x o bs bs′ → Put-turn s k l f o bs bs′ (x .last)
-  unfolding Put-turn
-  put-turn-in zero bs′ sc h p xs zs w e pos le fe b = absurd (omega arith)
-  put-turn-in (suc j) bs′ sc h p xs zs w e pos le fe b =
-      rw (pred-suc j) (put-inside s xs o zs w j (omega (arith, e, le, level-most s (o .key))) bs b x (rw fe at sc) bs′ (omega (arith, e, h)) (rw fe at p))
+  pub enter-turn-in : (k : ℕ) (bs′ : List ℕ) → Scans s bs k f (o .key) x → k ≡ l → Enters-in s k f x o bs bs′ → Enter-turn s k l f o bs bs′ (x .last)
+  unfolding Enter-turn
+  enter-turn-in zero bs′ sc h p xs zs w e pos le fe b = absurd (omega arith)
+  enter-turn-in (suc j) bs′ sc h p xs zs w e pos le fe b =
+      rw (pred-suc j) (enter-inside s xs o zs w j (omega (arith, e, le, level-most s (o .key))) bs b x (rw fe at sc) bs′ (omega (arith, e, h)) (rw fe at p))
 
-  pub put-turn-below : (k : ℕ) (bs′ : List ℕ) → Scans s bs k f (o .key) x → (k ≡ l → ⊥) → Puts-below s k f x o bs bs′ → Put-turn s k l f o bs bs′ (x .last)
-  unfolding Put-turn
-  put-turn-below zero bs′ sc h p xs zs w e pos le fe b = absurd (omega arith)
-  put-turn-below (suc j) bs′ sc h p xs zs w e pos le fe b =
-      rw (pred-suc j) (put-under s xs o zs w j (omega (arith, e, le, level-most s (o .key))) bs b x (rw fe at sc) bs′ (omega (arith, e, le, h)) (rw fe at p))
+  pub enter-turn-below : (k : ℕ) (bs′ : List ℕ) → Scans s bs k f (o .key) x → (k ≡ l → ⊥) → Enters-below s k f x o bs bs′ → Enter-turn s k l f o bs bs′ (x .last)
+  unfolding Enter-turn
+  enter-turn-below zero bs′ sc h p xs zs w e pos le fe b = absurd (omega arith)
+  enter-turn-below (suc j) bs′ sc h p xs zs w e pos le fe b =
+      rw (pred-suc j) (enter-under s xs o zs w j (omega (arith, e, le, level-most s (o .key))) bs b x (rw fe at sc) bs′ (omega (arith, e, le, h)) (rw fe at p))

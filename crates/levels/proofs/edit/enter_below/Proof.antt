@@ -1,14 +1,14 @@
--- `levels::edit::put_below` meets its contract: each need follows from the laws listed.
+-- `levels::edit::enter_below` meets its contract: each need follows from the laws listed.
 use borrow.Author.Needs.{needs}
 use mathlib.Core.Path.{refl}
 use native.Mathlib.Omega.{arith}
 use Rattle.levels.proofs.Laws.Chunking.{number-half}
 use Rattle.levels.proofs.Laws.Levels.{numbers-fit}
-use Rattle.levels.proofs.Laws.Parting.{put-below-short, put-below-made}
-use Rattle.levels.proofs.edit.put_below.Statement.{statement}
-use Rattle.levels.proofs.edit.put_below.Tie as tie
+use Rattle.levels.proofs.Laws.Parting.{enter-below-short, enter-below-made}
+use Rattle.levels.proofs.edit.enter_below.Statement.{statement}
+use Rattle.levels.proofs.edit.enter_below.Tie as tie
 
-ruleset laws = (needs, put-below-short)
+ruleset laws = (needs, enter-below-short)
 
 add-pour : tie.Need-add-pour
 add-pour c =
@@ -25,9 +25,9 @@ pour-requires c κs =
 returns-2 : tie.Need-returns-2
 returns-2 c =
     let p = c .before .before .before .before .before .before .before .before .before .before .before .before .before .before .before .before .before .before .before .before .before .before .before .before .before .before .before .before .before .pre in
-    put-below-made _ _ _ _ _ (p .1) _ _ _ refl refl _ _ (c .before .before .before .before .before .before .before .before .before .before .before .before .before .before .before .before .before .before .before .before .read .ensures .2) (p .0 .few) _ _ (c .before .before .before .before .before .before .before .before .before .before .before .before .before .before .before .before .before .before .before .before .before .before .before .later .ensures) (omega (arith, c .before .before .before .before .before .before .before .before .before .before .before .before .before .before .before .before .before .before .if1 .left)) _ (c .before .before .before .before .before .before .before .before .before .before .before .before .before .before .before .store .ensures .1) _ _ _ (c .before .before .before .before .before .before .before .before .before .before .before .write-node .ensures) (c .before .before .before .before .before .before .before .bring .ensures) (search needs) _ (c .before .before .before .pour .ensures)
+    enter-below-made _ _ _ _ _ (p .1) _ _ _ refl refl _ _ (c .before .before .before .before .before .before .before .before .before .before .before .before .before .before .before .before .before .before .before .before .read .ensures .2) (p .0 .few) _ _ (c .before .before .before .before .before .before .before .before .before .before .before .before .before .before .before .before .before .before .before .before .before .before .before .later .ensures) (omega (arith, c .before .before .before .before .before .before .before .before .before .before .before .before .before .before .before .before .before .before .if1 .left)) _ (c .before .before .before .before .before .before .before .before .before .before .before .before .before .before .before .store .ensures .1) _ _ _ (c .before .before .before .before .before .before .before .before .before .before .before .write-node .ensures) (c .before .before .before .before .before .before .before .bring .ensures) (search needs) _ (c .before .before .before .pour .ensures)
 
-pub put-below-spec : {M : Type 1} → statement M
-put-below-spec =
+pub enter-below-spec : {M : Type 1} → statement M
+enter-below-spec =
     tie.close
     (tie.spec (λ c. search laws) (λ c. search laws) (λ c κs. search laws) (λ c. search laws) (λ c κs. search laws) (λ c. search laws) (λ c. search laws) (λ c. search laws) (λ c κs. search laws) (λ c. search laws) (λ c κs. search laws) (λ c. search laws) (λ c. search laws) (λ c. search laws) (λ c. search laws) (λ c. search laws) (λ c. search laws) (λ c κs. search laws) add-pour (λ c. search laws) (λ c. search laws) pour-requires (λ c. search laws) returns-2)
