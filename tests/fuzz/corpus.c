@@ -28,8 +28,20 @@ static void save(const uint8_t *bytes, size_t n) {
     }
 }
 
-/* Sizes, a kind of seed, then calls: many puts, then all kinds. */
+/* An enter or amend, by the first byte of its step. The other bytes are such that none behind them belongs to it too. */
+static size_t order_step(uint8_t *to, uint8_t kind) {
+    to[0] = kind;
+    to[1] = (uint8_t)draw();
+    to[2] = (uint8_t)(draw() % 216);
+    to[3] = (uint8_t)(draw() % 240);
+    to[4] = (uint8_t)(draw() % 250);
+    return 5;
+}
+
+/* Sizes, a kind of seed, then calls: many enters of any keys, amends of held ones, a few enters of held keys and amends of any, then all kinds. */
 static void calls(uint8_t gamma, uint8_t nodes, uint8_t orders, uint8_t more, uint8_t seed) {
+    enum { ENTER_HELD = 0, ENTER_ANY = 16, AMEND_ANY = 4, AMEND_HELD = 20 };
+    static const uint8_t seed_bytes[] = {0, 0, 8, 36, 40, 4, 4, 4}; /* what each kind of seed reads */
     uint8_t bytes[1200];
     size_t n = 0;
     bytes[n++] = 0;
@@ -38,11 +50,12 @@ static void calls(uint8_t gamma, uint8_t nodes, uint8_t orders, uint8_t more, ui
     bytes[n++] = (uint8_t)(orders - 1);
     bytes[n++] = more;
     bytes[n++] = seed;
-    while (n < 60) bytes[n++] = (uint8_t)draw();
-    for (int i = 0; n < sizeof bytes - 8; i++) {
-        bytes[n++] = (uint8_t)(i < orders + 4 ? 0 : draw());
-        for (int j = 0; j < 4; j++) bytes[n++] = (uint8_t)draw();
-    }
+    for (int i = 0; i < seed_bytes[seed % 8]; i++) bytes[n++] = (uint8_t)draw();
+    bytes[n++] = (uint8_t)draw(); /* how make's buffers are lent */
+    for (int i = 0; i < orders + 4; i++) n += order_step(bytes + n, ENTER_ANY);
+    for (int i = 0; i < orders / 2 + 2; i++) n += order_step(bytes + n, AMEND_HELD);
+    for (int i = 0; i < 4; i++) n += order_step(bytes + n, i % 2 ? ENTER_HELD : AMEND_ANY);
+    while (n < sizeof bytes) bytes[n++] = (uint8_t)draw();
     save(bytes, n);
 }
 
@@ -58,7 +71,7 @@ static void image(uint32_t gamma, uint32_t nodes, uint32_t orders, uint32_t bloc
     }
     for (uint32_t i = 0; i < held; i++) {
         uint32_t key = 1 + draw() % 1000, total = 1 + draw() % 500, displayed = draw() % 3 ? draw() % (total + 1) : 0;
-        balluchaw_put(bytes + 1, length, key, total, displayed);
+        balluchaw_enter(bytes + 1, length, key, total, displayed);
     }
     for (uint8_t first = 192; first < 196; first++) {
         bytes[0] = first;

@@ -5,17 +5,17 @@
  *   - a call answers the number that a plain model of documents 01 and 02 gives, and all parts of its answer;
  *   - a refused call and a reading change no byte of the table, a refused span none of its output;
  *   - after an edit the check answers 0, and lookup and span give what the model holds;
- *   - the same orders put into a new table in another order give the same bytes;
- *   - bytes that the check accepts are those that make and puts of their own orders give; on others every call but descent answers 4;
+ *   - the same orders entered into a new table in another order, some of them amended later, give the same bytes;
+ *   - bytes that the check accepts are those that make and enters of their own orders give; on others every call but descent answers 4;
  *   - a descent's path is the way through the model's levels, block by block. It answers 4 only to a header or length that is none; on other
  *     bytes that are no table it writes no more than it counts, and counts no more than its output holds.
  *
  * Each buffer has exactly its length and stands, as the input says, against a page behind it, a page before it, or on the heap.
  *
  * The archive is compiled from proved code and carries no coverage counters, so libFuzzer would see only this file. The counters that it also
- * reads (section __libfuzzer_extra_counters) are fed from outside: which call answered which number, and what each edit left: levels, full and
- * part-filled blocks, how far a chunk stands from its home, chains that go round, chunk numbers. So an input that brings a table into a new shape
- * is kept, though no new line of this file ran. */
+ * reads (section __libfuzzer_extra_counters) are fed from outside: which call answered which number, which questions of an enter or amend had
+ * a no at once, and what each edit left: levels, full and part-filled blocks, how far a chunk stands from its home, chains that go round, chunk
+ * numbers. So an input that brings a table into a new shape is kept, though no new line of this file ran. */
 #define _GNU_SOURCE
 #include "balluchaw.h"
 #include "../c/zone.h"
@@ -23,7 +23,7 @@
 #define P 2147483647u
 
 enum { FIRST_RAW = 192, MOST_ORDERS = 48, MOST_STEPS = 120, LONGEST_RAW = 1 << 16 };
-enum { MAKE, CHECK, PUT, CANCEL, LOOKUP, SPAN, SEEK, DESCENT };
+enum { MAKE, CHECK, ENTER, AMEND, CANCEL, LOOKUP, SPAN, SEEK, DESCENT };
 enum { TABLE, SEED, OUTPUT };
 
 #ifdef __clang__
@@ -197,16 +197,15 @@ static int is_key(uint32_t key) { return key >= 1 && key < P; }
 /* Only what stands behind a displayed part is reserve, so a wholly hidden order has none. */
 static uint32_t reserve_of(const order *o) { return o->displayed == 0 ? 0 : o->total - o->displayed; }
 
-static uint32_t model_put(model *m, order o) {
+static int are_quantities(order o) { return o.total >= 1 && o.displayed <= o.total; }
+
+static uint32_t model_enter(model *m, order o) {
     if (!is_key(o.key)) return 5;
-    if (o.total < 1 || o.displayed > o.total) return 6;
+    if (!are_quantities(o)) return 6;
+    if (find(m, o.key)) return 13;
+    if (m->n >= m->orders) return 7;
     uint32_t i = place_of(m, o.key);
     o.level = level(m, o.key);
-    if (find(m, o.key)) {
-        m->held[i] = o;
-        return 0;
-    }
-    if (m->n >= m->orders) return 7;
     memmove(m->held + i + 1, m->held + i, (m->n - i) * sizeof(order));
     m->held[i] = o;
     m->n++;
@@ -214,6 +213,16 @@ static uint32_t model_put(model *m, order o) {
     m->n--;
     memmove(m->held + i, m->held + i + 1, (m->n - i) * sizeof(order));
     return 8;
+}
+
+static uint32_t model_amend(model *m, order o) {
+    if (!is_key(o.key)) return 5;
+    if (!are_quantities(o)) return 6;
+    if (!find(m, o.key)) return 9;
+    order *held = &m->held[place_of(m, o.key)];
+    held->total = o.total;
+    held->displayed = o.displayed;
+    return 0;
 }
 
 static uint32_t model_cancel(model *m, uint32_t key) {
@@ -282,11 +291,19 @@ static uint32_t make(const model *m, table *t, unsigned how) {
     return number;
 }
 
-static uint32_t put(table *t, order o, unsigned how) {
+static uint32_t enter(table *t, order o, unsigned how) {
     uint8_t *lent = lend(t, how);
-    uint32_t number = balluchaw_put(lent, t->length, o.key, o.total, o.displayed);
+    uint32_t number = balluchaw_enter(lent, t->length, o.key, o.total, o.displayed);
     take_back(t, lent, how, number == 0);
-    feature(PUT * 16 + number);
+    feature(ENTER * 16 + number % 16);
+    return number;
+}
+
+static uint32_t amend(table *t, order o, unsigned how) {
+    uint8_t *lent = lend(t, how);
+    uint32_t number = balluchaw_amend(lent, t->length, o.key, o.total, o.displayed);
+    take_back(t, lent, how, number == 0);
+    feature(AMEND * 16 + number % 16);
     return number;
 }
 
@@ -449,6 +466,17 @@ static void seek(const model *m, table *t, uint32_t lo, uint32_t hi, uint32_t re
         if (m->held[i].key >= lo && m->held[i].key <= hi) sought(&m->held[i], reserve, number);
 }
 
+/* An order of a table whose other orders are not known: it cannot be entered, and amended to what it is it leaves the bytes. */
+static void held_in(table *t, order o, unsigned how) {
+    must(enter(t, (order){o.key, 9, 5, 0}, how) == 13, "enter of a table's own order");
+    uint8_t *before = malloc(t->length);
+    must(before != NULL, "no memory");
+    memcpy(before, t->bytes, t->length);
+    must(amend(t, o, how + 1) == 0, "amend of a table's own order");
+    must(memcmp(before, t->bytes, t->length) == 0, "an order amended to what it is leaves the bytes");
+    free(before);
+}
+
 /* An order of a table whose other orders are not known: a seek finds it up to its reserve, and not for one more. */
 static void seek_to(table *t, order o, unsigned how) {
     for (uint32_t more = 0; more < 2; more++) {
@@ -461,7 +489,8 @@ static void seek_to(table *t, order o, unsigned how) {
 
 /* Every call on bytes that are no table. */
 static void refused(table *t, unsigned how) {
-    must(put(t, (order){7, 9, 5, 0}, how) == 4, "put on what is no table");
+    must(enter(t, (order){7, 9, 5, 0}, how) == 4, "enter on what is no table");
+    must(amend(t, (order){7, 9, 5, 0}, how + 6) == 4, "amend on what is no table");
     must(cancel(t, 7, how + 1) == 4, "cancel on what is no table");
     lookup(NULL, t, 7, how + 2);
     span(NULL, t, 1, P - 1, 24, how + 3);
@@ -475,23 +504,30 @@ static order turned(const model *m, uint32_t turn, uint32_t i) {
     return m->held[turn & 1 ? place : m->n - 1 - place];
 }
 
-/* The model's orders in a new table, put in another order, with one more among them that goes again. */
+/* The model's orders in a new table: they come in another order, with one more among them that goes again, every second one with quantities that
+ * are amended later. What the one more has kept out comes in at the end. */
 static void another_way(const model *m, const table *t, uint32_t turn, uint32_t other, unsigned how) {
     table second = {malloc(t->length), t->length};
     must(second.bytes != NULL, "no memory");
     memset(second.bytes, (int)turn, second.length);
     must(make(m, &second, how) == 0, "make accepts what it accepted before");
-    int more = is_key(other) && !find(m, other) && put(&second, (order){other, 3, 2, 0}, how) == 0;
+    uint8_t in[MOST_ORDERS];
+    int more = is_key(other) && !find(m, other) && enter(&second, (order){other, 3, 2, 0}, how) == 0;
     for (uint32_t i = 0; i < m->n; i++) {
         if (more && i == m->n / 2) {
-            must(cancel(&second, other, how) == 0, "an order that was put can be cancelled");
+            must(cancel(&second, other, how) == 0, "an order that was entered can be cancelled");
             more = 0;
         }
-        must(put(&second, turned(m, turn, i), how) == 0 || more, "an order of a set that fits is accepted");
+        order o = turned(m, turn, i);
+        in[i] = enter(&second, i % 2 ? o : (order){o.key, 3, 2, 0}, how) == 0;
+        must(in[i] || more, "an order of a set that fits is accepted");
     }
-    if (more) must(cancel(&second, other, how) == 0, "an order that was put can be cancelled");
-    /* Those that the other order kept out come in now. */
-    for (uint32_t i = 0; i < m->n / 2; i++) must(put(&second, turned(m, turn, i), how) == 0, "an order of a set that fits is accepted");
+    if (more) must(cancel(&second, other, how) == 0, "an order that was entered can be cancelled");
+    for (uint32_t i = 0; i < m->n; i++) {
+        order o = turned(m, turn, i);
+        if (in[i]) must(i % 2 || amend(&second, o, how) == 0, "an order that was entered can be amended");
+        else must(amend(&second, o, how) == 9 && enter(&second, o, how) == 0, "an order that was kept out can be entered, not amended");
+    }
     must(memcmp(second.bytes, t->bytes, t->length) == 0, "two histories to the same orders give the same bytes");
     free(second.bytes);
 }
@@ -519,9 +555,10 @@ static void foreign(table *t, unsigned how) {
     for (uint32_t i = 0; i < n; i++) {
         const uint8_t *row = rows + 12 * (size_t)(n - 1 - i);
         order o = {number_at(row), number_at(row + 4), number_at(row + 8), 0};
-        must(put(&second, o, how) == 0, "the orders of a table fit into its sizes");
+        must(enter(&second, o, how) == 0, "the orders of a table fit into its sizes");
         if (i < 16) descent_to(t, o, how + i);
         if (i < 4) seek_to(t, o, how + i);
+        if (i < 4) held_in(t, o, how + i);
     }
     must(memcmp(second.bytes, t->bytes, t->length) == 0, "a table that the check accepts is what its orders give");
     free(rows);
@@ -538,12 +575,13 @@ static uint32_t some_key(const model *m) {
     return word();
 }
 
-static order some_order(const model *m) {
-    order o = {some_key(m), 0, 0, 0};
+/* An order under a held key, if that is wanted and there is one; else under any, which may be held too. */
+static order some_order(const model *m, int held) {
+    order o = {held && m->n ? m->held[byte() % m->n].key : some_key(m), 0, 0, 0};
     uint32_t b = byte();
-    o.total = b < 200 ? 1 + b : b < 240 ? UINT32_MAX : word();
+    o.total = b < 200 ? 1 + b : b < 236 ? UINT32_MAX : b < 240 ? 0 : word();
     b = byte();
-    o.displayed = b < 128 ? (uint32_t)((uint64_t)o.total * b / 127) : b < 160 ? 0 : b < 250 ? o.total : word();
+    o.displayed = b < 128 ? (uint32_t)((uint64_t)o.total * b / 127) : b < 160 ? 0 : b < 236 ? o.total : b < 250 ? o.total + 1 : word();
     return o;
 }
 
@@ -607,6 +645,109 @@ static void any_make(unsigned how) {
     free(t.bytes);
 }
 
+/* Which questions of an enter or amend have a no, each asked for itself: their order shows only where two have. */
+static void noes(const model *m, int call, order o) {
+    uint32_t held = find(m, o.key) != NULL, no_order = m->n == m->orders, no_block = chunks(m) == m->blocks;
+    feature(3300 + (call == AMEND) * 32 + !is_key(o.key) * 16 + !are_quantities(o) * 8 + held * 4 + no_order * 2 + no_block);
+}
+
+/* After an edit of a key: the table is one, and has what the model has. */
+static void edited(const model *m, table *t, uint32_t key, unsigned how) {
+    must(check(t, how + 1) == 0, "a table after an edit is one");
+    lookup(m, t, key, how + 2);
+    descent(m, t, key, how % 80, how + 3);
+    shape(m, t);
+}
+
+static void step_enter(model *m, table *t, int held, unsigned how) {
+    order o = some_order(m, held);
+    noes(m, ENTER, o);
+    uint32_t number = enter(t, o, how);
+    must(number == model_enter(m, o), "enter answers as the model");
+    if (number == 0) edited(m, t, o.key, how);
+}
+
+static void step_amend(model *m, table *t, int held, unsigned how) {
+    order o = some_order(m, held);
+    noes(m, AMEND, o);
+    uint32_t number = amend(t, o, how);
+    must(number == model_amend(m, o), "amend answers as the model");
+    if (number == 0) edited(m, t, o.key, how);
+}
+
+static void step_cancel(model *m, table *t, unsigned how) {
+    uint32_t key = some_key(m), number = cancel(t, key, how);
+    must(number == model_cancel(m, key), "cancel answers as the model");
+    if (number == 0) edited(m, t, key, how);
+}
+
+/* The table lent shorter or longer than it is. */
+static void other_length(const table *t, unsigned how) {
+    size_t length = how % 2 ? t->length - 1 - byte() % t->length : t->length + 1 + byte() % 40;
+    table other = {calloc(length ? length : 1, 1), length};
+    must(other.bytes != NULL, "no memory");
+    memcpy(other.bytes, t->bytes, length < t->length ? length : t->length);
+    must(check(&other, how) == 4, "a table of another length is none");
+    refused(&other, how);
+    free(other.bytes);
+}
+
+/* A copy of the table with some bytes changed, or with a block moved or in the place of another too. */
+static void other_bytes(const model *m, const table *t, int blocks, unsigned how) {
+    table other = {malloc(t->length), t->length};
+    must(other.bytes != NULL, "no memory");
+    memcpy(other.bytes, t->bytes, t->length);
+    size_t width = 8 + 12 * m->nodes;
+    uint8_t *one = other.bytes + 53 + byte() % m->blocks * width, *two = other.bytes + 53 + byte() % m->blocks * width;
+    for (uint32_t i = 0, changes = 1 + how / 64; !blocks && i < changes; i++) {
+        uint8_t *place = one + byte() * width / 256;
+        *(how & 32 ? other.bytes + byte() % 53 : place) = (uint8_t)byte();
+    }
+    for (size_t i = 0; blocks && i < width; i++) {
+        uint8_t old = one[i];
+        if (how & 32) one[i] = two[i];
+        two[i] = old;
+    }
+    foreign(&other, how);
+    free(other.bytes);
+}
+
+/* Enters mostly ask for free keys and amends for held ones, so that tables fill; a quarter of each asks for the others. */
+static void step(model *m, table *t) {
+    uint32_t kind = byte(), how = byte(), quarter = kind / 16 % 4 == 0;
+    switch (kind % 16) {
+    case 0: case 1: case 2: case 3: step_enter(m, t, quarter, how); return;
+    case 4: case 5: case 6: step_amend(m, t, !quarter, how); return;
+    case 7: case 8: step_cancel(m, t, how); return;
+    case 9: {
+        uint32_t key = some_key(m);
+        lookup(m, t, key, how);
+        descent(m, t, key, byte() % 80, how + 1);
+        return;
+    }
+    case 10: {
+        uint32_t lo = some_key(m), hi = some_key(m);
+        span(m, t, lo, hi, 12 * (size_t)(byte() % (MOST_ORDERS + 2)) + byte() % 13, how);
+        return;
+    }
+    case 11: {
+        uint32_t lo = some_key(m), hi = how & 16 ? lo : some_key(m);
+        seek(m, t, lo, hi, some_reserve(m), how);
+        return;
+    }
+    case 12: {
+        uint32_t turn = byte();
+        another_way(m, t, turn, some_key(m), how);
+        return;
+    }
+    case 13:
+        if (how & 64) any_make(how);
+        else other_length(t, how);
+        return;
+    default: other_bytes(m, t, kind % 16 == 15, how);
+    }
+}
+
 static void calls(void) {
     static model m;
     m = (model){.gamma = 2 + byte() % 63, .nodes = 2 + byte() % 31};
@@ -621,75 +762,7 @@ static void calls(void) {
     memset(t.bytes, 0xa5, t.length);
     must(make(&m, &t, byte()) == 0, "make accepts allowed sizes");
     must(check(&t, 0) == 0, "a new table is one");
-    for (int step = 0; step < MOST_STEPS && left > 0; step++) {
-        uint32_t kind = byte(), how = byte();
-        if (kind % 16 < 6) {
-            order o = some_order(&m);
-            uint32_t number = put(&t, o, how);
-            must(number == model_put(&m, o), "put answers as the model");
-            if (number == 0) {
-                must(check(&t, how + 1) == 0, "a table after a put is one");
-                lookup(&m, &t, o.key, how + 2);
-                descent(&m, &t, o.key, how % 80, how + 3);
-                shape(&m, &t);
-            }
-        } else if (kind % 16 < 9) {
-            uint32_t key = some_key(&m);
-            uint32_t number = cancel(&t, key, how);
-            must(number == model_cancel(&m, key), "cancel answers as the model");
-            if (number == 0) {
-                must(check(&t, how + 1) == 0, "a table after a cancel is one");
-                lookup(&m, &t, key, how + 2);
-                descent(&m, &t, key, how % 80, how + 3);
-                shape(&m, &t);
-            }
-        } else if (kind % 16 == 9) {
-            uint32_t key = some_key(&m);
-            lookup(&m, &t, key, how);
-            descent(&m, &t, key, byte() % 80, how + 1);
-        } else if (kind % 16 == 10) {
-            uint32_t lo = some_key(&m), hi = some_key(&m);
-            span(&m, &t, lo, hi, 12 * (size_t)(byte() % (MOST_ORDERS + 2)) + byte() % 13, how);
-        } else if (kind % 16 == 11) {
-            uint32_t lo = some_key(&m), hi = how & 16 ? lo : some_key(&m);
-            seek(&m, &t, lo, hi, some_reserve(&m), how);
-        } else if (kind % 16 == 12) {
-            uint32_t turn = byte();
-            another_way(&m, &t, turn, some_key(&m), how);
-        } else if (kind % 16 == 13 && how & 64) {
-            any_make(how);
-        } else if (kind % 16 == 13) {
-            /* The table lent shorter or longer than it is. */
-            size_t length = how % 2 ? t.length - 1 - byte() % t.length : t.length + 1 + byte() % 40;
-            table other = {calloc(length ? length : 1, 1), length};
-            must(other.bytes != NULL, "no memory");
-            memcpy(other.bytes, t.bytes, length < t.length ? length : t.length);
-            must(check(&other, how) == 4, "a table of another length is none");
-            refused(&other, how);
-            free(other.bytes);
-        } else {
-            /* Some bytes changed, on a copy. */
-            table other = {malloc(t.length), t.length};
-            must(other.bytes != NULL, "no memory");
-            memcpy(other.bytes, t.bytes, t.length);
-            size_t width = 8 + 12 * m.nodes;
-            uint8_t *one = other.bytes + 53 + byte() % m.blocks * width, *two = other.bytes + 53 + byte() % m.blocks * width;
-            if (kind % 16 == 14) {
-                for (uint32_t i = 0, changes = 1 + how / 64; i < changes; i++) {
-                    uint8_t *place = one + byte() * width / 256;
-                    *(how & 32 ? other.bytes + byte() % 53 : place) = (uint8_t)byte();
-                }
-            } else {
-                for (size_t i = 0; i < width; i++) {
-                    uint8_t old = one[i];
-                    if (how & 32) one[i] = two[i];
-                    two[i] = old;
-                }
-            }
-            foreign(&other, how);
-            free(other.bytes);
-        }
-    }
+    for (int i = 0; i < MOST_STEPS && left > 0; i++) step(&m, &t);
     span(&m, &t, 1, P - 1, 12 * (size_t)m.n, 1);
     for (uint32_t i = 0; i < m.n; i++) descent(&m, &t, m.held[i].key, 2 * LONGEST_WAY, i);
     another_way(&m, &t, m.n / 2 + 1, 9, 2);

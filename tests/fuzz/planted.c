@@ -6,7 +6,8 @@
 #include <string.h>
 
 uint32_t __real_balluchaw_check(const uint8_t *table, size_t length);
-uint32_t __real_balluchaw_put(uint8_t *table, size_t length, uint32_t key, uint32_t total, uint32_t displayed);
+uint32_t __real_balluchaw_enter(uint8_t *table, size_t length, uint32_t key, uint32_t total, uint32_t displayed);
+uint32_t __real_balluchaw_amend(uint8_t *table, size_t length, uint32_t key, uint32_t total, uint32_t displayed);
 uint32_t __real_balluchaw_cancel(uint8_t *table, size_t length, uint32_t key);
 balluchaw_reply __real_balluchaw_lookup(const uint8_t *table, size_t length, uint32_t key);
 balluchaw_reply __real_balluchaw_descent(const uint8_t *table, size_t length, uint32_t key, uint8_t *path, size_t path_length);
@@ -44,15 +45,49 @@ uint32_t __wrap_balluchaw_check(const uint8_t *table, size_t length) {
     return __real_balluchaw_check(table, length);
 }
 
-uint32_t __wrap_balluchaw_put(uint8_t *table, size_t length, uint32_t key, uint32_t total, uint32_t displayed) {
+static int is_held(const uint8_t *table, size_t length, uint32_t key) { return __real_balluchaw_lookup(table, length, key).number == 0; }
+
+/* Whether the header has as many orders as it allows; whether every block has a chunk. */
+static int no_order_free(const uint8_t *table) { return table[7] == table[11] && table[8] == table[12]; }
+
+static int no_block_free(const uint8_t *table, size_t length) {
+    for (size_t at = 53; at < length; at += 8 + 12 * (size_t)table[6])
+        if (table[at] == 0) return 0;
+    return 1;
+}
+
+/* Faults in which question comes first, or in what becomes of a held key. */
+static uint32_t faulty_enter(uint8_t *table, size_t length, uint32_t key, uint32_t total, uint32_t displayed, uint32_t number) {
+    if (fault(22) && number == 13) return __real_balluchaw_amend(table, length, key, total, displayed); /* overwrites a held key */
+    if (fault(23) && number == 13 && no_order_free(table)) return 7;
+    if (fault(24) && number == 13 && no_block_free(table, length)) return 8;
+    if (fault(25) && number == 6 && is_held(table, length, key)) return 13;
+    return number;
+}
+
+uint32_t __wrap_balluchaw_enter(uint8_t *table, size_t length, uint32_t key, uint32_t total, uint32_t displayed) {
     uint8_t kept = length ? table[length - 1] : 0;
     if (fault(4) && length >= 200 && table[0] == 1 && last_byte_free(table, length)) table[length - 1] = 0;
     else kept = 0;
-    uint32_t number = __real_balluchaw_put(table, length, key, total, displayed);
-    /* A table that counts its puts in a byte that nobody reads: only its bytes tell. */
+    uint32_t number = __real_balluchaw_enter(table, length, key, total, displayed);
+    /* A table that counts its enters in a byte that nobody reads: only its bytes tell. */
     if (fault(4) && number != 4 && length >= 200 && last_byte_free(table, length)) table[length - 1] = (uint8_t)(kept + (number == 0));
-    if (fault(5) && number == 8) table[20] ^= 1; /* a refused put that leaves a trace */
-    return number;
+    if (fault(5) && number == 8) table[20] ^= 1; /* a refused enter that leaves a trace */
+    return faulty_enter(table, length, key, total, displayed, number);
+}
+
+uint32_t __wrap_balluchaw_amend(uint8_t *table, size_t length, uint32_t key, uint32_t total, uint32_t displayed) {
+    balluchaw_reply old = __real_balluchaw_lookup(table, length, key);
+    uint32_t number = __real_balluchaw_amend(table, length, key, total, displayed);
+    if (fault(26) && number == 9) return __real_balluchaw_enter(table, length, key, total, displayed); /* adds a key */
+    if (fault(27) && number == 6 && old.number == 9) return 9;
+    /* One of the two quantities stays, where it fits the other. */
+    if (fault(28) && number == 0 && old.displayed <= total) return __real_balluchaw_amend(table, length, key, total, old.displayed);
+    if (fault(29) && number == 0 && displayed <= old.total) return __real_balluchaw_amend(table, length, key, old.total, displayed);
+    /* Room is asked for, though none is needed. The order goes back to what it was, so that only the number is wrong. */
+    int full = number == 0 && ((fault(30) && no_order_free(table)) || (fault(31) && no_block_free(table, length)));
+    if (full) __real_balluchaw_amend(table, length, key, old.total, old.displayed);
+    return full ? (fault(30) ? 7 : 8) : number;
 }
 
 uint32_t __wrap_balluchaw_cancel(uint8_t *table, size_t length, uint32_t key) {
