@@ -1,4 +1,4 @@
-/* The archive's eight calls but make, and the checks and the descent in C: what is timed of them, and what their answers must be. */
+/* The archive's nine calls but make, and the checks and the descent in C: what is timed of them, and what their answers must be. */
 #include "balluchaw.h"
 #include "peers/check.h"
 #include "peers/descent.h"
@@ -60,21 +60,22 @@ int archive_seek(void *p) {
     return r.number != 12 && (r.number != 0 || r.key < s->picked.key || r.displayed == 0 || r.total - r.displayed < RESERVE);
 }
 
-int archive_put(void *p) {
+/* An order that archive_away took out. */
+int archive_enter(void *p) {
     const scene *s = p;
-    return balluchaw_put(s->table, s->length, s->picked.key, s->picked.total, s->picked.displayed) != 0;
+    return balluchaw_enter(s->table, s->length, s->picked.key, s->picked.total, s->picked.displayed) != 0;
+}
+
+/* A held order gets other quantities. */
+int archive_amend(void *p) {
+    const scene *s = p;
+    u32 total = s->picked.total == 1 ? 2 : 1;
+    return balluchaw_amend(s->table, s->length, s->picked.key, total, 1) != 0;
 }
 
 int archive_cancel(void *p) {
     const scene *s = p;
     return balluchaw_cancel(s->table, s->length, s->picked.key) != 0;
-}
-
-/* A put of a held order with other quantities. */
-int archive_replace(void *p) {
-    const scene *s = p;
-    u32 total = s->picked.total == 1 ? 2 : 1;
-    return balluchaw_put(s->table, s->length, s->picked.key, total, 1) != 0;
 }
 
 /* A strict scene is asked whether the table is still one. */
@@ -94,10 +95,13 @@ void archive_away(void *p) {
     still_a_table(s);
 }
 
+/* After a cancel the order is entered, after an amend amended back. Which it was, a descent tells without another check. */
 void archive_back(void *p) {
     scene *s = p;
     still_a_table(s);
-    balluchaw_put(s->table, s->length, s->picked.key, s->picked.total, s->picked.displayed);
+    int held = balluchaw_descent(s->table, s->length, s->picked.key, s->path, s->path_room).number == 0;
+    uint32_t (*change)(uint8_t *, size_t, uint32_t, uint32_t, uint32_t) = held ? balluchaw_amend : balluchaw_enter;
+    change(s->table, s->length, s->picked.key, s->picked.total, s->picked.displayed);
     archive_kept(p);
 }
 

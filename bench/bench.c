@@ -3,9 +3,9 @@
  *     bench SCRATCH RESULTS      writes RESULTS/results.txt and RESULTS/results.csv; SCRATCH has the files of the databases, best in memory
  *     bench SCRATCH              one small configuration, few rounds, more questions about the answers; writes nothing
  *
- * Checks are in ns for each order held, descents in ns, other calls in µs; medians of the rounds and the best. A put of the archive leaves canonical bytes and
- * checks the table first. The others' puts are followed by what makes their bytes canonical, unless they are said to be alone; where they check first, it is
- * said. */
+ * Checks are in ns for each order held, descents in ns, other calls in µs; medians of the rounds and the best. A change by the archive leaves canonical bytes
+ * and checks the table first. The others' changes are followed by what makes their bytes canonical, unless they are said to be alone; where they check first,
+ * it is said. */
 #include "balluchaw.h"
 #include "report.h"
 #include "rust/peers.h"
@@ -59,12 +59,12 @@ static const variant calls[] = {
     {"seek", "balluchaw", archive_seek, archive_pick, 0, 1, FEW, {0}},
     {"span of all", "balluchaw", archive_span, 0, 0, 1, FEW, {0}},
     {"cancel", "balluchaw", archive_cancel, archive_pick, archive_back, 1, FEW, {0}},
-    {"put", "balluchaw", archive_put, archive_away, archive_kept, 1, FEW, {0}},
-    {"put of a held key", "balluchaw", archive_replace, archive_pick, archive_back, 1, FEW, {0}},
+    {"enter", "balluchaw", archive_enter, archive_away, archive_kept, 1, FEW, {0}},
+    {"amend", "balluchaw", archive_amend, archive_pick, archive_back, 1, FEW, {0}},
     {"lookup", "reference", plain_lookup, archive_pick, 0, 1, 1, {0}},
     {"span of all", "reference", plain_span, 0, 0, 1, 1, {0}},
     {"cancel", "reference", plain_cancel, archive_pick, archive_back, 1, 1, {0}},
-    {"put", "reference", plain_put, archive_away, archive_kept, 1, 1, {0}},
+    {"enter", "reference", plain_enter, archive_away, archive_kept, 1, 1, {0}},
 };
 
 static const variant other_calls[] = {
@@ -80,14 +80,14 @@ static const variant other_calls[] = {
     {"cancel", "SQLite integrity_check + VACUUM INTO", sqlite_cancel_checked, sqlite_pick, sqlite_back, 1, 1, {0}},
     {"cancel", "SQLite WITHOUT ROWID integrity_check + VACUUM INTO", clustered_cancel_checked, sqlite_pick, sqlite_back, 1, 1, {0}},
     {"cancel", "LMDB + sorted copy", lmdb_cancel, lmdb_pick, lmdb_back, 1, 1, {0}},
-    {"put", "BTreeMap + all its bytes", map_put, map_away, 0, 1, FEW, {0}},
-    {"put", "SQLite + VACUUM INTO", sqlite_put, sqlite_away, sqlite_back, 1, 1, {0}},
-    {"put", "SQLite WITHOUT ROWID + VACUUM INTO", clustered_put, sqlite_away, sqlite_back, 1, 1, {0}},
-    {"put", "SQLite integrity_check + VACUUM INTO", sqlite_put_checked, sqlite_away, sqlite_back, 1, 1, {0}},
-    {"put", "SQLite WITHOUT ROWID integrity_check + VACUUM INTO", clustered_put_checked, sqlite_away, sqlite_back, 1, 1, {0}},
-    {"put", "LMDB + sorted copy", lmdb_put, lmdb_away, 0, 1, 1, {0}},
-    {"put", "SQLite alone", sqlite_put_alone, sqlite_away, sqlite_back, 1, FEW, {0}},
-    {"put", "LMDB alone", lmdb_put_alone, lmdb_away, 0, 1, FEW, {0}},
+    {"enter", "BTreeMap + all its bytes", map_enter, map_away, 0, 1, FEW, {0}},
+    {"enter", "SQLite + VACUUM INTO", sqlite_enter, sqlite_away, sqlite_back, 1, 1, {0}},
+    {"enter", "SQLite WITHOUT ROWID + VACUUM INTO", clustered_enter, sqlite_away, sqlite_back, 1, 1, {0}},
+    {"enter", "SQLite integrity_check + VACUUM INTO", sqlite_enter_checked, sqlite_away, sqlite_back, 1, 1, {0}},
+    {"enter", "SQLite WITHOUT ROWID integrity_check + VACUUM INTO", clustered_enter_checked, sqlite_away, sqlite_back, 1, 1, {0}},
+    {"enter", "LMDB + sorted copy", lmdb_enter, lmdb_away, 0, 1, 1, {0}},
+    {"enter", "SQLite alone", sqlite_enter_alone, sqlite_away, sqlite_back, 1, FEW, {0}},
+    {"enter", "LMDB alone", lmdb_enter_alone, lmdb_away, 0, 1, FEW, {0}},
 };
 
 /* Each round has its own keys, the same for all. */
@@ -198,7 +198,7 @@ static int smoke(void) {
     measure((configuration){"load 0.80", 16, 16, 1000, 80, RANDOM, 0, 1}, 1);
     measure((configuration){"full", 2, 2, 300, 100, RANDOM, 0, 0}, 1);
     for (size_t i = 0; i < tables; i++) compare(compared[i]);
-    printf("\nall answers were right, descents and their paths as in C on %zu tables, and the bytes as before after each cancel and put\n", 2 + tables);
+    printf("\nall answers were right, descents and their paths as in C on %zu tables, and the bytes as before after each change\n", 2 + tables);
     return 0;
 }
 

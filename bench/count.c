@@ -41,8 +41,8 @@ static void count_all(configuration of) {
         count(&s, "lookup", archive_lookup, archive_pick, NULL);
         count(&s, "seek", archive_seek, archive_pick, NULL);
         count(&s, "cancel", archive_cancel, archive_pick, archive_back);
-        count(&s, "put", archive_put, archive_away, NULL);
-        count(&s, "put of a held key", archive_replace, archive_pick, archive_back);
+        count(&s, "enter", archive_enter, archive_away, NULL);
+        count(&s, "amend", archive_amend, archive_pick, archive_back);
     }
     same_bytes(&s);
     scene_close(&s);

@@ -6,7 +6,7 @@ import re
 import statistics
 import sys
 
-CALLS = ["lookup", "seek", "span of all", "cancel", "put", "put of a held key"]
+CALLS = ["lookup", "seek", "span of all", "cancel", "enter", "amend"]
 UNCHECKED = ["descent", "descent in C", "descent, not held", "the same in C"]
 
 

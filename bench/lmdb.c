@@ -44,18 +44,19 @@ static MDB_txn *store_open(store *t) {
     return txn;
 }
 
-static void put_order(store *t, MDB_txn *txn, const order *o) {
+/* Only a new order: one under its key ends the program. */
+static void insert(store *t, MDB_txn *txn, const order *o) {
     u8 bytes[12];
     wbe32(bytes, o->key);
     wbe32(bytes + 4, o->total);
     wbe32(bytes + 8, o->displayed);
     MDB_val key = {4, bytes}, value = {8, bytes + 4};
-    need_ok(mdb_put(txn, t->dbi, &key, &value, 0), "put");
+    need_ok(mdb_put(txn, t->dbi, &key, &value, MDB_NOOVERWRITE), "insert");
 }
 
-static void put_picked(const scene *s) {
+static void insert_picked(const scene *s) {
     MDB_txn *txn = begin(&main_store, 0);
-    put_order(&main_store, txn, &s->picked);
+    insert(&main_store, txn, &s->picked);
     need_ok(mdb_txn_commit(txn), "commit");
 }
 
@@ -99,7 +100,7 @@ void lmdb_open(const scene *s) {
     store_forget(&main_store, "main.mdb");
     store_forget(&copy, "copy.mdb");
     MDB_txn *txn = store_open(&main_store);
-    for (u32 i = 0; i < s->of.held; i++) put_order(&main_store, txn, &s->orders[i]);
+    for (u32 i = 0; i < s->of.held; i++) insert(&main_store, txn, &s->orders[i]);
     need_ok(mdb_txn_commit(txn), "commit");
 }
 
@@ -169,14 +170,14 @@ int lmdb_span(void *p) {
     return all_orders(write_row, s->output) != s->of.held;
 }
 
-int lmdb_put(void *p) {
+int lmdb_enter(void *p) {
     const scene *s = p;
-    put_picked(s);
+    insert_picked(s);
     return rebuild() != s->of.held;
 }
 
-/* A put that fails ends the program. */
-int lmdb_put_alone(void *p) { return put_picked(p), 0; }
+/* An insert that fails ends the program. */
+int lmdb_enter_alone(void *p) { return insert_picked(p), 0; }
 
 int lmdb_cancel(void *p) {
     const scene *s = p;
@@ -194,4 +195,4 @@ void lmdb_away(void *p) {
     cancel_picked(p);
 }
 
-void lmdb_back(void *p) { put_picked(p); }
+void lmdb_back(void *p) { insert_picked(p); }

@@ -20,9 +20,9 @@ int plain_span(void *p) {
     return reference_span(s->table, s->length, 1, P31 - 1, s->output, s->room) != s->of.held;
 }
 
-int plain_put(void *p) {
+int plain_enter(void *p) {
     const scene *s = p;
-    return reference_put(s->table, s->length, s->picked.key, s->picked.total, s->picked.displayed) != 0;
+    return reference_enter(s->table, s->length, s->picked.key, s->picked.total, s->picked.displayed) != 0;
 }
 
 int plain_cancel(void *p) {
@@ -32,7 +32,7 @@ int plain_cancel(void *p) {
 
 void map_open(const scene *s) {
     map = book_new();
-    for (u32 i = 0; i < s->of.held; i++) book_put(map, s->orders[i].key, s->orders[i].total, s->orders[i].displayed);
+    for (u32 i = 0; i < s->of.held; i++) book_insert(map, s->orders[i].key, s->orders[i].total, s->orders[i].displayed);
 }
 
 void map_close(void) { book_free(map); }
@@ -57,9 +57,9 @@ int map_span(void *p) {
     return book_write(map, s->output, s->room) != s->of.held;
 }
 
-int map_put(void *p) {
+int map_enter(void *p) {
     const scene *s = p;
-    book_put(map, s->picked.key, s->picked.total, s->picked.displayed);
+    book_insert(map, s->picked.key, s->picked.total, s->picked.displayed);
     return book_write(map, s->output, s->room) != s->of.held;
 }
 
@@ -77,5 +77,5 @@ void map_away(void *p) {
 
 void map_back(void *p) {
     const scene *s = p;
-    book_put(map, s->picked.key, s->picked.total, s->picked.displayed);
+    book_insert(map, s->picked.key, s->picked.total, s->picked.displayed);
 }

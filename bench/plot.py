@@ -1,5 +1,5 @@
 #!/usr/bin/env python3
-"""plot.py RESULTS   draws RESULTS/results.csv: check.svg, ns for each order against the number of orders, and put.svg, µs for a put."""
+"""plot.py RESULTS   draws RESULTS/results.csv: check.svg, ns for each order against the number of orders, and enter.svg, µs for an enter."""
 import csv
 import math
 import sys
@@ -27,7 +27,7 @@ PLOTS = [
     ("check.svg", "check", "Check of a whole table, γ = B = 16, load 0.80", "ns for each order held",
      [("balluchaw", "balluchaw"), ("check_plain", "C, plain"), ("check_tuned", "C, tuned"), ("check_fast", "C, fast"), ("reference", "Rust reference"),
       ("SQLite integrity_check", "SQLite integrity_check")]),
-    ("put.svg", "put", "One put that leaves canonical bytes, γ = B = 16, load 0.80", "µs",
+    ("enter.svg", "enter", "One enter that leaves canonical bytes, γ = B = 16, load 0.80", "µs",
      [("balluchaw", "balluchaw, with its check"), ("BTreeMap + all its bytes", "BTreeMap + all its bytes"), ("reference", "Rust reference"),
       ("SQLite + VACUUM INTO", "SQLite + VACUUM INTO"), ("SQLite integrity_check + VACUUM INTO", "SQLite integrity_check + VACUUM"),
       ("LMDB + sorted copy", "LMDB + sorted copy")]),

@@ -122,7 +122,7 @@ static void print_beyond(FILE *to, const row *r) {
 
 static void print_line(FILE *to, int i) {
     static const char *peers[] = {"check_plain", "check_tuned", "check_fast", "reference"};
-    static const char *calls[] = {"lookup", "seek", "span of all", "cancel", "put", "put of a held key"};
+    static const char *calls[] = {"lookup", "seek", "span of all", "cancel", "enter", "amend"};
     const row *check = find(i, "check", "balluchaw"), *r;
     if (!check) return;
     fprintf(to, "%-16s %3u %3u %6u  %8.2f %7.2f", scenes[i].of.title, scenes[i].of.gamma, scenes[i].of.nodes, scenes[i].of.held, check->median, check->best);
@@ -158,7 +158,7 @@ static void print_all_times(FILE *to) {
     print_times(to, "check", "SQLite integrity_check", "");
     print_times(to, "check", "reference", "");
     for (int k = 0; k < 2; k++) {
-        const char *operation = k ? "cancel" : "put";
+        const char *operation = k ? "cancel" : "enter";
         print_times(to, operation, "SQLite WITHOUT ROWID integrity_check + VACUUM INTO", asked);
         print_times(to, operation, "SQLite integrity_check + VACUUM INTO", "");
         print_times(to, operation, "SQLite WITHOUT ROWID + VACUUM INTO", "");
@@ -205,7 +205,7 @@ static void print_descents(FILE *to) {
 void report_summary(FILE *to) {
     fprintf(to, "%33s%-13s%-34s%s\n", "", "check,", "as a multiple of", "beyond the check, us");
     fprintf(to, "%-16s %3s %3s  %6s %9s %7s %6s %6s %6s %6s", "", "γ", "B", "orders", "ns/order", "best", "plain", "tuned", "fast", "refer.");
-    fprintf(to, " %9s %9s %9s %9s %9s %9s\n", "lookup", "seek", "span", "cancel", "put", "put held");
+    fprintf(to, " %9s %9s %9s %9s %9s %9s\n", "lookup", "seek", "span", "cancel", "enter", "amend");
     for (int i = 0; i < scene_count; i++) print_line(to, i);
     print_all_times(to);
     print_descents(to);

@@ -33,7 +33,7 @@ static void make_near_p(scene *s) {
     wbe32(seed + 20, P31 - 65536 - 2);
     if (balluchaw_make(t, s->length, t[5], t[6], be16(t + 7), be16(t + 9), seed, sizeof seed) != 0) fail("make: refused");
     for (u32 i = 1; i <= s->of.held; i++)
-        if (balluchaw_put(t, s->length, 1000 * i, i + 1, i) != 0) fail("put: refused");
+        if (balluchaw_enter(t, s->length, 1000 * i, i + 1, i) != 0) fail("enter: refused");
 }
 
 void scene_open(scene *s, configuration of, int strict) {

@@ -7,7 +7,7 @@
 #include <sqlite3.h>
 #include <unistd.h>
 
-enum { PUT, DELETE, SELECT, SCAN, INTEGRITY, VACUUM, STATEMENTS };
+enum { INSERT, REPLACE, DELETE, SELECT, SCAN, INTEGRITY, VACUUM, STATEMENTS };
 
 enum { ORDINARY, CLUSTERED, FORMS };
 
@@ -36,14 +36,14 @@ static int step(const base *b, int which, const order *o, int numbers) {
     return code != SQLITE_DONE;
 }
 
-static int put(const base *b, const scene *s) { return step(b, PUT, &s->picked, 3); }
+static int insert(const base *b, const scene *s) { return step(b, INSERT, &s->picked, 3); }
 static int take_out(const base *b, const scene *s) { return step(b, DELETE, &s->picked, 1); }
 static int vacuum(const base *b, const scene *s) { return step(b, VACUUM, &s->picked, 0); }
 
 static void prepare(base *b) {
     char into[600];
     snprintf(into, sizeof into, "VACUUM INTO '%s'", file);
-    const char *text[STATEMENTS] = {"INSERT OR REPLACE INTO orders VALUES (?, ?, ?)", "DELETE FROM orders WHERE key = ?",
+    const char *text[STATEMENTS] = {"INSERT INTO orders VALUES (?, ?, ?)", "REPLACE INTO orders VALUES (?, ?, ?)", "DELETE FROM orders WHERE key = ?",
                                     "SELECT total, displayed FROM orders WHERE key = ?", "SELECT key, total, displayed FROM orders ORDER BY key",
                                     "PRAGMA integrity_check", into};
     for (int i = 0; i < STATEMENTS; i++) need_ok(b, sqlite3_prepare_v2(b->database, text[i], -1, &b->statement[i], NULL), text[i]);
@@ -55,7 +55,7 @@ static void open_base(base *b, const scene *s, const char *create) {
     run(b, create);
     prepare(b);
     run(b, "BEGIN");
-    for (u32 i = 0; i < s->of.held; i++) step(b, PUT, &s->orders[i], 3);
+    for (u32 i = 0; i < s->of.held; i++) step(b, INSERT, &s->orders[i], 3);
     run(b, "COMMIT");
 }
 
@@ -114,19 +114,19 @@ int sqlite_span(void *p) {
     return found != s->of.held;
 }
 
-static int put_and_vacuum(const base *b, const scene *s) { return put(b, s) | vacuum(b, s); }
+static int insert_and_vacuum(const base *b, const scene *s) { return insert(b, s) | vacuum(b, s); }
 static int delete_and_vacuum(const base *b, const scene *s) { return take_out(b, s) | vacuum(b, s); }
 
 int sqlite_check(void *p) { return (void)p, check(&bases[ORDINARY]); }
-int sqlite_put(void *p) { return put_and_vacuum(&bases[ORDINARY], p); }
-int sqlite_put_alone(void *p) { return put(&bases[ORDINARY], p); }
+int sqlite_enter(void *p) { return insert_and_vacuum(&bases[ORDINARY], p); }
+int sqlite_enter_alone(void *p) { return insert(&bases[ORDINARY], p); }
 int sqlite_cancel(void *p) { return delete_and_vacuum(&bases[ORDINARY], p); }
-int sqlite_put_checked(void *p) { return sqlite_check(p) | sqlite_put(p); }
+int sqlite_enter_checked(void *p) { return sqlite_check(p) | sqlite_enter(p); }
 int sqlite_cancel_checked(void *p) { return sqlite_check(p) | sqlite_cancel(p); }
 int clustered_check(void *p) { return (void)p, check(&bases[CLUSTERED]); }
-int clustered_put(void *p) { return put_and_vacuum(&bases[CLUSTERED], p); }
+int clustered_enter(void *p) { return insert_and_vacuum(&bases[CLUSTERED], p); }
 int clustered_cancel(void *p) { return delete_and_vacuum(&bases[CLUSTERED], p); }
-int clustered_put_checked(void *p) { return clustered_check(p) | clustered_put(p); }
+int clustered_enter_checked(void *p) { return clustered_check(p) | clustered_enter(p); }
 int clustered_cancel_checked(void *p) { return clustered_check(p) | clustered_cancel(p); }
 
 void sqlite_pick(void *p) {
@@ -139,6 +139,8 @@ void sqlite_away(void *p) {
     for (int i = 0; i < FORMS; i++) take_out(&bases[i], p);
 }
 
+/* Into both tables, of which one may have the order. */
 void sqlite_back(void *p) {
-    for (int i = 0; i < FORMS; i++) put(&bases[i], p);
+    const scene *s = p;
+    for (int i = 0; i < FORMS; i++) step(&bases[i], REPLACE, &s->picked, 3);
 }

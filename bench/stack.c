@@ -7,9 +7,9 @@
 
 #include <ucontext.h>
 
-enum { PAINT = 0xA5, STACK = 4 << 20, KEYS = 4, CALLS = 8, LEVELS = 18, MOST_ORDERS = 65535 };
+enum { PAINT = 0xA5, STACK = 4 << 20, KEYS = 4, CALLS = 9, LEVELS = 18, MOST_ORDERS = 65535 };
 
-static const char *const names[CALLS] = {"make", "check", "lookup", "span", "seek", "put", "cancel", "descent"};
+static const char *const names[CALLS] = {"make", "check", "lookup", "span", "seek", "enter", "amend", "cancel", "descent"};
 
 static u8 stack[STACK] __attribute__((aligned(64)));
 static ucontext_t caller, callee;
@@ -25,7 +25,8 @@ static void check(void) { answer = balluchaw_check(table, length); }
 static void lookup(void) { answer = balluchaw_lookup(table, length, key).number; }
 static void span(void) { answer = balluchaw_span(table, length, 1, P31 - 1, output, room).number; }
 static void seek(void) { answer = balluchaw_seek(table, length, 1, key, UINT32_MAX).number % 12; }
-static void put(void) { answer = balluchaw_put(table, length, key, 2, 1); }
+static void enter(void) { answer = balluchaw_enter(table, length, key, 2, 1); }
+static void amend(void) { answer = balluchaw_amend(table, length, key, 2, 1); }
 static void cancel(void) { answer = balluchaw_cancel(table, length, key); }
 
 static void descent(void) { answer = balluchaw_descent(table, length, key, output, length).number; }
@@ -60,7 +61,7 @@ static void keep_most(size_t *most, void (*function)(void)) {
     if (now > *most) *most = now;
 }
 
-/* All calls with keys from all over the table. The put of a cancelled key and the put of a held one count as one call. */
+/* All calls with keys from all over the table. What is entered was cancelled just before. */
 static void measure(size_t most[CALLS]) {
     u32 held = be16(table + 11);
     keep_most(&most[0], make);
@@ -73,10 +74,10 @@ static void measure(size_t most[CALLS]) {
         key = be32(rows + 12 * (size_t)((u64)i * (held - 1) / (KEYS - 1)));
         keep_most(&most[2], lookup);
         keep_most(&most[4], seek);
-        keep_most(&most[7], descent);
-        keep_most(&most[5], put);
-        keep_most(&most[6], cancel);
-        keep_most(&most[5], put);
+        keep_most(&most[8], descent);
+        keep_most(&most[6], amend);
+        keep_most(&most[7], cancel);
+        keep_most(&most[5], enter);
     }
     free(rows);
 }
@@ -110,7 +111,7 @@ static void stairs(const char *name, u32 nodes) {
     for (u32 level = LEVELS; level >= 1; level--)
         for (u32 i = 1; i < nodes; i++) {
             last += (level == LEVELS || i == 1 ? 1u : 2u) << (level - 1);
-            if (balluchaw_put(table, length, last, 2, 1) != 0) exit(1);
+            if (balluchaw_enter(table, length, last, 2, 1) != 0) exit(1);
         }
     print_table(name);
     free(table);

@@ -26,13 +26,15 @@ ROWS = [
     ("SQLite, SELECT by primary key", "descent, key not held", "SQLite"),
     ("LMDB, get in an open transaction", "descent, key not held", "LMDB get"),
     ("Rust's BTreeMap, get", "descent, key not held", "BTreeMap"),
-    ("**put**", "put", "balluchaw"),
-    ("of that beyond its check", "put", "balluchaw", "us_beyond_check"),
-    ("SQLite, put", "put", "SQLite alone"),
-    ("LMDB, put", "put", "LMDB alone"),
-    ("SQLite, put and VACUUM INTO", "put", "SQLite + VACUUM INTO"),
-    ("SQLite, integrity_check, put and VACUUM INTO", "put", "SQLite integrity_check + VACUUM INTO"),
-    ("LMDB, put and a sorted copy", "put", "LMDB + sorted copy"),
+    ("**enter**", "enter", "balluchaw"),
+    ("of that beyond its check", "enter", "balluchaw", "us_beyond_check"),
+    ("SQLite, insert", "enter", "SQLite alone"),
+    ("LMDB, insert", "enter", "LMDB alone"),
+    ("SQLite, insert and VACUUM INTO", "enter", "SQLite + VACUUM INTO"),
+    ("SQLite, integrity_check, insert and VACUUM INTO", "enter", "SQLite integrity_check + VACUUM INTO"),
+    ("LMDB, insert and a sorted copy", "enter", "LMDB + sorted copy"),
+    ("**amend**", "amend", "balluchaw"),
+    ("of that beyond its check", "amend", "balluchaw", "us_beyond_check"),
     ("**span of all orders**", "span of all", "balluchaw"),
     ("SQLite, all orders", "span of all", "SQLite"),
     ("LMDB, all orders", "span of all", "LMDB"),
@@ -70,7 +72,7 @@ def worst(directory):
     """The lines of the larger tables."""
     with open(f"{directory}/worst.txt", encoding="utf-8") as source:
         lines = [(line[:46].strip(), line[46:].split()) for line in source.read().splitlines()[2:]]
-    yield "| seconds for one call | M | bytes | looks of a check, over M² | check | lookup | put | span of all | descent |"
+    yield "| seconds for one call | M | bytes | looks of a check, over M² | check | lookup | enter | span of all | descent |"
     yield "|---" * 9 + "|"
     for name, (blocks, _, _, length, _, looks, _, *seconds) in lines:
         if int(blocks) > 32000:

@@ -2,8 +2,8 @@
  *
  *     turns [ROUNDS]      prints, for each table, the median over the rounds of now's time for each ns of before's
  *
- * Each side is bench/archive.c of its own folder with the archive of that folder, so a call may have another shape before than now. What the archive before does
- * not have is left out. */
+ * Each side is bench/archive.c of its own folder with the archive of that folder, so a call may have another shape before than now: a put of a free key where
+ * now there is enter, and of a held one where there is amend. What the archive before does not have is left out. */
 #include "rust/peers.h"
 #include "timing.h"
 #include "variants.h"
@@ -12,8 +12,8 @@
 #include <stdlib.h>
 
 #define SIDE(side)                                                                                                                                     \
-    int side##_check(void *p), side##_lookup(void *p), side##_seek(void *p), side##_span(void *p), side##_cancel(void *p), side##_put(void *p);        \
-    int side##_replace(void *p), side##_descent(void *p) __attribute__((weak));                                                                        \
+    int side##_check(void *p), side##_lookup(void *p), side##_seek(void *p), side##_span(void *p), side##_cancel(void *p), side##_enter(void *p);      \
+    int side##_amend(void *p), side##_descent(void *p) __attribute__((weak));                                                                          \
     void side##_pick(void *p), side##_away(void *p), side##_back(void *p), side##_kept(void *p);                                                       \
     static const variant side##_calls[] = {                                                                                                            \
         {"check", #side, side##_check, 0, 0, 1, 1, {0}},                                                                                               \
@@ -21,8 +21,8 @@
         {"seek", #side, side##_seek, side##_pick, 0, 1, 1, {0}},                                                                                       \
         {"span of all", #side, side##_span, 0, 0, 1, 1, {0}},                                                                                          \
         {"cancel", #side, side##_cancel, side##_pick, side##_back, 1, 1, {0}},                                                                         \
-        {"put", #side, side##_put, side##_away, side##_kept, 1, 1, {0}},                                                                               \
-        {"put, held", #side, side##_replace, side##_pick, side##_back, 1, 1, {0}},                                                                     \
+        {"enter", #side, side##_enter, side##_away, side##_kept, 1, 1, {0}},                                                                           \
+        {"amend", #side, side##_amend, side##_pick, side##_back, 1, 1, {0}},                                                                           \
         {"descent", #side, side##_descent, ask_held, 0, ASKED, 1, {0}},                                                                                \
         {"not held", #side, side##_descent, ask_free, 0, ASKED, 1, {0}},                                                                               \
     }

@@ -1,5 +1,5 @@
 /* Times the calls on tables whose sender chose seed and keys so that searches are as long as they can be. Each table is written here by docs/format.md, so the
- * archive's own answers show that it is one: check gives 0, and a put into the table without one order gives the same bytes.
+ * archive's own answers show that it is one: check gives 0, and an enter into the table without one order gives the same bytes.
  *
  *     worst          all tables, some two minutes
  *     worst BLOCKS   all shapes with so many blocks
@@ -195,18 +195,18 @@ static void usual(table *t) {
 static double start;
 static double seconds(void) { return (now_ns() - start) / 1e9; }
 
-/* Check, lookup of the last order, put of one, span of all, descent to the last order. Asks whether each answer is right. */
+/* Check, lookup of the last order, enter of one, span of all, descent to the last order. Asks whether each answer is right. */
 static void measure(const char *name, u32 blocks, void (*choose)(table *)) {
     table *t = table_new(blocks);
     choose(t);
-    u32 put = t->keys[0], last = t->keys[t->held - 1];
+    u32 entered = t->keys[0], last = t->keys[t->held - 1];
     for (u32 i = 0; i < t->held; i++)
-        if (level_of(t, t->keys[i]) > level_of(t, put)) put = t->keys[i];
+        if (level_of(t, t->keys[i]) > level_of(t, entered)) entered = t->keys[i];
     double taken[5];
     size_t room = 12 * (size_t)t->held + 2 * (size_t)t->blocks; /* for every order, and for every block */
     u8 *without = malloc(t->length), *output = malloc(room);
     if (!without || !output) fail("no memory");
-    write_table(t, put);
+    write_table(t, entered);
     memcpy(without, t->bytes, t->length);
     write_table(t, 0);
     start = now_ns();
@@ -214,13 +214,13 @@ static void measure(const char *name, u32 blocks, void (*choose)(table *)) {
     taken[0] = seconds(), start = now_ns();
     if (balluchaw_lookup(t->bytes, t->length, last).total != 2) fail("lookup: the answer is wrong");
     taken[1] = seconds(), start = now_ns();
-    if (balluchaw_put(without, t->length, put, 2, 1) != 0) fail("put: the answer is wrong");
+    if (balluchaw_enter(without, t->length, entered, 2, 1) != 0) fail("enter: the answer is wrong");
     taken[2] = seconds(), start = now_ns();
     if (balluchaw_span(t->bytes, t->length, 1, P31 - 1, output, room).count != t->held) fail("span: not all orders");
     taken[3] = seconds(), start = now_ns();
     if (balluchaw_descent(t->bytes, t->length, last, output, room).total != 2) fail("descent: the answer is wrong");
     taken[4] = seconds();
-    if (memcmp(without, t->bytes, t->length) != 0) fail("put: the bytes are others");
+    if (memcmp(without, t->bytes, t->length) != 0) fail("enter: the bytes are others");
     double squared = (double)t->blocks * t->blocks;
     printf("%-46s %6u %6u %6u %8zu %11llu %5.2f %7.2f %9.3f %9.3f %9.3f %9.3f %9.6f\n", name, t->blocks, t->full, t->held, t->length, (unsigned long long)t->looks,
            (double)t->looks / squared, (double)t->looks_behind / squared, taken[0], taken[1], taken[2], taken[3],
@@ -237,13 +237,13 @@ int main(int argc, char **argv) {
     u32 half = argc > 1 ? blocks : MOST / 2 + 1; /* the others are as slow as a constant g, so smaller tables do */
     printf("%-46s  %6s %6s %6s %8s %11s %5s %7s %39s\n", "γ = B = 2", "blocks", "full", "orders", "bytes", "looks of", "over", "behind,",
            "seconds for one call, CPU time");
-    printf("%-46s %6s %6s %6s %8s %11s  %5s  %7s %9s %9s %9s %9s %9s\n", "", "M", "", "", "", "a check", "M²", "M²", "check", "lookup", "put", "span",
+    printf("%-46s %6s %6s %6s %8s %11s  %5s  %7s %9s %9s %9s %9s %9s\n", "", "M", "", "", "", "a check", "M²", "M²", "check", "lookup", "enter", "span",
            "descent");
     measure("random seed, random keys", blocks, usual);
     for (u32 m = 8192; argc == 1 && m < MOST; m *= 2) measure("g constant, keys 1, 2, 3, ..", m, constant);
     measure("g constant, keys 1, 2, 3, ..", blocks, constant);
     measure("g(x) = x, keys of one residue mod M", half, congruent);
     measure("random seed, keys chosen for it", half, chosen);
-    measure("g constant, a put that cuts a long partition", blocks, cut);
+    measure("g constant, an enter cuts a long partition", blocks, cut);
     return 0;
 }

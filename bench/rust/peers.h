@@ -5,10 +5,10 @@
 #include <stddef.h>
 #include <stdint.h>
 
-/* The reference: each change rebuilds the whole image. check, put and cancel give the number of the question, lookup the total (0: none),
+/* The reference: each change rebuilds the whole image. check, enter and cancel give the number of the question, lookup the total (0: none),
  * span the number of orders that it has written. */
 uint32_t reference_check(const uint8_t *table, size_t length);
-uint32_t reference_put(uint8_t *table, size_t length, uint32_t key, uint32_t total, uint32_t displayed);
+uint32_t reference_enter(uint8_t *table, size_t length, uint32_t key, uint32_t total, uint32_t displayed);
 uint32_t reference_cancel(uint8_t *table, size_t length, uint32_t key);
 uint32_t reference_lookup(const uint8_t *table, size_t length, uint32_t key);
 uint32_t reference_span(const uint8_t *table, size_t length, uint32_t lo, uint32_t hi, uint8_t *output, size_t room);
@@ -17,7 +17,7 @@ uint32_t reference_span(const uint8_t *table, size_t length, uint32_t lo, uint32
 typedef struct book book;
 book *book_new(void);
 void book_free(book *b);
-void book_put(book *b, uint32_t key, uint32_t total, uint32_t displayed);
+void book_insert(book *b, uint32_t key, uint32_t total, uint32_t displayed);
 void book_cancel(book *b, uint32_t key);
 uint32_t book_lookup(const book *b, uint32_t key, uint32_t *displayed);
 uint32_t book_write(const book *b, uint8_t *output, size_t room);

@@ -35,7 +35,7 @@ pub unsafe extern "C" fn book_free(book: *mut Book) {
 /// # Safety
 /// The book is one of `book_new`, not yet freed.
 #[no_mangle]
-pub unsafe extern "C" fn book_put(book: *mut Book, key: u32, total: u32, displayed: u32) {
+pub unsafe extern "C" fn book_insert(book: *mut Book, key: u32, total: u32, displayed: u32) {
     (*book).0.insert(key, (total, displayed));
 }
 

@@ -13,14 +13,14 @@ pub unsafe extern "C" fn reference_check(table: *const u8, length: usize) -> u32
 /// # Safety
 /// The table is lent.
 #[no_mangle]
-pub unsafe extern "C" fn reference_put(
+pub unsafe extern "C" fn reference_enter(
     table: *mut u8,
     length: usize,
     key: u32,
     total: u32,
     displayed: u32,
 ) -> u32 {
-    calls::put(lent(table, length), key, total, displayed).number
+    calls::enter(lent(table, length), key, total, displayed).number
 }
 
 /// # Safety
