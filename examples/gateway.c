@@ -9,7 +9,7 @@
 #include <stdlib.h>
 #include <sys/random.h>
 
-/* The most chunks that 100 orders can make with these sizes are 310. With so many blocks a put is never turned down by question 8. */
+/* The most chunks that 100 orders can make with these sizes are 310. With so many blocks an enter is never turned down by question 8. */
 enum { GAMMA = 16, NODES = 16, ORDERS = 100, BLOCKS = 310 };
 
 static uint8_t table[BALLUCHAW_LENGTH(NODES, BLOCKS)];
@@ -18,9 +18,13 @@ static const char *const answers[] = {
     "done", "the seed is none", "the sizes are not allowed", "the buffer has another length", "the bytes are no table",
     "no such order number can be", "the quantities do not fit together", "the table has its most orders", "the table has no block left",
     "no such order is open", "the span ends before it starts", "the output is too short", "no order has such a reserve",
+    "that number is taken",
 };
 
-enum kind { ENTER, PULL };
+/* A new order and a change of an open one are two calls. If one call did either, an old number typed again would overwrite an open order, and a change
+ * that comes too late would bring back an order that was pulled. */
+enum kind { ENTER, AMEND, PULL };
+static const char *const kinds[] = {"enter", "amend", "pull"};
 
 static const struct { enum kind kind; uint32_t order, total, displayed; } day[] = {
     {ENTER, 4711, 500, 100},
@@ -29,8 +33,11 @@ static const struct { enum kind kind; uint32_t order, total, displayed; } day[] 
     {ENTER, 4720, 80, 100},   /* more displayed than there is */
     {PULL, 4712, 0, 0},
     {ENTER, 4713, 2000, 0},   /* wholly hidden */
-    {ENTER, 4711, 400, 100},  /* 100 of them were filled */
-    {PULL, 4712, 0, 0},       /* too late */
+    {ENTER, 4711, 60, 60},    /* a new order, but an old number */
+    {ENTER, 4714, 60, 60},    /* the same, under a number that is free */
+    {AMEND, 4711, 400, 100},  /* 100 of them were filled */
+    {AMEND, 4712, 300, 50},   /* too late: it was pulled */
+    {PULL, 4712, 0, 0},       /* and so is this */
     {PULL, 4715, 0, 0},
     {ENTER, 4716, 1200, 200},
 };
@@ -55,12 +62,29 @@ static void make_table(void) {
     must(number == 0, answers[number]);
 }
 
+static uint32_t ask(enum kind kind, uint32_t order, uint32_t total, uint32_t displayed) {
+    switch (kind) {
+    case ENTER: return balluchaw_enter(table, sizeof table, order, total, displayed);
+    case AMEND: return balluchaw_amend(table, sizeof table, order, total, displayed);
+    default: return balluchaw_cancel(table, sizeof table, order);
+    }
+}
+
+/* What stands under a number that somebody took for a free one. That is rare, so a lookup will do. */
+static void print_taken(uint32_t order) {
+    balluchaw_reply open = balluchaw_lookup(table, sizeof table, order);
+    must(open.number == 0, answers[open.number]);
+    printf("%8u stands as it was: %u of %u displayed\n", (unsigned)order, (unsigned)open.displayed, (unsigned)open.total);
+}
+
+/* Refusals go back to the dealer, and the gateway never tries the other call by itself. After 13 the dealer sees the open order, and either takes a free
+ * number or amends. After an amend's 9 the order is gone: to enter it would bring it back. */
 static void run_day(void) {
     for (size_t i = 0; i < sizeof day / sizeof day[0]; i++) {
-        uint32_t number = day[i].kind == ENTER ? balluchaw_put(table, sizeof table, day[i].order, day[i].total, day[i].displayed)
-                                               : balluchaw_cancel(table, sizeof table, day[i].order);
+        uint32_t number = ask(day[i].kind, day[i].order, day[i].total, day[i].displayed);
         must(number != 4, answers[4]); /* somebody else wrote the table: no order is safe in it */
-        printf("%s %u: %s\n", day[i].kind == ENTER ? "enter" : "pull", (unsigned)day[i].order, answers[number]);
+        printf("%s %u: %s\n", kinds[day[i].kind], (unsigned)day[i].order, answers[number]);
+        if (number == 13) print_taken(day[i].order);
     }
 }
 
@@ -119,7 +143,7 @@ int main(int count, char **words) {
     run_day();
     save(name);
     load(name);
-    print_span(4711, 4719);
+    print_span(4700, 4799);
     print_order(4716);
     print_order(4712);
     print_reserve(1000);

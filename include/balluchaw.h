@@ -15,16 +15,17 @@
  *    1  is the seed 40 bytes, each of its ten big-endian numbers below 2,147,483,647?
  *    2  are the sizes allowed?
  *    3  is the table exactly of the length that the sizes ask for?
- *    4  are the bytes an image: a table that some make, puts and cancels give?
+ *    4  are the bytes an image: a table that some make, enters, amends and cancels give?
  *       A descent asks less: are the numbers of the header allowed, and is the length the one that they ask for?
  *    5  is each key 1 to 2,147,483,646?
  *    6  is total at least 1 and displayed at most total?
- *    7  is the key held, or are there fewer orders than the table may hold?
+ *    7  are there fewer orders than the table may hold?
  *    8  do the resulting orders have at most as many chunks as the table has blocks?
  *    9  is the key held?
  *   10  is lo at most hi?
  *   11  has the output 12 bytes for each held key in lo..hi? Of a descent: two bytes for each block of its path?
  *   12  is there an order in lo..hi that has at least the reserve?
+ *   13  is the key free: is no order held under it?
  *
  * The reserve of an order is what stands behind its displayed part: total - displayed; but 0 where displayed is 0. Nothing of a wholly hidden
  * order is displayed, so it has no reserve, however large it is.
@@ -60,8 +61,13 @@ uint32_t balluchaw_make(uint8_t *table, size_t length, uint32_t gamma, uint32_t 
 /* Are these bytes a table, whoever made them? Asks 4. */
 uint32_t balluchaw_check(const uint8_t *table, size_t length);
 
-/* Adds an order, or replaces both quantities of a held one. Asks 4, 5, 6, 7, 8. */
-uint32_t balluchaw_put(uint8_t *table, size_t length, uint32_t key, uint32_t total, uint32_t displayed);
+/* Adds an order under a key that is not held. A held key answers 13, however full the table is, and its order stays as it was.
+ * Asks 4, 5, 6, 13, 7, 8. */
+uint32_t balluchaw_enter(uint8_t *table, size_t length, uint32_t key, uint32_t total, uint32_t displayed);
+
+/* Replaces both quantities of a held order. A key that is not held answers 9, and no order is added. A full table does not matter: orders and
+ * chunks stay as many as they were, so there is no 7 and no 8. Asks 4, 5, 6, 9. */
+uint32_t balluchaw_amend(uint8_t *table, size_t length, uint32_t key, uint32_t total, uint32_t displayed);
 
 /* Takes an order out. Nothing in the bytes tells that it was there. Asks 4, 5, 9. */
 uint32_t balluchaw_cancel(uint8_t *table, size_t length, uint32_t key);

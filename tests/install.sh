@@ -1,9 +1,9 @@
 #!/usr/bin/env bash
-# Installs into build/prefix, compiles the examples and the code that the README and the manual show by what pkg-config says alone, runs them and the
-# program, and uninstalls: no file may be left, nor any touched that was there before.
+# Installs into build/prefix, compares the calls that archive, header and manual have, compiles the examples and the code that the README and the manual show
+# by what pkg-config says alone, runs them and the program, and uninstalls: no file may be left, nor any touched that was there before.
 set -euo pipefail
 cd "$(dirname "$0")/.."
-scripts/need python3:python3
+scripts/need python3:python3 nm:binutils
 prefix=$PWD/build/prefix
 rm -rf "$prefix"
 mkdir -p "$prefix/lib" "$prefix/share/man/man3"
@@ -11,6 +11,13 @@ echo "not ours" | tee "$prefix/lib/other.a" "$prefix/share/man/man3/other.3" >/d
 
 MAKEFLAGS= make --no-print-directory install PREFIX="$prefix" >build/install.log 2>&1 || { cat build/install.log; exit 1; }
 installed=$(find "$prefix" -type f ! -name 'other.*' | wc -l)
+
+# Archive, header and manual have the same calls, one by one: none is left from before, and none is missing.
+names() { grep -o 'balluchaw_[a-z]*' | grep -v '^balluchaw_reply$' | sort; }
+calls=$(nm -g --defined-only "$prefix/lib/libballuchaw.a" | grep ' T ' | names)
+grep -o '^[a-z].* balluchaw_[a-z]*(' "$prefix/include/balluchaw.h" | names | diff <(echo "$calls") -
+sed -n '/^\.SH NAME/,/^\.SH SYNOPSIS/p' "$prefix/share/man/man3/balluchaw.3" | names | diff <(echo "$calls") -
+sed -n '/^\.SH SYNOPSIS/,/^\.SH DESCRIPTION/p' "$prefix/share/man/man3/balluchaw.3" | names | diff <(echo "$calls") -
 
 cc=${CC:-cc}
 strict=(-std=c11 -O2 -Wall -Wextra -Werror)
@@ -61,11 +68,12 @@ for i in 0 57 114 171 228 285 342 399; do some+=("${held[i]}" $((held[i] - 1)) $
 ways "$kit/sample.table" "${some[@]}" | diff <(read_ways "$kit/sample.table" "${some[@]}") -
 ways "$kit/orders.table" 4711 4712 4716 | diff <(read_ways "$kit/orders.table" 4711 4712 4716) -
 
-# The header by itself, as older C and as C++.
+# The header by itself, as older C and as C++; and the gateway as C++.
 for language in "c -std=c99" "c++ -std=c++11"; do
     read -ra words <<<"$language"
     echo '#include <balluchaw.h>' | clang -x "${words[@]}" -Wall -Wextra -Wpedantic -Werror "${flags[@]}" -fsyntax-only -
 done
+clang -x c++ -std=c++11 -Wall -Wextra -Wpedantic -Werror "${flags[@]}" -fsyntax-only "$kit/gateway.c"
 
 # A damaged file and a short one are turned down.
 printf '\377' | dd of="$kit/orders.table" bs=1 seek=60 conv=notrunc status=none
@@ -93,4 +101,4 @@ MAKEFLAGS= make --no-print-directory --silent uninstall PREFIX="$prefix"
 left=$(find "$prefix" ! -type d ! -name 'other.*')
 [ -z "$left" ] || { echo "left behind: $left"; exit 1; }
 [ "$(cat "$prefix"/lib/other.a "$prefix"/share/man/man3/other.3)" = $'not ours\nnot ours' ]
-echo "install: $installed files put in place, the examples compiled with pkg-config and run, ${#some[@]} ways down as the reader finds them, all $installed files taken away again"
+echo "install: $installed files put in place, $(wc -l <<<"$calls") calls in archive, header and manual, the examples compiled with pkg-config and run, ${#some[@]} ways down as the reader finds them, all $installed files taken away again"
