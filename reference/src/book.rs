@@ -1,4 +1,5 @@
-//! The plain book ("The plain book").
+//! The plain book ("The plain book"), with enter and amend "in place of put [..],
+//! each with its questions after 4" (document 02, request A.4).
 //!
 //! "It is given the sizes and seed of make and then each call in turn with its
 //! arguments, but no reply and no byte of the table."
@@ -30,17 +31,14 @@ impl Book {
         &self.orders
     }
 
-    /// "Questions 5, 6, 7 and 8 are asked of this set [..]. If none turns the put
-    /// down, the order is added, or replaces the one with its key." Gives the
-    /// number of the question that turns it down, or 0.
-    pub fn put(&mut self, key: u32, total: u32, displayed: u32) -> u32 {
+    /// Questions 5, 6, 13, 7 and 8. If none turns the enter down, "the order is
+    /// added". Gives the number of the question that turns it down, or 0.
+    pub fn enter(&mut self, key: u32, total: u32, displayed: u32) -> u32 {
         let questions = [
             (5, (1..=P - 1).contains(&key)),
             (6, total >= 1 && displayed <= total),
-            (
-                7,
-                self.orders.contains_key(&key) || self.n() < self.made.sizes.orders,
-            ),
+            (13, !self.orders.contains_key(&key)),
+            (7, self.n() < self.made.sizes.orders),
         ];
         let refusal = first_no(&questions);
         if refusal != 0 {
@@ -54,6 +52,21 @@ impl Book {
         }
         self.orders = resulting;
         0
+    }
+
+    /// Questions 5, 6 and 9. If none turns the amend down, the order "replaces the
+    /// one with its key".
+    pub fn amend(&mut self, key: u32, total: u32, displayed: u32) -> u32 {
+        let questions = [
+            (5, (1..=P - 1).contains(&key)),
+            (6, total >= 1 && displayed <= total),
+            (9, self.orders.contains_key(&key)),
+        ];
+        let refusal = first_no(&questions);
+        if refusal == 0 {
+            self.orders.insert(key, Quantities { total, displayed });
+        }
+        refusal
     }
 
     /// "Questions 5 and 9 are asked of this set. If neither turns it down, that

@@ -1,5 +1,6 @@
 //! The calls on byte buffers ("Calls and their questions"), the descent of
-//! document 02's request A.1, and a seek by the reserve of its request A.2.
+//! document 02's request A.1, a seek by the reserve of its request A.2, and enter
+//! and amend, which its request A.4 has in place of put.
 //!
 //! "Questions run in this order; the first "no" ends the call with its number.
 //! All other parts of that answer are 0 and no lent byte changes. Success is 0."
@@ -94,19 +95,17 @@ pub fn check(table: &[u8]) -> Reply {
     Reply::done()
 }
 
-/// Put: 4, 5, 6, 7, 8. "A put on a held key replaces both quantities."
-pub fn put(table: &mut [u8], key: u32, total: u32, displayed: u32) -> Reply {
-    let (made, mut orders) = match held(table) {
-        Some(held) => held,
-        None => return Reply::refused(4),
+/// Enter, by request A.4: "takes a key that is not held and asks 4, 5, 6, 13, 7,
+/// 8"; 13 is "is the key free?"
+pub fn enter(table: &mut [u8], key: u32, total: u32, displayed: u32) -> Reply {
+    let (made, mut orders) = match ask_4_5_6(table, key, total, displayed) {
+        Ok(held) => held,
+        Err(refusal) => return refusal,
     };
-    if !is_key(key) {
-        return Reply::refused(5);
+    if orders.contains_key(&key) {
+        return Reply::refused(13);
     }
-    if !are_quantities(total, displayed) {
-        return Reply::refused(6);
-    }
-    if !orders.contains_key(&key) && orders.len() >= made.sizes.orders as usize {
+    if orders.len() >= made.sizes.orders as usize {
         return Reply::refused(7);
     }
     orders.insert(key, Quantities { total, displayed });
@@ -117,6 +116,35 @@ pub fn put(table: &mut [u8], key: u32, total: u32, displayed: u32) -> Reply {
         }
         None => Reply::refused(8),
     }
+}
+
+/// Amend, by request A.4: "replaces the quantities of a held one and asks 4, 5, 6,
+/// 9".
+pub fn amend(table: &mut [u8], key: u32, total: u32, displayed: u32) -> Reply {
+    let (made, mut orders) = match ask_4_5_6(table, key, total, displayed) {
+        Ok(held) => held,
+        Err(refusal) => return refusal,
+    };
+    if !orders.contains_key(&key) {
+        return Reply::refused(9);
+    }
+    orders.insert(key, Quantities { total, displayed });
+    let after = image(&made, &orders);
+    table.copy_from_slice(&after.expect("the keys are the same, so the chunks are as many"));
+    Reply::done()
+}
+
+/// The first questions of enter and amend. What the table is made with and holds,
+/// or the refusal.
+fn ask_4_5_6(table: &[u8], key: u32, total: u32, displayed: u32) -> Result<(Made, Orders), Reply> {
+    let held = held(table).ok_or(Reply::refused(4))?;
+    if !is_key(key) {
+        return Err(Reply::refused(5));
+    }
+    if !are_quantities(total, displayed) {
+        return Err(Reply::refused(6));
+    }
+    Ok(held)
 }
 
 /// Cancel: 4, 5, 9.

@@ -153,7 +153,7 @@ impl Console {
                 total,
                 displayed,
             } => {
-                let reply = calls::put(&mut self.table, key, total, displayed);
+                let reply = put(&mut self.table, key, total, displayed);
                 writeln!(output, "{}", reply.number)
             }
             Line::Cancel { key } => {
@@ -220,6 +220,15 @@ impl Console {
         }
         Ok(())
     }
+}
+
+/// "The program's `put` amends a held key and enters any other, so its runs print
+/// the same" (document 02, request A.4): the numbers of document 01's put, never 9
+/// or 13.
+pub fn put(table: &mut [u8], key: u32, total: u32, displayed: u32) -> Reply {
+    let is_held = calls::lookup(table, key).number == 0;
+    let call = if is_held { calls::amend } else { calls::enter };
+    call(table, key, total, displayed)
 }
 
 /// "`blocks` prints 0, then for each block its number and either `-` or level,

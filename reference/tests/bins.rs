@@ -1,11 +1,13 @@
-//! The two programs as they are run.
+//! The programs as they are run.
 
+mod common;
+
+use common::is_full;
 use reference::calls::{self, Reply};
 use reference::image::held;
-use reference::lists::{chunks, lists};
 use reference::program::program;
 use reference::samples::fnv_1a;
-use std::collections::BTreeMap;
+use std::collections::{BTreeMap, BTreeSet};
 use std::io::Write;
 use std::process::{Command, Stdio};
 
@@ -90,7 +92,18 @@ struct Reader {
     hidden: [u32; 5],
     /// Seeks that gave an order by its whole reserve, not 0.
     exact: u32,
+    tickets: [u32; TICKETS.len()],
 }
+
+/// Enters and amends where a later question has a "no" too, or a table is full.
+const TICKETS: [&str; 6] = [
+    "13 on a table with N orders",
+    "13 on a table with M chunks",
+    "an amend on a table with N orders",
+    "an amend on a table with M chunks",
+    "6 to an enter of a held key",
+    "6 to an amend of a free key",
+];
 
 fn number(field: &str) -> u32 {
     field.parse().unwrap()
@@ -127,6 +140,7 @@ impl Reader {
     fn call(&mut self, line: &str) {
         let (asked, answer) = line.split_once(" = ").expect("a call has an answer");
         let asked: Vec<&str> = asked.split(' ').collect();
+        let before = self.store.clone();
         let (reply, output) = self.ask(&asked);
         let store = fnv_1a(&self.store);
         let Reply {
@@ -151,11 +165,30 @@ impl Reader {
         *self.numbers.entry(number).or_default() += 1;
         let pair = (asked[0].to_string(), number);
         *self.pairs.entry(pair).or_default() += 1;
-        if asked[0] == "put" && number == 0 {
-            self.full += u32::from(is_full(&self.store[..place(asked[1])]));
+        if ["enter", "amend"].contains(&asked[0]) && ![4, 5].contains(&number) {
+            self.full += u32::from(number == 0 && is_full(&self.store[..place(asked[1])]).1);
+            self.count_ticket(&asked, number, &before);
         }
         if asked[0] == "seek" && [0, 12].contains(&number) {
             self.count_seek(&asked, total - displayed);
+        }
+    }
+
+    fn count_ticket(&mut self, asked: &[&str], answer: u32, before: &[u8]) {
+        let table = &before[..place(asked[1])];
+        let held = calls::lookup(table, number(asked[2])).number == 0;
+        let (n_orders, m_chunks) = is_full(table);
+        let amend = asked[0] == "amend";
+        let kinds = [
+            answer == 13 && n_orders,
+            answer == 13 && m_chunks,
+            answer == 0 && amend && n_orders,
+            answer == 0 && amend && m_chunks,
+            answer == 6 && !amend && held,
+            answer == 6 && amend && !held,
+        ];
+        for (count, met) in self.tickets.iter_mut().zip(kinds) {
+            *count += u32::from(met);
         }
     }
 
@@ -191,9 +224,13 @@ impl Reader {
                 calls::make(sizes[0], sizes[1], sizes[2], sizes[3], &seed, table)
             }
             ["check", length] => calls::check(&store[..place(length)]),
-            ["put", length, key, total, displayed] => {
+            [word @ ("enter" | "amend"), length, key, total, displayed] => {
                 let table = &mut store[..place(length)];
-                calls::put(table, number(key), number(total), number(displayed))
+                let call = match word {
+                    "enter" => calls::enter,
+                    _ => calls::amend,
+                };
+                call(table, number(key), number(total), number(displayed))
             }
             ["cancel", length, key] => calls::cancel(&mut store[..place(length)], number(key)),
             ["lookup", length, key] => calls::lookup(&store[..place(length)], number(key)),
@@ -215,17 +252,12 @@ impl Reader {
     }
 }
 
-/// Whether the chunks fill every block.
-fn is_full(table: &[u8]) -> bool {
-    let (made, orders) = held(table).expect("an image");
-    chunks(&made, &lists(&made, &orders)).len() == made.sizes.blocks as usize
-}
-
 /// The calls and all numbers that each can answer.
-const CALLS: [(&str, &[u32]); 8] = [
+const CALLS: [(&str, &[u32]); 9] = [
     ("make", &[0, 1, 2, 3]),
     ("check", &[0, 4]),
-    ("put", &[0, 4, 5, 6, 7, 8]),
+    ("enter", &[0, 4, 5, 6, 7, 8, 13]),
+    ("amend", &[0, 4, 5, 6, 9]),
     ("cancel", &[0, 4, 5, 9]),
     ("lookup", &[0, 4, 5, 9]),
     ("descent", &[0, 4, 5, 9, 11]),
@@ -233,27 +265,37 @@ const CALLS: [(&str, &[u32]); 8] = [
     ("seek", &[0, 4, 5, 10, 12]),
 ];
 
-#[test]
-fn vectors_can_be_read() {
-    let text = vectors(4000);
+/// Reads a run and sees that every call gave all its numbers.
+fn read(text: &str) -> Reader {
     let mut reader = Reader::default();
     text.lines().for_each(|line| reader.line(line));
-    let words = [
-        "room", "xor", "set", "make", "check", "put", "cancel", "lookup", "descent", "span", "seek",
-    ];
-    for word in words {
-        let times = reader.words.get(word).copied().unwrap_or(0);
-        assert!(times >= 15, "{word}: {times}");
-    }
-    for number in 0..=12 {
-        let times = reader.numbers.get(&number).copied().unwrap_or(0);
-        assert!(times >= 7, "{number}: {times}");
-    }
     for (call, numbers) in CALLS {
         for &number in numbers {
             let times = reader.pairs.get(&(call.to_string(), number));
             assert!(times.is_some(), "{call} never answered {number}");
         }
+    }
+    reader
+}
+
+/// As many lines as are read again with each buffer watched.
+#[test]
+fn a_short_run_has_every_number() {
+    read(&vectors(1500));
+}
+
+#[test]
+fn vectors_can_be_read() {
+    let text = vectors(4000);
+    let reader = read(&text);
+    let calls = CALLS.into_iter().map(|(call, _)| call);
+    for word in calls.chain(["room", "xor", "set"]) {
+        let times = reader.words.get(word).copied().unwrap_or(0);
+        assert!(times >= 15, "{word}: {times}");
+    }
+    for number in 0..=13 {
+        let times = reader.numbers.get(&number).copied().unwrap_or(0);
+        assert!(times >= 7, "{number}: {times}");
     }
     assert!(reader.undecided >= 50, "{} undecided", reader.undecided);
     assert!(reader.full >= 50, "{} full tables", reader.full);
@@ -261,13 +303,60 @@ fn vectors_can_be_read() {
     let hidden = reader.hidden;
     assert!(hidden.iter().all(|&times| times >= 5), "{hidden:?}");
     assert!(reader.exact >= 20, "{} whole reserves", reader.exact);
-    for key in ["0", "1", "2147483646", "2147483647", "4294967295"] {
-        let puts = text.lines().filter(|line| line.starts_with("put "));
-        assert!(
-            puts.filter(|line| line.split(' ').nth(2) == Some(key))
-                .count()
-                >= 3,
-            "{key}"
-        );
+    for (kind, times) in TICKETS.iter().zip(reader.tickets) {
+        assert!(times >= 5, "{kind}: {times}");
     }
+    for word in ["enter", "amend"] {
+        for key in ["0", "1", "2147483646", "2147483647", "4294967295"] {
+            let has = |line: &&str| line.starts_with(word) && line.split(' ').nth(2) == Some(key);
+            assert!(text.lines().filter(has).count() >= 3, "{word} {key}");
+        }
+    }
+}
+
+// ---- scripts ---------------------------------------------------------------
+
+/// The lines of a script that change the table or make one, each answered by one
+/// line.
+fn changes(seed: u32) -> Vec<u8> {
+    let output = Command::new(env!("CARGO_BIN_EXE_scripts"))
+        .args(["400", &seed.to_string()])
+        .output();
+    let script = output.expect("the program starts").stdout;
+    let is_change = |line: &&[u8]| {
+        let words: [&[u8]; 3] = [b"make ", b"put ", b"cancel "];
+        words.iter().any(|word| line.starts_with(word))
+    };
+    let lines = script.split(|&byte| byte == b'\n').filter(is_change);
+    lines.collect::<Vec<_>>().join(&b'\n')
+}
+
+/// A script's puts give document 01's numbers and no other, and many are of held
+/// keys.
+#[test]
+fn scripts_put_held_keys_and_free_ones() {
+    let mut numbers = BTreeMap::<String, u32>::new();
+    let mut amends = 0;
+    for seed in 1..=20 {
+        let input = changes(seed);
+        let output = String::from_utf8(program(&input)).unwrap();
+        let mut held = BTreeSet::new();
+        for (line, answer) in input.split(|&byte| byte == b'\n').zip(output.lines()) {
+            let fields: Vec<&[u8]> = line.split(|&byte| byte == b' ').collect();
+            let key = String::from_utf8_lossy(fields[1]).parse::<u32>();
+            match (fields[0], answer, key) {
+                (b"make", "0", _) => held.clear(),
+                (b"cancel", "0", Ok(key)) => assert!(held.remove(&key)),
+                (b"put", "0", Ok(key)) => amends += u32::from(!held.insert(key)),
+                _ => {}
+            }
+            if fields[0] == b"put" {
+                *numbers.entry(answer.to_string()).or_default() += 1;
+            }
+        }
+    }
+    let met: Vec<&str> = numbers.keys().map(String::as_str).collect();
+    assert_eq!(met, ["0", "4", "5", "6", "7", "8", "?"]);
+    assert!(numbers.values().all(|&times| times > 10), "{numbers:?}");
+    assert!(amends > 200, "{amends}");
 }

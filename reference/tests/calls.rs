@@ -1,45 +1,13 @@
-//! The seven calls: the order of their questions, what they give, what they leave.
+//! Make, check, cancel and the readings: the order of their questions, what they
+//! give, what they leave.
 
 mod common;
 
-use common::{document, made_table, order, sizes};
-use reference::calls::{cancel, check, lookup, make, put, seek, span, Reply};
+use common::{damaged_table, document, full_table, made_table, order, refused, sizes};
+use reference::calls::{amend, cancel, check, enter, lookup, make, seek, span, Reply};
 use reference::image::is_image;
 use reference::samples::identity_seed;
 use reference::sizes::{Made, Sizes, P};
-
-/// Keys 3 and 6 held, so that N is reached and every block is used.
-fn full_table() -> Vec<u8> {
-    let mut table = made_table(&document());
-    assert_eq!(put(&mut table, 3, 100, 20), Reply::done());
-    assert_eq!(put(&mut table, 6, 50, 50), Reply::done());
-    table
-}
-
-fn damaged_table() -> Vec<u8> {
-    let mut table = full_table();
-    table[53 + 7] ^= 1;
-    table
-}
-
-/// Asks of a copy and sees that a refusal changes nothing and gives zeros.
-fn refused(table: &[u8], call: impl Fn(&mut [u8]) -> Reply) -> u32 {
-    let mut copy = table.to_vec();
-    let reply = call(&mut copy);
-    assert_ne!(reply.number, 0);
-    assert_eq!(
-        reply,
-        Reply {
-            number: reply.number,
-            key: 0,
-            total: 0,
-            displayed: 0,
-            count: 0
-        }
-    );
-    assert_eq!(copy, table);
-    reply.number
-}
 
 /// Where several questions have the answer "no", the first one's number is given.
 #[test]
@@ -90,38 +58,6 @@ fn check_asks_only_for_an_image() {
     long.push(0);
     assert_eq!(check(&long), Reply::refused(4));
     assert_eq!(check(&long[..180]), Reply::refused(4));
-}
-
-#[test]
-fn put_asks_in_order() {
-    let full = full_table();
-    assert_eq!(refused(&damaged_table(), |t| put(t, 0, 0, 1)), 4);
-    assert_eq!(refused(&damaged_table(), |t| put(t, 3, 1, 1)), 4);
-    for key in [0, P, u32::MAX] {
-        assert_eq!(refused(&full, |t| put(t, key, 0, 1)), 5);
-    }
-    for (total, displayed) in [(0, 0), (0, 1), (1, 2), (u32::MAX - 1, u32::MAX)] {
-        assert_eq!(refused(&full, |t| put(t, 4, total, displayed)), 6);
-        assert_eq!(refused(&full, |t| put(t, 3, total, displayed)), 6);
-    }
-    // Keys 3, 4 and 6 are more than N and make more than M chunks.
-    assert_eq!(refused(&full, |t| put(t, 4, 10, 0)), 7);
-    let mut one = made_table(&document());
-    put(&mut one, 3, 100, 20);
-    assert_eq!(refused(&one, |t| put(t, 4, 10, 0)), 8);
-}
-
-/// "A put on a held key replaces both quantities", in a table that is full.
-#[test]
-fn put_replaces() {
-    let mut table = full_table();
-    for (total, displayed) in [(1, 0), (u32::MAX, u32::MAX), (7, 7)] {
-        assert_eq!(put(&mut table, 6, total, displayed), Reply::done());
-        assert_eq!(lookup(&table, 6), found(6, total, displayed));
-        assert_eq!(lookup(&table, 3), found(3, 100, 20));
-    }
-    assert_eq!(put(&mut table, 6, 50, 50), Reply::done());
-    assert_eq!(table, full_table());
 }
 
 #[test]
@@ -219,7 +155,7 @@ fn table_of(orders: &[(u32, u32, u32)]) -> Vec<u8> {
     };
     let mut table = made_table(&made);
     for &(key, total, displayed) in orders {
-        assert_eq!(put(&mut table, key, total, displayed), Reply::done());
+        assert_eq!(enter(&mut table, key, total, displayed), Reply::done());
     }
     table
 }
@@ -327,15 +263,15 @@ fn seek_passes_by_hidden_orders() {
     assert_eq!(refused(&table, |t| seek(t, 1, P - 1, 31)), 12);
 }
 
-/// A put that displays a part of a hidden order, or hides an order, changes what
-/// it has in reserve.
+/// An amend that displays a part of a hidden order, or hides an order, changes
+/// what it has in reserve.
 #[test]
-fn a_put_that_hides_takes_the_reserve() {
+fn an_amend_that_hides_takes_the_reserve() {
     let mut table = table_of(&[(3, 40, 0)]);
     assert_eq!(refused(&table, |t| seek(t, 1, 9, 39)), 12);
-    assert_eq!(put(&mut table, 3, 40, 1), Reply::done());
+    assert_eq!(amend(&mut table, 3, 40, 1), Reply::done());
     assert_eq!(seek(&table, 1, 9, 39), found(3, 40, 1));
-    assert_eq!(put(&mut table, 3, 40, 0), Reply::done());
+    assert_eq!(amend(&mut table, 3, 40, 0), Reply::done());
     assert_eq!(refused(&table, |t| seek(t, 1, 9, 39)), 12);
     assert_eq!(seek(&table, 1, 9, 0), found(3, 40, 0));
 }
@@ -343,9 +279,8 @@ fn a_put_that_hides_takes_the_reserve() {
 /// The greatest reserve is 4,294,967,294, so no order has the greatest r.
 #[test]
 fn no_order_has_the_largest_r() {
-    let mut table = made_table(&document());
     for displayed in [0, 1, 2, u32::MAX - 1, u32::MAX] {
-        assert_eq!(put(&mut table, 3, u32::MAX, displayed), Reply::done());
+        let table = table_of(&[(3, u32::MAX, displayed)]);
         assert_eq!(refused(&table, |t| seek(t, 3, 3, u32::MAX)), 12);
         let next = seek(&table, 3, 3, u32::MAX - 1);
         assert_eq!(next.number, if displayed == 1 { 0 } else { 12 });
@@ -368,6 +303,6 @@ fn the_largest_table() {
     let mut table = made_table(&made);
     assert_eq!(table.len(), 53 + 65_535 * (8 + 12 * 32));
     assert_eq!(table[1..5], (table.len() as u32).to_be_bytes());
-    assert_eq!(put(&mut table, P - 1, u32::MAX, 1), Reply::done());
+    assert_eq!(enter(&mut table, P - 1, u32::MAX, 1), Reply::done());
     assert_eq!(lookup(&table, P - 1), found(P - 1, u32::MAX, 1));
 }

@@ -441,7 +441,7 @@ fn going_round_the_end() {
     // Levels 1 to 5 have the homes 7, 5, 3, 1, 8. Key 5 has level 5, so it opens
     // a partition at each of levels 1 to 4, and level 5 finds block 8 taken.
     assert_eq!(levels(&made, &table), [0, 4, 0, 3, 0, 2, 0, 1, 5]);
-    assert_eq!(calls::put(&mut table, 5, 1, 1).number, 0);
+    assert_eq!(calls::enter(&mut table, 5, 1, 1).number, 0);
     assert_eq!(levels(&made, &table), [5, 4, 4, 3, 3, 2, 2, 1, 1]);
     assert!(judged(&table));
     for turn in 1..9 {
@@ -456,7 +456,7 @@ fn going_round_the_end() {
     assert_eq!(table, before);
 }
 
-/// A damaged table answers 4 to all six calls and stays as it is.
+/// A damaged table answers 4 to all these calls and stays as it is.
 #[test]
 fn damaged_tables_answer_4() {
     let image = run_table();
@@ -465,13 +465,14 @@ fn damaged_tables_answer_4() {
     let mut output = [7; 40];
     let numbers = [
         calls::check(&table).number,
-        calls::put(&mut table, 3, 1, 1).number,
+        calls::enter(&mut table, 3, 1, 1).number,
+        calls::amend(&mut table, 3, 1, 1).number,
         calls::cancel(&mut table, 3).number,
         calls::lookup(&table, 3).number,
         calls::span(&table, 1, 9, &mut output).number,
         calls::seek(&table, 1, 9, 0).number,
     ];
-    assert_eq!(numbers, [4; 6]);
+    assert_eq!(numbers, [4; 7]);
     assert_eq!(table, damaged);
     assert_eq!(output, [7; 40]);
 }

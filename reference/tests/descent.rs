@@ -3,8 +3,10 @@
 
 mod common;
 
-use common::{document, made_table, order, sizes, some_key, some_made, some_orders, walked_path};
-use reference::calls::{check, descent, lookup, put, stays_within, Reply};
+use common::{
+    document, full_table, made_table, order, sizes, some_key, some_made, some_orders, walked_path,
+};
+use reference::calls::{check, descent, lookup, stays_within, Reply};
 use reference::image::{blocks, image};
 use reference::lists::{chunks, lists, Label, Orders};
 use reference::paths::{path, way};
@@ -48,18 +50,11 @@ fn table_of(made: &Made, keys: &[u32]) -> Vec<u8> {
     image(made, &orders).expect("they fit")
 }
 
-/// Keys 3 and 6 in the document's blocks: 0 and 2 of level 1, 1 of level 2, 3 of
-/// level 3.
-fn full_run() -> Vec<u8> {
-    let mut table = made_table(&document());
-    assert_eq!(put(&mut table, 6, 50, 50), Reply::done());
-    assert_eq!(put(&mut table, 3, 100, 20), Reply::done());
-    table
-}
-
+/// Keys 3 and 6 stand in the document's blocks: 0 and 2 of level 1, 1 of level 2, 3
+/// of level 3.
 #[test]
 fn the_document_s_run() {
-    let table = full_run();
+    let table = full_table();
     let three = Reply {
         number: 0,
         key: 3,
@@ -243,7 +238,7 @@ fn refused(table: &[u8], key: u32, room: usize) -> u32 {
 
 #[test]
 fn it_asks_in_order() {
-    let table = full_run();
+    let table = full_table();
     for length in [0, 1, 52, 53, table.len() - 1] {
         assert_eq!(refused(&table[..length], 0, 0), 4);
         assert_eq!(refused(&table[..length], 3, 6), 4);
@@ -272,7 +267,7 @@ fn nine_writes_its_path() {
         displayed: 0,
         count: 3,
     };
-    assert_eq!(descent(&full_run(), 4, &mut output), Some(nine));
+    assert_eq!(descent(&full_table(), 4, &mut output), Some(nine));
     let untouched = UNTOUCHED;
     assert_eq!(output, [0, 3, 0, 1, 0, 0, untouched, untouched, untouched]);
 }
@@ -281,7 +276,7 @@ fn nine_writes_its_path() {
 /// answer is decided.
 #[test]
 fn damage_behind_the_header_is_not_judged() {
-    let table = full_run();
+    let table = full_table();
     for place in HEADER..table.len() {
         let mut damaged = table.clone();
         damaged[place] ^= 0x40;
@@ -303,7 +298,7 @@ fn damage_behind_the_header_is_not_judged() {
 /// bytes are no image any more.
 #[test]
 fn damage_of_the_header() {
-    let table = full_run();
+    let table = full_table();
     let with = |place: usize, byte: u8| {
         let mut damaged = table.clone();
         damaged[place] = byte;

@@ -2,7 +2,7 @@
 
 mod common;
 
-use common::{document, made_table, order, sizes};
+use common::{document, full_table, made_table, order, sizes};
 use reference::calls::{self, Reply};
 use reference::image::{blocks, image, is_image};
 use reference::lists::{home, Label, Orders};
@@ -96,8 +96,8 @@ fn bytes_of_the_full_run() {
     let expected: Vec<u8> = digits.chunks(2).map(byte).collect();
 
     let mut table = made_table(&document());
-    calls::put(&mut table, 6, 50, 50);
-    calls::put(&mut table, 3, 100, 20);
+    calls::enter(&mut table, 6, 50, 50);
+    calls::enter(&mut table, 3, 100, 20);
     assert_eq!(table, expected);
     assert!(is_image(&expected));
 }
@@ -125,14 +125,14 @@ fn p3_no_orders() {
 
 #[test]
 fn p4_either_order() {
-    let puts = [(3, 100, 20), (6, 50, 50)];
+    let orders = [(3, 100, 20), (6, 50, 50)];
     let mut one = made_table(&document());
     let mut two = one.clone();
-    for (key, total, displayed) in puts {
-        assert_eq!(calls::put(&mut one, key, total, displayed), Reply::done());
+    for (key, total, displayed) in orders {
+        assert_eq!(calls::enter(&mut one, key, total, displayed), Reply::done());
     }
-    for (key, total, displayed) in puts.into_iter().rev() {
-        assert_eq!(calls::put(&mut two, key, total, displayed), Reply::done());
+    for (key, total, displayed) in orders.into_iter().rev() {
+        assert_eq!(calls::enter(&mut two, key, total, displayed), Reply::done());
     }
     assert_eq!(one, two);
     assert_eq!(shown(&one), p4());
@@ -140,9 +140,7 @@ fn p4_either_order() {
 
 #[test]
 fn p5_cancel_clears_the_node() {
-    let mut table = made_table(&document());
-    calls::put(&mut table, 3, 100, 20);
-    calls::put(&mut table, 6, 50, 50);
+    let mut table = full_table();
     assert_eq!(calls::cancel(&mut table, 3), Reply::done());
     let mut p5 = p4();
     p5[0] = Some((1, 0, 0, vec![0]));
@@ -154,9 +152,9 @@ fn p5_cancel_clears_the_node() {
 #[test]
 fn p6_five_chunks() {
     let mut table = made_table(&document());
-    assert_eq!(calls::put(&mut table, 3, 1, 0).number, 0);
+    assert_eq!(calls::enter(&mut table, 3, 1, 0).number, 0);
     let before = table.clone();
-    assert_eq!(calls::put(&mut table, 4, 1, 0), Reply::refused(8));
+    assert_eq!(calls::enter(&mut table, 4, 1, 0), Reply::refused(8));
     assert_eq!(table, before);
 }
 
@@ -165,13 +163,14 @@ fn p7_keys_at_the_edges() {
     let empty = made_table(&document());
     for key in [0, 2_147_483_647] {
         let mut table = empty.clone();
-        assert_eq!(calls::put(&mut table, key, 1, 0), Reply::refused(5));
+        assert_eq!(calls::enter(&mut table, key, 1, 0), Reply::refused(5));
+        assert_eq!(calls::amend(&mut table, key, 1, 0), Reply::refused(5));
         assert_eq!(calls::cancel(&mut table, key), Reply::refused(5));
         assert_eq!(calls::lookup(&table, key), Reply::refused(5));
         assert_eq!(table, empty);
     }
     let mut table = empty;
-    assert_eq!(calls::put(&mut table, 2_147_483_646, 1, 0), Reply::done());
+    assert_eq!(calls::enter(&mut table, 2_147_483_646, 1, 0), Reply::done());
     assert_eq!(document().level(2_147_483_646), 2);
     let label = Label {
         level: 1,
@@ -188,8 +187,8 @@ fn p7_keys_at_the_edges() {
 #[test]
 fn p8_quantities() {
     let mut table = made_table(&document());
-    assert_eq!(calls::put(&mut table, 3, 100, 101), Reply::refused(6));
-    assert_eq!(calls::put(&mut table, 3, 100, 100), Reply::done());
+    assert_eq!(calls::enter(&mut table, 3, 100, 101), Reply::refused(6));
+    assert_eq!(calls::enter(&mut table, 3, 100, 100), Reply::done());
     let found = Reply {
         key: 3,
         total: 100,
@@ -226,7 +225,7 @@ fn p9_seed_numbers_and_blocks() {
 fn run_only() {
     let mut table = made_table(&document());
     assert_eq!(calls::span(&table, 1, P - 1, &mut []), Reply::count(0));
-    calls::put(&mut table, 3, 100, 20);
+    calls::enter(&mut table, 3, 100, 20);
     let mut eleven = [7; 11];
     assert_eq!(
         calls::span(&table, 1, P - 1, &mut eleven),
@@ -245,7 +244,7 @@ fn run_only() {
 fn later_chunks_are_pulled_back() {
     let mut table = made_table(&document());
     let empty = table.clone();
-    calls::put(&mut table, 6, 50, 50);
+    calls::enter(&mut table, 6, 50, 50);
     // Key 6's level 1 chunk stands between those of levels 1 and 3.
     assert_eq!(shown(&table)[2], Some((1, 0, 6, vec![6])));
     calls::cancel(&mut table, 6);

@@ -3,19 +3,22 @@
 
 mod common;
 
-use common::{made_table, order, sizes, some_key, some_made, some_orders, walked_path};
+use common::{
+    made_table, order, put_of_document_01, sizes, some_key, some_made, some_orders, walked_path,
+};
 use reference::book::Book;
 use reference::calls::{self, Reply};
 use reference::image::{image, is_image, is_image_by_rebuilding};
-use reference::lists::Orders;
-use reference::program::program;
+use reference::lists::{Orders, Quantities};
+use reference::program::{program, put};
 use reference::samples::{random_seed, some_quantities, some_seek, Xorshift, EDGE_KEYS};
 use reference::sizes::{Made, P};
 
 #[derive(Clone, Copy, Debug)]
 enum Call {
     Check,
-    Put(u32, u32, u32),
+    Enter(u32, u32, u32),
+    Amend(u32, u32, u32),
     Cancel(u32),
     Lookup(u32),
     Descent(u32, usize),
@@ -55,7 +58,10 @@ fn any_call(generator: &mut Xorshift, book: &Book) -> Call {
                 0 => generator.pick(&[(0, 0), (0, 5), (100, 101), (1, u32::MAX)]),
                 _ => some_quantities(generator),
             };
-            Call::Put(key, total, displayed)
+            match generator.below(3) {
+                0 => Call::Amend(key, total, displayed),
+                _ => Call::Enter(key, total, displayed),
+            }
         }
         9..=12 => Call::Cancel(key),
         13 => Call::Check,
@@ -90,7 +96,8 @@ fn ask(table: &mut [u8], call: Call) -> (Reply, Vec<u8>) {
     let mut output = Vec::new();
     let reply = match call {
         Call::Check => calls::check(table),
-        Call::Put(key, total, displayed) => calls::put(table, key, total, displayed),
+        Call::Enter(key, total, displayed) => calls::enter(table, key, total, displayed),
+        Call::Amend(key, total, displayed) => calls::amend(table, key, total, displayed),
         Call::Cancel(key) => calls::cancel(table, key),
         Call::Lookup(key) => calls::lookup(table, key),
         Call::Descent(key, length) => {
@@ -125,8 +132,11 @@ fn in_range(book: &Book, lo: u32, hi: u32) -> Vec<(u32, u32, u32)> {
 fn expected(book: &mut Book, call: Call) -> (Reply, Vec<u8>) {
     match call {
         Call::Check => (Reply::done(), vec![]),
-        Call::Put(key, total, displayed) => {
-            (Reply::refused(book.put(key, total, displayed)), vec![])
+        Call::Enter(key, total, displayed) => {
+            (Reply::refused(book.enter(key, total, displayed)), vec![])
+        }
+        Call::Amend(key, total, displayed) => {
+            (Reply::refused(book.amend(key, total, displayed)), vec![])
         }
         Call::Cancel(key) => (Reply::refused(book.cancel(key)), vec![]),
         Call::Lookup(key) => (expected_lookup(book, key), vec![]),
@@ -213,7 +223,7 @@ fn expected_seek(book: &Book, lo: u32, hi: u32, r: u32) -> Reply {
 }
 
 /// One history; counts the numbers answered.
-fn history(generator: &mut Xorshift, made: Made, calls: u32, seen: &mut [u32; 13]) {
+fn history(generator: &mut Xorshift, made: Made, calls: u32, seen: &mut [u32; 14]) {
     let mut table = made_table(&made);
     let mut book = Book::new(made);
     assert_eq!(table, image(&made, &Orders::new()).unwrap());
@@ -231,7 +241,7 @@ fn history(generator: &mut Xorshift, made: Made, calls: u32, seen: &mut [u32; 13
             is_image(&table) && is_image_by_rebuilding(&table),
             "{call:?} {made:?}"
         );
-        let edit = matches!(call, Call::Put(..) | Call::Cancel(_));
+        let edit = matches!(call, Call::Enter(..) | Call::Amend(..) | Call::Cancel(_));
         if found.0.number != 0 || !edit {
             assert_eq!(table, before, "{call:?} {made:?}");
         }
@@ -242,12 +252,12 @@ fn history(generator: &mut Xorshift, made: Made, calls: u32, seen: &mut [u32; 13
 #[test]
 fn tables_follow_the_book() {
     let mut generator = Xorshift::new(31);
-    let mut seen = [0; 13];
+    let mut seen = [0; 14];
     for _ in 0..400 {
         let made = some_made(&mut generator);
         history(&mut generator, made, 150, &mut seen);
     }
-    let expected = [0, 5, 6, 7, 8, 9, 10, 11, 12];
+    let expected = [0, 5, 6, 7, 8, 9, 10, 11, 12, 13];
     assert!(
         expected.iter().all(|&number: &usize| seen[number] > 300),
         "{seen:?}"
@@ -258,17 +268,17 @@ fn tables_follow_the_book() {
 #[test]
 fn a_larger_table_follows_the_book() {
     let mut generator = Xorshift::new(32);
-    let mut seen = [0; 13];
+    let mut seen = [0; 14];
     let made = Made {
         sizes: sizes(3, 4, 300, 260),
         seed: random_seed(&mut generator),
     };
-    history(&mut generator, made, 2500, &mut seen);
+    history(&mut generator, made, 4000, &mut seen);
     assert!(seen[0] > 1000 && seen[7] + seen[8] > 50, "{seen:?}");
 }
 
-/// Two histories that end with the same orders: one puts them straight away, the
-/// other puts others, replaces and cancels on its way.
+/// Two histories that end with the same orders: one enters them straight away, the
+/// other enters others, amends and cancels on its way.
 #[test]
 fn equal_sets_have_equal_bytes() {
     let mut generator = Xorshift::new(33);
@@ -280,15 +290,15 @@ fn equal_sets_have_equal_bytes() {
         generator.shuffle(&mut keys);
 
         let mut straight = made_table(&made);
-        for key in &keys {
-            assert_eq!(put(&mut straight, &wanted, *key), 0);
-        }
+        each(&keys, &wanted, |key, order| {
+            calls::enter(&mut straight, key, order.total, order.displayed)
+        });
 
         let mut roundabout = made_table(&made);
         for _ in 0..40 {
             let key = some_key(&mut generator, &made);
             let (total, displayed) = some_quantities(&mut generator);
-            calls::put(&mut roundabout, key, total, displayed);
+            put(&mut roundabout, key, total, displayed);
             calls::cancel(&mut roundabout, some_key(&mut generator, &made));
         }
         let (_, found) = reference::image::held(&roundabout).unwrap();
@@ -296,18 +306,20 @@ fn equal_sets_have_equal_bytes() {
             assert_eq!(calls::cancel(&mut roundabout, *key).number, 0);
         }
         generator.shuffle(&mut keys);
-        for key in &keys {
-            assert_eq!(put(&mut roundabout, &wanted, *key), 0);
-        }
+        each(&keys, &wanted, |key, order| {
+            put(&mut roundabout, key, order.total, order.displayed)
+        });
         assert!(straight == roundabout, "{made:?} {wanted:?}");
         largest = largest.max(wanted.len());
     }
     assert!(largest > 30, "{largest}");
 }
 
-fn put(table: &mut [u8], orders: &Orders, key: u32) -> u32 {
-    let order = orders[&key];
-    calls::put(table, key, order.total, order.displayed).number
+/// Every one of these orders in turn; none is turned down.
+fn each(keys: &[u32], orders: &Orders, mut call: impl FnMut(u32, Quantities) -> Reply) {
+    for &key in keys {
+        assert_eq!(call(key, orders[&key]), Reply::done(), "{key}");
+    }
 }
 
 /// The book alone: each question, and that a refusal leaves the set.
@@ -315,33 +327,42 @@ fn put(table: &mut [u8], orders: &Orders, key: u32) -> u32 {
 fn the_book_asks_in_order() {
     let mut book = Book::new(common::document());
     assert!(book.orders().is_empty());
-    assert_eq!(book.put(3, 100, 20), 0);
-    assert_eq!(book.put(4, 10, 0), 8);
-    assert_eq!(book.put(6, 50, 50), 0);
+    assert_eq!(book.enter(3, 100, 20), 0);
+    assert_eq!(book.enter(4, 10, 0), 8);
+    assert_eq!(book.enter(6, 50, 50), 0);
     let set: Orders = [(3, order(100, 20)), (6, order(50, 50))].into();
-    for (key, total, displayed, number) in [
-        (0, 0, 1, 5),
-        (P, 1, 1, 5),
-        (u32::MAX, 1, 1, 5),
-        (4, 0, 0, 6),
-        (3, 1, 2, 6),
-        (4, 10, 0, 7),
+    for (key, total, displayed, enter, amend) in [
+        (0, 0, 1, 5, 5),
+        (P, 1, 1, 5, 5),
+        (u32::MAX, 1, 1, 5, 5),
+        (4, 0, 0, 6, 6),
+        (3, 1, 2, 6, 6),
+        (4, 10, 0, 7, 9),
     ] {
-        assert_eq!(book.put(key, total, displayed), number);
+        assert_eq!(book.enter(key, total, displayed), enter);
+        assert_eq!(book.amend(key, total, displayed), amend);
+        assert_eq!(*book.orders(), set);
+    }
+    for key in [3, 6] {
+        assert_eq!(book.enter(key, 7, 0), 13);
         assert_eq!(*book.orders(), set);
     }
     for (key, number) in [(0, 5), (P, 5), (u32::MAX, 5), (4, 9)] {
         assert_eq!(book.cancel(key), number);
         assert_eq!(*book.orders(), set);
     }
-    assert_eq!(book.put(3, 7, 0), 0);
-    assert_eq!(book.orders()[&3], order(7, 0));
+    assert_eq!(book.amend(3, 7, 0), 0);
+    assert_eq!(
+        *book.orders(),
+        [(3, order(7, 0)), (6, order(50, 50))].into()
+    );
     assert_eq!(book.cancel(3), 0);
     assert_eq!(book.cancel(3), 9);
     assert_eq!(*book.orders(), [(6, order(50, 50))].into());
 }
 
-/// The text program on random lines, against text written from the book.
+/// The text program on random lines, against text written from the book. Its `put`
+/// prints what document 01's put does.
 #[test]
 fn the_program_follows_the_book() {
     let mut generator = Xorshift::new(34);
@@ -377,6 +398,17 @@ fn make_line(made: &Made) -> String {
     line + "\n"
 }
 
+/// Document 01's put. Of the book's two calls the one that fits does the same, and
+/// the other is turned down.
+fn put_in_book(book: &mut Book, key: u32, new: Quantities) -> Reply {
+    let mut wanted = book.orders().clone();
+    let number = put_of_document_01(book.made(), &mut wanted, key, new);
+    book.amend(key, new.total, new.displayed);
+    book.enter(key, new.total, new.displayed);
+    assert_eq!(*book.orders(), wanted);
+    Reply::refused(number)
+}
+
 /// The line and the lines it is answered by; the program has no check and no
 /// descent.
 fn text(book: &mut Book, call: Call) -> Option<(String, String)> {
@@ -384,18 +416,24 @@ fn text(book: &mut Book, call: Call) -> Option<(String, String)> {
         Call::Span(lo, hi, _) => Call::Span(lo, hi, 65_536),
         other => other,
     };
-    let (reply, _) = expected(book, call);
     let Reply {
         number,
         key,
         total,
         displayed,
         count,
-    } = reply;
+    } = match call {
+        Call::Enter(key, total, displayed) | Call::Amend(key, total, displayed) => {
+            put_in_book(book, key, order(total, displayed))
+        }
+        _ => expected(book, call).0,
+    };
     let refused = number != 0;
     let (line, answer) = match call {
         Call::Check | Call::Descent(..) => return None,
-        Call::Put(key, total, displayed) => (format!("put {key} {total} {displayed}"), "0".into()),
+        Call::Enter(key, total, displayed) | Call::Amend(key, total, displayed) => {
+            (format!("put {key} {total} {displayed}"), "0".into())
+        }
         Call::Cancel(key) => (format!("cancel {key}"), "0".into()),
         Call::Lookup(key) => (format!("show {key}"), format!("0 {total} {displayed}")),
         Call::Seek(lo, hi, r) => (

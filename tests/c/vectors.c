@@ -127,6 +127,16 @@ static void expect_within(balluchaw_reply r, const uint8_t *output, size_t n) {
     same(fnv(store, size) == hash_field(), "the bytes of what is no table");
 }
 
+static void enter_or_amend(const char *name, uint32_t (*call)(uint8_t *, size_t, uint32_t, uint32_t, uint32_t)) {
+    size_t length = number();
+    uint32_t key = number(), total = number(), displayed = number();
+    uint8_t *t = lend(length);
+    equals_sign();
+    uint32_t n = call(t, length, key, total, displayed);
+    take_back(t, length);
+    expect(name, only(n));
+}
+
 static void descent(void) {
     size_t length = number();
     uint32_t key = number();
@@ -183,14 +193,10 @@ static void step(char *line) {
         uint32_t n = balluchaw_check(t, length);
         take_back(t, length);
         expect("check", only(n));
-    } else if (strcmp(word, "put") == 0) {
-        size_t length = number();
-        uint32_t key = number(), total = number(), displayed = number();
-        uint8_t *t = lend(length);
-        equals_sign();
-        uint32_t n = balluchaw_put(t, length, key, total, displayed);
-        take_back(t, length);
-        expect("put", only(n));
+    } else if (strcmp(word, "enter") == 0) {
+        enter_or_amend(word, balluchaw_enter);
+    } else if (strcmp(word, "amend") == 0) {
+        enter_or_amend(word, balluchaw_amend);
     } else if (strcmp(word, "cancel") == 0) {
         size_t length = number();
         uint32_t key = number();

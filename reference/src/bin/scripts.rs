@@ -6,7 +6,7 @@
 //! last line's end.
 
 use reference::samples::{Xorshift, EDGE_KEYS};
-use reference::sizes::P;
+use reference::sizes::{Sizes, P};
 use std::io::{self, BufWriter, Write};
 
 fn main() -> io::Result<()> {
@@ -131,12 +131,23 @@ impl Writer {
         }
     }
 
-    /// Sizes of a small table, and a number of keys that suits it.
+    /// Sizes of a small table, now and then with few blocks, and a number of keys
+    /// that suits it.
     fn good_make(&mut self) -> String {
         let gamma = self.chance.pick(&[2, 2, 3, 4, 16, 64]);
         let nodes = self.chance.pick(&[2, 2, 3, 4, 32]);
         let orders = self.chance.pick(&[1, 2, 5, 20, 60]);
-        let blocks = self.chance.within(orders + 2, 2 * orders + 20);
+        let least = Sizes {
+            gamma,
+            nodes,
+            orders,
+            blocks: 0,
+        }
+        .beta();
+        let blocks = match self.chance.below(4) {
+            0 => self.chance.within(least, least + orders / 2),
+            _ => self.chance.within(orders + 2, 2 * orders + 20),
+        };
         self.keys = 2 * orders + 2;
         let mut numbers = vec![gamma, nodes, orders, blocks];
         for _ in 0..10 {

@@ -17,7 +17,8 @@
 //!         The bytes from PLACE on become BYTES. This also undoes damage.
 //!     make γ B N M SEED LENGTH = ANSWER
 //!     check LENGTH = ANSWER
-//!     put LENGTH KEY TOTAL DISPLAYED = ANSWER
+//!     enter LENGTH KEY TOTAL DISPLAYED = ANSWER
+//!     amend LENGTH KEY TOTAL DISPLAYED = ANSWER
 //!     cancel LENGTH KEY = ANSWER
 //!     lookup LENGTH KEY = ANSWER
 //!     descent LENGTH KEY OUTPUT = ANSWER WRITTEN
@@ -147,13 +148,16 @@ impl Recorder {
         self.call(format!("check {length}"), reply, None)
     }
 
-    fn put(&mut self, length: usize, key: u32, total: u32, displayed: u32) -> Reply {
-        let reply = calls::put(&mut self.store[..length], key, total, displayed);
-        self.call(
-            format!("put {length} {key} {total} {displayed}"),
-            reply,
-            None,
-        )
+    fn enter(&mut self, length: usize, key: u32, total: u32, displayed: u32) -> Reply {
+        let reply = calls::enter(&mut self.store[..length], key, total, displayed);
+        let text = format!("enter {length} {key} {total} {displayed}");
+        self.call(text, reply, None)
+    }
+
+    fn amend(&mut self, length: usize, key: u32, total: u32, displayed: u32) -> Reply {
+        let reply = calls::amend(&mut self.store[..length], key, total, displayed);
+        let text = format!("amend {length} {key} {total} {displayed}");
+        self.call(text, reply, None)
     }
 
     fn cancel(&mut self, length: usize, key: u32) -> Reply {
@@ -233,7 +237,8 @@ fn pairs() -> impl Iterator<Item = (u32, u32)> {
         .flat_map(|gamma| [2, 3, 16, 32].map(|nodes| (gamma, nodes)))
 }
 
-/// P3 to P8 and "Run only", and what counts as reserve (document 02, A.2).
+/// P3 to P8 and "Run only", what counts as reserve (document 02, A.2), and the
+/// questions of enter and amend (A.4).
 fn examples(recorder: &mut Recorder) {
     let sizes = Sizes {
         gamma: 2,
@@ -249,38 +254,65 @@ fn examples(recorder: &mut Recorder) {
     recorder.span(length, 1, P - 1, 0);
     descents(recorder, length, &[1, 3]);
     for key in EDGE_KEYS {
-        recorder.put(length, key, 1, 0);
+        recorder.amend(length, key, 1, 0);
+        recorder.enter(length, key, 1, 0);
         recorder.lookup(length, key);
         recorder.descent(length, key, 8);
         recorder.cancel(length, key);
     }
     for (key, total, displayed) in [(3, 100, 101), (3, 100, 100), (4, 10, 0), (3, 0, 0)] {
-        recorder.put(length, key, total, displayed);
+        recorder.enter(length, key, total, displayed);
     }
     for room in [0, 11, 12, 13, 24] {
         recorder.span(length, 1, P - 1, room);
     }
-    for (key, total, displayed) in [(6, 50, 50), (3, 100, 20), (4, 10, 0)] {
-        recorder.put(length, key, total, displayed);
-    }
-    for r in [0, 1, 80, 81, u32::MAX] {
-        recorder.seek(length, 1, P - 1, r);
-    }
+    recorder.enter(length, 6, 50, 50);
+    recorder.amend(length, 3, 100, 20);
+    recorder.enter(length, 4, 10, 0);
+    recorder.span(length, 6, 3, 24);
     seeks(recorder, length);
     descents(recorder, length, &[1, 3, 4, 6, 7, P - 1]);
     descents_refused(recorder, length);
+    both_calls(recorder, length);
     recorder.cancel(length, 3);
+    both_calls(recorder, length);
     recorder.cancel(length, 3);
 }
 
-/// Orders 3 and 6 with 10 in all, each of them hidden, displayed in part and
-/// displayed whole; then order 3 with the greatest total. Every r is at or beside
-/// 0, what an order has in reserve, or what it has in all.
+/// Every enter and amend of some keys with some quantities, several questions
+/// answered "no" at once; one that succeeds is asked again. Where 3 and 6 are held
+/// the table has N orders and M chunks; beside 6 alone, 4 makes too many chunks.
+fn both_calls(recorder: &mut Recorder, length: usize) {
+    let before = recorder.store.clone();
+    for call in [Recorder::enter, Recorder::amend] {
+        for key in [4, 3, 6, 0, P] {
+            for (total, displayed) in [(10, 4), (10, 5), (11, 4), (0, 0), (10, 11)] {
+                if call(recorder, length, key, total, displayed).number == 0 {
+                    call(recorder, length, key, total, displayed);
+                    recorder.lookup(length, key);
+                }
+            }
+        }
+        for lent in [0, HEADER, length - 1] {
+            call(recorder, lent, 3, 10, 4);
+            call(recorder, lent, 0, 0, 1);
+        }
+    }
+    recorder.set(0, &before);
+}
+
+/// The orders as they are; then orders 3 and 6 with 10 in all, each of them hidden,
+/// displayed in part and displayed whole; then order 3 with the greatest total.
+/// Every r is at or beside 0, what an order has in reserve, or what it has in all.
 fn seeks(recorder: &mut Recorder, length: usize) {
+    for r in [0, 1, 80, 81, u32::MAX] {
+        recorder.seek(length, 1, P - 1, r);
+    }
+    recorder.seek(length, 6, 3, 0);
     for three in [0, 4, 10] {
         for six in [0, 4, 10] {
-            recorder.put(length, 3, 10, three);
-            recorder.put(length, 6, 10, six);
+            recorder.amend(length, 3, 10, three);
+            recorder.amend(length, 6, 10, six);
             for r in [0, 1, 6, 7, 10, 11] {
                 recorder.seek(length, 1, P - 1, r);
                 recorder.seek(length, 3, 3, r);
@@ -288,7 +320,7 @@ fn seeks(recorder: &mut Recorder, length: usize) {
         }
     }
     for displayed in [0, 1] {
-        recorder.put(length, 3, u32::MAX, displayed);
+        recorder.amend(length, 3, u32::MAX, displayed);
         for r in [0, 1, u32::MAX - 1, u32::MAX] {
             recorder.seek(length, 1, 5, r);
         }
@@ -543,7 +575,8 @@ fn pool(generator: &mut Xorshift, orders: u32) -> Vec<u32> {
     keys
 }
 
-/// Puts every key once; the last ones meet 7 or 8.
+/// Enters every key of the pool. The last ones meet 7 or 8; one that stands there
+/// twice meets 13.
 fn fill(recorder: &mut Recorder, generator: &mut Xorshift, length: usize, keys: &[u32]) {
     let mut refusals = 0;
     for &key in keys {
@@ -551,7 +584,7 @@ fn fill(recorder: &mut Recorder, generator: &mut Xorshift, length: usize, keys: 
             return;
         }
         let (total, displayed) = some_quantities(generator);
-        let reply = recorder.put(length, key, total, displayed);
+        let reply = recorder.enter(length, key, total, displayed);
         refusals += u32::from(reply.number != 0);
     }
 }
@@ -598,7 +631,10 @@ fn random_step(recorder: &mut Recorder, generator: &mut Xorshift, length: usize,
             if generator.one_in(12) {
                 (total, displayed) = generator.pick(&[(0, 0), (0, 1), (100, 101), (1, u32::MAX)]);
             }
-            recorder.put(length, key, total, displayed);
+            match generator.below(2) {
+                0 => recorder.enter(length, key, total, displayed),
+                _ => recorder.amend(length, key, total, displayed),
+            };
         }
         6..=8 => {
             recorder.cancel(length, key);
@@ -686,7 +722,8 @@ fn damage(recorder: &mut Recorder, generator: &mut Xorshift, sizes: &Sizes, keys
     let damaged = recorder.check(length).number == 4;
     if damaged {
         let key = generator.pick(keys);
-        recorder.put(length, key, 5, 2);
+        recorder.enter(length, key, 5, 2);
+        recorder.amend(length, key, 5, 2);
         recorder.cancel(length, key);
         some_descent(recorder, generator, length, key);
         let edge = generator.pick(&EDGE_KEYS);

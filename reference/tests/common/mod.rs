@@ -3,9 +3,9 @@
 // Each test file takes what it needs.
 #![allow(dead_code)]
 
-use reference::calls;
-use reference::image::{blocks, image};
-use reference::lists::{Label, Orders, Quantities};
+use reference::calls::{self, Reply};
+use reference::image::{blocks, held, image};
+use reference::lists::{chunks, lists, Label, Orders, Quantities};
 use reference::samples::{identity_seed, some_quantities, some_seed, Xorshift};
 use reference::sizes::{Made, Sizes, P};
 
@@ -42,6 +42,74 @@ pub fn made_table(made: &Made) -> Vec<u8> {
     let reply = calls::make(gamma, nodes, orders, blocks, &made.seed.bytes(), &mut table);
     assert_eq!(reply.number, 0, "{made:?}");
     table
+}
+
+/// Keys 3 and 6 held in the document's table, so that N is reached and every block
+/// is used.
+pub fn full_table() -> Vec<u8> {
+    let mut table = made_table(&document());
+    assert_eq!(calls::enter(&mut table, 6, 50, 50), Reply::done());
+    assert_eq!(calls::enter(&mut table, 3, 100, 20), Reply::done());
+    table
+}
+
+/// No image any more, by one bit behind the header.
+pub fn damaged_table() -> Vec<u8> {
+    let mut table = full_table();
+    table[53 + 7] ^= 1;
+    table
+}
+
+/// Whether a table has N orders, and whether its chunks fill every block.
+pub fn is_full(table: &[u8]) -> (bool, bool) {
+    let (made, orders) = held(table).expect("an image");
+    let chunks = chunks(&made, &lists(&made, &orders)).len();
+    (
+        orders.len() == made.sizes.orders as usize,
+        chunks == made.sizes.blocks as usize,
+    )
+}
+
+/// Asks of a copy and sees that a refusal changes nothing and gives zeros.
+pub fn refused(table: &[u8], call: impl Fn(&mut [u8]) -> Reply) -> u32 {
+    let mut copy = table.to_vec();
+    let reply = call(&mut copy);
+    assert_ne!(reply.number, 0);
+    assert_eq!(
+        reply,
+        Reply {
+            number: reply.number,
+            key: 0,
+            total: 0,
+            displayed: 0,
+            count: 0
+        }
+    );
+    assert_eq!(copy, table);
+    reply.number
+}
+
+/// Document 01's put on a set of orders: "Is the key 1..p−1? 5. Is total ≥ 1 and
+/// displayed ≤ total? 6. Is the key held, or n < N? 7. Does the resulting set have
+/// at most M chunks? 8. A put on a held key replaces both quantities."
+pub fn put_of_document_01(made: &Made, orders: &mut Orders, key: u32, new: Quantities) -> u32 {
+    let mut resulting = orders.clone();
+    resulting.insert(key, new);
+    let room = orders.len() < made.sizes.orders as usize;
+    let most = made.sizes.blocks as usize;
+    let questions = [
+        (5, key >= 1 && key < P),
+        (6, new.total >= 1 && new.displayed <= new.total),
+        (7, orders.contains_key(&key) || room),
+        (8, chunks(made, &lists(made, &resulting)).len() <= most),
+    ];
+    match questions.into_iter().find(|(_, yes)| !yes) {
+        Some((number, _)) => number,
+        None => {
+            *orders = resulting;
+            0
+        }
+    }
 }
 
 /// Some sizes and seed, of tables with few orders, M from tight to loose.

@@ -1,6 +1,8 @@
 //! The calls of the archive, through its C interface.
 
+use crate::tickets::{Kind, Ticket};
 use reference::calls::Reply;
+use reference::lists::Quantities;
 use reference::sizes::Sizes;
 
 /// Something that answers the calls. Every buffer is lent as one that could be written, also where the call only reads, so that a
@@ -10,7 +12,7 @@ pub trait Calls {
     fn restart(&mut self) {}
     fn make(&mut self, table: &mut [u8], sizes: &Sizes, seed: &mut [u8]) -> Reply;
     fn check(&mut self, table: &mut [u8]) -> Reply;
-    fn put(&mut self, table: &mut [u8], key: u32, total: u32, displayed: u32) -> Reply;
+    fn enter_or_amend(&mut self, table: &mut [u8], ticket: &Ticket) -> Reply;
     fn cancel(&mut self, table: &mut [u8], key: u32) -> Reply;
     fn lookup(&mut self, table: &mut [u8], key: u32) -> Reply;
     fn descent(&mut self, table: &mut [u8], key: u32, path: &mut [u8]) -> Reply;
@@ -51,7 +53,8 @@ extern "C" {
         seed_length: usize,
     ) -> u32;
     fn balluchaw_check(table: *const u8, length: usize) -> u32;
-    fn balluchaw_put(table: *mut u8, length: usize, key: u32, total: u32, displayed: u32) -> u32;
+    fn balluchaw_enter(table: *mut u8, length: usize, key: u32, total: u32, displayed: u32) -> u32;
+    fn balluchaw_amend(table: *mut u8, length: usize, key: u32, total: u32, displayed: u32) -> u32;
     fn balluchaw_cancel(table: *mut u8, length: usize, key: u32) -> u32;
     fn balluchaw_lookup(table: *const u8, length: usize, key: u32) -> RawReply;
     fn balluchaw_descent(
@@ -118,9 +121,14 @@ impl Calls for Archive {
         Reply::refused(unsafe { balluchaw_check(at, table.len()) })
     }
 
-    fn put(&mut self, table: &mut [u8], key: u32, total: u32, displayed: u32) -> Reply {
+    fn enter_or_amend(&mut self, table: &mut [u8], ticket: &Ticket) -> Reply {
         let at = self.lend(table);
-        Reply::refused(unsafe { balluchaw_put(at, table.len(), key, total, displayed) })
+        let call = match ticket.kind {
+            Kind::Enter => balluchaw_enter,
+            Kind::Amend => balluchaw_amend,
+        };
+        let Quantities { total, displayed } = ticket.new;
+        Reply::refused(unsafe { call(at, table.len(), ticket.key, total, displayed) })
     }
 
     fn cancel(&mut self, table: &mut [u8], key: u32) -> Reply {

@@ -2,6 +2,7 @@
 
 use crate::archive::{Archive, Calls};
 use crate::slips::{self, Slip, SLIPS};
+use crate::tickets::{Found, Kind, Ticket};
 use reference::calls::Reply;
 use reference::image::{held, image, place, table};
 use reference::lists::{chunks, home, lists, Chunk, Label, Orders, Quantities};
@@ -10,11 +11,34 @@ use reference::sizes::{
     are_quantities, number_at, short_at, Made, Seed, Sizes, BLOCK_HEAD, FRONT, HEADER, NODE, P,
     SEED,
 };
+use std::collections::BTreeSet;
 
 #[derive(Clone, Copy, PartialEq, Eq)]
 pub enum Fault {
-    PutOnce,
-    PutLeaves,
+    Once(Kind),
+    Leaves(Kind),
+    TouchedBehind(Kind),
+    SixBeforeFive(Kind),
+    GreatestTotalRefused(Kind),
+    EnterOverwrites,
+    SameEntered,
+    SevenBeforeSix,
+    ThirteenBeforeSix,
+    SevenBeforeThirteen,
+    EightBeforeThirteen,
+    EightBeforeSeven,
+    CancelledNotFree,
+    AmendAdds,
+    NineBeforeFive,
+    NineBeforeSix,
+    AmendSeven,
+    AmendEight,
+    OldTotal,
+    OldDisplayed,
+    HiddenUnamended,
+    NextAmended,
+    AmendMoves,
+    CountedAgain,
     CancelLeaves,
     AlwaysEmpty,
     FirstCome,
@@ -28,7 +52,6 @@ pub enum Fault {
     CountUnseen,
     LengthUnseen,
     TableTouched,
-    TouchedBehind,
     TouchedBefore,
     OutputBehind,
     OutputOnRefusal,
@@ -36,9 +59,7 @@ pub enum Fault {
     KeyNotRepeated,
     QuantitiesExchanged,
     SeekBelow,
-    SixBeforeFive,
     LastKeyRefused,
-    GreatestTotalRefused,
     ExactOutputRefused,
     LastByteKept,
     SeedTouched,
@@ -65,30 +86,88 @@ pub enum Fault {
     HiddenEndsSeek,
     ExactReserveRefused,
     KeyBeyondUnseen,
-    PutSlips(Slip),
+    EnterSlips(Slip),
     CheckSlips(Slip),
 }
 
-/// Each with its name; the slips behind the others.
+/// Each with its name: those that enter and amend can both have, others, the slips.
 pub fn faults() -> Vec<(String, Fault)> {
+    let tickets = TICKET_FAULTS.into_iter().flat_map(|(name, fault)| {
+        [
+            (format!("an enter that {name}"), fault(Kind::Enter)),
+            (format!("an amend that {name}"), fault(Kind::Amend)),
+        ]
+    });
     let slips = SLIPS.into_iter().flat_map(|(name, slip)| {
         [
-            (format!("a put with {name}"), Fault::PutSlips(slip)),
+            (format!("an enter with {name}"), Fault::EnterSlips(slip)),
             (format!("a check with {name}"), Fault::CheckSlips(slip)),
         ]
     });
     let others = FAULTS
         .into_iter()
         .map(|(name, fault)| (name.to_string(), fault));
-    others.chain(slips).collect()
+    tickets.chain(others).chain(slips).collect()
 }
 
-const FAULTS: [(&str, Fault); 52] = [
+const TICKET_FAULTS: [(&str, fn(Kind) -> Fault); 5] = [
+    ("edits once and later only answers", Fault::Once),
+    ("answers and leaves the table", Fault::Leaves),
+    ("writes the byte behind the table", Fault::TouchedBehind),
+    ("asks 6 before 5", Fault::SixBeforeFive),
+    ("turns down the greatest total", Fault::GreatestTotalRefused),
+];
+
+const FAULTS: [(&str, Fault); 66] = [
     (
-        "a put that edits once and later only answers",
-        Fault::PutOnce,
+        "an enter that overwrites a held key",
+        Fault::EnterOverwrites,
     ),
-    ("a put that answers and leaves the table", Fault::PutLeaves),
+    (
+        "an enter that answers 0 to a held key with the same quantities",
+        Fault::SameEntered,
+    ),
+    ("an enter that asks 7 before 6", Fault::SevenBeforeSix),
+    ("an enter that asks 13 before 6", Fault::ThirteenBeforeSix),
+    ("an enter that asks 7 before 13", Fault::SevenBeforeThirteen),
+    ("an enter that asks 8 before 13", Fault::EightBeforeThirteen),
+    ("an enter that asks 8 before 7", Fault::EightBeforeSeven),
+    (
+        "an enter that answers 13 to a key that was cancelled",
+        Fault::CancelledNotFree,
+    ),
+    (
+        "an amend that adds a key that is not held",
+        Fault::AmendAdds,
+    ),
+    ("an amend that asks 9 before 5", Fault::NineBeforeFive),
+    ("an amend that asks 9 before 6", Fault::NineBeforeSix),
+    (
+        "an amend that answers 7 on a table with N orders",
+        Fault::AmendSeven,
+    ),
+    (
+        "an amend that answers 8 on a table with M chunks",
+        Fault::AmendEight,
+    ),
+    ("an amend that leaves the old total", Fault::OldTotal),
+    (
+        "an amend that leaves the old displayed quantity",
+        Fault::OldDisplayed,
+    ),
+    (
+        "an amend that leaves the old displayed quantity instead of 0",
+        Fault::HiddenUnamended,
+    ),
+    (
+        "an amend that gives the next order the quantities too",
+        Fault::NextAmended,
+    ),
+    (
+        "an amend that places the order's chunk last",
+        Fault::AmendMoves,
+    ),
+    ("an amend that counts its order again", Fault::CountedAgain),
     (
         "a cancel that answers and leaves the table",
         Fault::CancelLeaves,
@@ -98,7 +177,7 @@ const FAULTS: [(&str, Fault); 52] = [
         Fault::AlwaysEmpty,
     ),
     (
-        "a put that lets the chunk that came first stay",
+        "an enter that lets the chunk that came first stay",
         Fault::FirstCome,
     ),
     (
@@ -119,10 +198,6 @@ const FAULTS: [(&str, Fault); 52] = [
     (
         "a lookup that changes a byte of the table when it finds nothing",
         Fault::TableTouched,
-    ),
-    (
-        "a put that writes the byte behind the table",
-        Fault::TouchedBehind,
     ),
     (
         "a cancel that writes the byte before the table",
@@ -149,14 +224,9 @@ const FAULTS: [(&str, Fault); 52] = [
         Fault::QuantitiesExchanged,
     ),
     ("a seek that gives an order below lo", Fault::SeekBelow),
-    ("a put that asks 6 before 5", Fault::SixBeforeFive),
     (
         "a cancel that turns down the highest key",
         Fault::LastKeyRefused,
-    ),
-    (
-        "a put that turns down the greatest total",
-        Fault::GreatestTotalRefused,
     ),
     (
         "a span that turns down an output of the exact length",
@@ -164,7 +234,10 @@ const FAULTS: [(&str, Fault); 52] = [
     ),
     ("a make that leaves the last byte", Fault::LastByteKept),
     ("a make that changes its seed", Fault::SeedTouched),
-    ("a put that takes mod M before mod p", Fault::ModBlocksFirst),
+    (
+        "an enter that takes mod M before mod p",
+        Fault::ModBlocksFirst,
+    ),
     ("a descent that asks 11 after 9", Fault::DescentNineFirst),
     (
         "a descent that does not write its path with 9",
@@ -253,7 +326,9 @@ const FAULTS: [(&str, Fault); 52] = [
 pub struct Faulty {
     archive: Archive,
     fault: Fault,
-    puts: u32,
+    /// Since the history started: how many enters or amends were done, and which keys were cancelled.
+    done: u32,
+    cancelled: BTreeSet<u32>,
 }
 
 impl Faulty {
@@ -261,7 +336,8 @@ impl Faulty {
         Faulty {
             archive: Archive::default(),
             fault,
-            puts: 0,
+            done: 0,
+            cancelled: BTreeSet::new(),
         }
     }
 
@@ -272,7 +348,8 @@ impl Faulty {
 
 impl Calls for Faulty {
     fn restart(&mut self) {
-        self.puts = 0;
+        self.done = 0;
+        self.cancelled.clear();
     }
 
     fn make(&mut self, table: &mut [u8], sizes: &Sizes, seed: &mut [u8]) -> Reply {
@@ -317,48 +394,36 @@ impl Calls for Faulty {
         self.archive.check(&mut copy)
     }
 
-    fn put(&mut self, table: &mut [u8], key: u32, total: u32, displayed: u32) -> Reply {
+    fn enter_or_amend(&mut self, table: &mut [u8], ticket: &Ticket) -> Reply {
         let before = table.to_vec();
-        let reply = self.archive.put(table, key, total, displayed);
-        if let (Fault::PutSlips(slip), 0 | 8) = (self.fault, reply.number) {
-            let order = Quantities { total, displayed };
-            return put_slips(slip, table, &before, key, order);
-        }
+        let reply = self.archive.enter_or_amend(table, ticket);
         if reply.number == 4 {
             return reply;
         }
-        let n = short_at(table, 11);
-        match self.fault {
-            Fault::SixBeforeFive if reply.number == 5 && (total == 0 || displayed > total) => {
-                return Reply::refused(6)
-            }
-            Fault::TouchedBehind => unsafe { *table.as_mut_ptr().add(table.len()) ^= 1 },
-            _ => {}
+        let found = Found::in_table(&before).expect("no 4");
+        if let Some(number) = self.other_number(ticket, &found, reply.number) {
+            table.copy_from_slice(&before);
+            return Reply::refused(number);
         }
-        if reply.number != 0 {
-            return reply;
-        }
-        self.puts += 1;
-        match self.fault {
-            Fault::PutOnce if self.puts > 1 => table.copy_from_slice(&before),
-            Fault::PutLeaves => table.copy_from_slice(&before),
-            Fault::AlwaysEmpty => write_empty(table),
-            Fault::FirstCome => keep_first_come(&before, table),
-            Fault::ModBlocksFirst => arrange_by(table, |made, label| {
-                let blocks = u64::from(made.sizes.blocks);
-                let sum = u64::from(made.seed.g(label.first_key))
-                    + 65_536 * u64::from(label.level)
-                    + u64::from(label.chunk_number);
-                (sum % blocks) as usize
-            }),
-            Fault::EightUnlooked if n > 3 && n == short_at(table, 7) => {
-                table.copy_from_slice(&before);
-                return Reply::refused(8);
+        let resulting = || found.with(ticket.key, ticket.new);
+        match (self.fault, ticket.kind, reply.number) {
+            (Fault::EnterSlips(slip), Kind::Enter, 0 | 8) => {
+                return enter_slips(slip, table, &before, &resulting())
             }
-            Fault::GreatestTotalRefused if total == u32::MAX => {
-                table.copy_from_slice(&before);
-                return Reply::refused(6);
+            (Fault::EnterOverwrites, Kind::Enter, 13) => {
+                write(table, &resulting());
+                return Reply::done();
             }
+            (Fault::AmendAdds, Kind::Amend, 9) => {
+                let kind = Kind::Enter;
+                return self
+                    .archive
+                    .enter_or_amend(table, &Ticket { kind, ..*ticket });
+            }
+            (Fault::TouchedBehind(kind), ..) if kind == ticket.kind => unsafe {
+                *table.as_mut_ptr().add(table.len()) ^= 1
+            },
+            (.., 0) => self.done_otherwise(ticket, &found, table),
             _ => {}
         }
         reply
@@ -370,6 +435,7 @@ impl Calls for Faulty {
         if reply.number != 0 {
             return reply;
         }
+        self.cancelled.insert(key);
         match self.fault {
             Fault::CancelLeaves => table.copy_from_slice(&before),
             Fault::TouchedBefore => unsafe { *table.as_mut_ptr().sub(1) ^= 1 },
@@ -470,6 +536,86 @@ impl Calls for Faulty {
 }
 
 impl Faulty {
+    /// The number of somebody who asks an enter's or amend's questions in another order, or another question; nothing is written then.
+    fn other_number(&self, ticket: &Ticket, found: &Found, number: u32) -> Option<u32> {
+        let own = found.orders.get(&ticket.key);
+        let n_orders = found.has_n_orders();
+        let last = found.orders.len() + 1 == found.made.sizes.orders as usize;
+        let is_own = |kind| kind == ticket.kind;
+        let other = match (self.fault, ticket.kind, number) {
+            (Fault::SixBeforeFive(kind), _, 5) if is_own(kind) && ticket.is_bad() => 6,
+            (Fault::NineBeforeFive, Kind::Amend, 5) => 9,
+            (Fault::SevenBeforeSix, Kind::Enter, 6) if own.is_none() && n_orders => 7,
+            (Fault::ThirteenBeforeSix, Kind::Enter, 6) if own.is_some() => 13,
+            (Fault::NineBeforeSix, Kind::Amend, 6) if own.is_none() => 9,
+            (Fault::SevenBeforeThirteen, Kind::Enter, 13) if n_orders => 7,
+            (Fault::EightBeforeThirteen, Kind::Enter, 13) if found.has_m_chunks() => 8,
+            (Fault::SameEntered, Kind::Enter, 13) if own == Some(&ticket.new) => 0,
+            (Fault::EightBeforeSeven, Kind::Enter, 7) if !found.has_blocks_for(ticket) => 8,
+            (Fault::EightUnlooked, Kind::Enter, 0) if last && found.orders.len() > 2 => 8,
+            (Fault::CancelledNotFree, Kind::Enter, 0) if self.cancelled.contains(&ticket.key) => 13,
+            (Fault::AmendSeven, Kind::Amend, 0) if n_orders => 7,
+            (Fault::AmendEight, Kind::Amend, 0) if found.has_m_chunks() => 8,
+            (Fault::GreatestTotalRefused(kind), _, 0)
+                if is_own(kind) && ticket.new.total == u32::MAX =>
+            {
+                6
+            }
+            _ => return None,
+        };
+        Some(other)
+    }
+
+    /// What somebody leaves who answers 0 to an enter or amend and does not do it, or does it otherwise.
+    fn done_otherwise(&mut self, ticket: &Ticket, found: &Found, table: &mut [u8]) {
+        match (self.fault, ticket.kind) {
+            (Fault::Once(kind), _) if kind == ticket.kind => {
+                self.done += 1;
+                if self.done > 1 {
+                    write(table, &found.orders);
+                }
+            }
+            (Fault::Leaves(kind), _) if kind == ticket.kind => write(table, &found.orders),
+            (Fault::AlwaysEmpty, _) => write(table, &Orders::new()),
+            (Fault::FirstCome, Kind::Enter) => keep_first_come(ticket, found, table),
+            (Fault::ModBlocksFirst, Kind::Enter) => arrange_by(table, |made, label| {
+                let blocks = u64::from(made.sizes.blocks);
+                let sum = u64::from(made.seed.g(label.first_key))
+                    + 65_536 * u64::from(label.level)
+                    + u64::from(label.chunk_number);
+                (sum % blocks) as usize
+            }),
+            (_, Kind::Amend) => self.amended_otherwise(ticket, found, table),
+            _ => {}
+        }
+    }
+
+    fn amended_otherwise(&self, ticket: &Ticket, found: &Found, table: &mut [u8]) {
+        let (key, new) = (ticket.key, ticket.new);
+        let Quantities { total, displayed } = found.orders[&key];
+        let old_displayed = Quantities { displayed, ..new };
+        match self.fault {
+            Fault::OldTotal => write(table, &found.with(key, Quantities { total, ..new })),
+            Fault::OldDisplayed => write(table, &found.with(key, old_displayed)),
+            Fault::HiddenUnamended if new.is_hidden() => {
+                write(table, &found.with(key, old_displayed))
+            }
+            Fault::NextAmended => {
+                let mut orders = found.with(key, new);
+                if let Some((_, next)) = orders.range_mut(key + 1..).next() {
+                    *next = new;
+                }
+                write(table, &orders);
+            }
+            Fault::AmendMoves => place_last(ticket, found, table),
+            Fault::CountedAgain => {
+                let count = found.orders.len() as u16 + 1;
+                table[11..13].copy_from_slice(&count.to_be_bytes());
+            }
+            _ => {}
+        }
+    }
+
     /// A check that takes a table for none unless it is that of its orders by this slip too.
     fn check_slips(&mut self, slip: Slip, table: &mut [u8]) -> Reply {
         match held(table) {
@@ -574,11 +720,10 @@ impl Faulty {
     }
 }
 
-/// A put that went past 7, by somebody who slips.
-fn put_slips(slip: Slip, table: &mut [u8], before: &[u8], key: u32, order: Quantities) -> Reply {
-    let (made, mut orders) = held(before).expect("a put went past 4");
-    orders.insert(key, order);
-    match slips::image(slip, &made, &orders) {
+/// An enter that went past 7, by somebody who slips.
+fn enter_slips(slip: Slip, table: &mut [u8], before: &[u8], orders: &Orders) -> Reply {
+    let made = made_of(before).expect("an enter went past 4");
+    match slips::image(slip, &made, orders) {
         Some(after) => {
             table.copy_from_slice(&after);
             Reply::done()
@@ -703,24 +848,40 @@ pub fn arrange_by(table: &mut [u8], home: impl Fn(&Made, &Label) -> usize) {
     }
 }
 
-fn write_empty(bytes: &mut [u8]) {
-    let made = made_of(bytes).expect("a put succeeded");
-    let empty = image(&made, &Orders::new()).expect("no orders fit");
-    bytes.copy_from_slice(&empty);
+/// The table of these orders, whatever their quantities, which must have room in it.
+fn write(bytes: &mut [u8], orders: &Orders) {
+    let made = made_of(bytes).expect("an enter or amend went past 4");
+    bytes.copy_from_slice(&image(&made, orders).expect("they fit"));
 }
 
-/// Places those chunks first whose labels were there before.
-fn keep_first_come(before: &[u8], after: &mut [u8]) {
-    let (made, old) = held(before).expect("a put succeeded");
-    let (_, new) = held(after).expect("a put succeeded");
-    let (old_lists, new_lists) = (lists(&made, &old), lists(&made, &new));
-    let known: Vec<Label> = chunks(&made, &old_lists)
+/// An enter that places those chunks first whose labels were there before.
+fn keep_first_come(ticket: &Ticket, found: &Found, after: &mut [u8]) {
+    let old_lists = lists(&found.made, &found.orders);
+    let known: Vec<Label> = chunks(&found.made, &old_lists)
         .iter()
         .map(|chunk| chunk.label)
         .collect();
-    let (mut first, last): (Vec<_>, Vec<_>) = chunks(&made, &new_lists)
-        .into_iter()
-        .partition(|chunk| known.contains(&chunk.label));
-    first.extend(last);
-    after.copy_from_slice(&table(&made, new.len(), &place(&made, &first)));
+    place_first(ticket, found, after, |chunk| known.contains(&chunk.label));
+}
+
+/// An amend that takes the chunk of its order out and places it after all others.
+fn place_last(ticket: &Ticket, found: &Found, after: &mut [u8]) {
+    let has_key = |chunk: &Chunk| chunk.nodes.iter().any(|node| node.key == ticket.key);
+    place_first(ticket, found, after, |chunk| {
+        chunk.label.level > 1 || !has_key(chunk)
+    });
+}
+
+/// The chunks that there are with the ticket's order, some of them placed before the others.
+fn place_first(
+    ticket: &Ticket,
+    found: &Found,
+    after: &mut [u8],
+    is_first: impl Fn(&Chunk) -> bool,
+) {
+    let (made, orders) = (&found.made, found.with(ticket.key, ticket.new));
+    let lists = lists(made, &orders);
+    let (mut placed, last): (Vec<_>, Vec<_>) = chunks(made, &lists).into_iter().partition(is_first);
+    placed.extend(last);
+    after.copy_from_slice(&table(made, orders.len(), &place(made, &placed)));
 }

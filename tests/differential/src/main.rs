@@ -4,23 +4,26 @@
 //!     differential faults     plants faults in the archive's answers, one after the other; each must be found
 //!
 //! SEED in the environment chooses other calls; TESTS=long does a hundred times as much; TELL=1 says of each fault how it was found, and of each
-//! kind of seek, level and hash how often it came.
+//! kind of enter, amend, seek, level and hash how often it came.
 
 mod archive;
 mod faults;
 mod rounds;
 mod slips;
 mod steps;
+mod tickets;
 
 use archive::{Archive, Calls};
 use faults::{faults, Faulty};
 use rounds::{Amount, Rounds};
+use std::fmt::Display;
 use std::process::exit;
 use std::time::{Duration, Instant};
 use steps::{
     differs, most_levels, script, shorten, Mismatch, Pair, Tally, GAMMAS, HASHES, NUMBERS, SEEKS,
     WAYS,
 };
+use tickets::TICKETS;
 
 fn main() {
     let seed = match std::env::var("SEED") {
@@ -85,23 +88,17 @@ fn compare(seed: u64, amount: Amount) {
         eprintln!("differential: seed {seed}: no descent on what is no table");
         exit(1);
     }
-    let (rarest, kind) = met.tally.rarest_seek();
-    if rarest < u64::from(amount.0) {
-        eprintln!("differential: seed {seed}: met {rarest} times only: {kind}");
-        exit(1);
-    }
-    let (rarest_hash, kind) = met.tally.rarest_hash();
-    if rarest_hash < u64::from(amount.of_hashes()) {
-        eprintln!("differential: seed {seed}: met {rarest_hash} times only: {kind}");
-        exit(1);
-    }
+    let rarest_ticket = often_enough(seed, met.tally.rarest_ticket(), amount.0);
+    let rarest = often_enough(seed, met.tally.rarest_seek(), amount.0);
+    let rarest_hash = often_enough(seed, met.tally.rarest_hash(), amount.of_hashes());
     if std::env::var_os("TELL").is_some() {
         tell_kinds(&met.tally);
     }
     println!(
         "differential: seed {seed}: {} calls of the archive answered and left what the reference did; every call met all its numbers; \
          of changed tables {} were none and {} still some; {} descents on what is no table kept within their outputs; \
-         of seeks that tell reserves apart each kind came {rarest} times or more, of orders each level by each of {} γ and each kind of hash \
+         of enters and amends that tell their questions apart each kind came {rarest_ticket} times or more, of seeks that tell reserves apart \
+         {rarest} times, of orders each level by each of {} γ and each kind of hash \
          {rarest_hash} times; {:.0} s",
         met.tally.calls(),
         met.no_images,
@@ -112,8 +109,20 @@ fn compare(seed: u64, amount: Amount) {
     );
 }
 
+/// How often the rarest kind came, if that is not too seldom.
+fn often_enough(seed: u64, (rarest, kind): (u64, impl Display), least: u32) -> u64 {
+    if rarest < u64::from(least) {
+        eprintln!("differential: seed {seed}: met {rarest} times only: {kind}");
+        exit(1);
+    }
+    rarest
+}
+
 /// How often each kind came.
 fn tell_kinds(tally: &Tally) {
+    for (kind, times) in TICKETS.iter().zip(tally.tickets) {
+        println!("{kind}: {times}");
+    }
     for (kind, times) in SEEKS.iter().zip(tally.seeks) {
         println!("seeks, {kind}: {times}");
     }

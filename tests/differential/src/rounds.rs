@@ -1,6 +1,7 @@
 //! What is tried: edges of make, histories, damaged bytes, blocks in other places, chunks of other lists, hashes and levels, long tables.
 
 use crate::steps::{most_levels, Mismatch, Outcome, Pair, Step, GAMMAS, MOST_ORDERS};
+use crate::tickets::{Kind, Ticket, BOTH};
 use reference::calls::Reply;
 use reference::image::{held, image, place, table};
 use reference::lists::{
@@ -301,6 +302,15 @@ fn chunk_count(made: &Made, orders: &Orders) -> u32 {
 
 // ---- histories ---------------------------------------------------------------
 
+/// Quantities that 6 turns down.
+const BAD_QUANTITIES: [(u32, u32); 5] = [
+    (0, 0),
+    (0, 1),
+    (100, 101),
+    (1, u32::MAX),
+    (u32::MAX - 1, u32::MAX),
+];
+
 impl Rounds<'_, '_> {
     /// Histories for so many pairs of γ and B, which go through all pairs in turn.
     fn histories(&mut self, pairs: u32) -> Outcome {
@@ -329,13 +339,8 @@ impl Rounds<'_, '_> {
         self.pair.take(Step::Check { length })?;
         self.make(&made.sizes, &made.seed.bytes(), length)?;
         for &key in keys.iter().take(40 + steps as usize) {
-            let (total, displayed) = some_quantities(&mut self.generator);
-            self.pair.take(Step::Put {
-                length,
-                key,
-                total,
-                displayed,
-            })?;
+            let quantities = some_quantities(&mut self.generator);
+            self.ticket(Kind::Enter, length, key, quantities)?;
         }
         for step in 0..steps {
             self.random_step(length, keys)?;
@@ -371,22 +376,9 @@ impl Rounds<'_, '_> {
         let key = self.key(keys);
         match self.generator.below(20) {
             0..=6 => {
-                let (mut total, mut displayed) = some_quantities(&mut self.generator);
-                if self.generator.one_in(12) {
-                    (total, displayed) = self.generator.pick(&[
-                        (0, 0),
-                        (0, 1),
-                        (100, 101),
-                        (1, u32::MAX),
-                        (u32::MAX - 1, u32::MAX),
-                    ]);
-                }
-                self.pair.take(Step::Put {
-                    length,
-                    key,
-                    total,
-                    displayed,
-                })?;
+                let kind = self.generator.pick(&BOTH);
+                let quantities = self.quantities(length, key);
+                self.ticket(kind, length, key, quantities)?;
             }
             7..=11 => {
                 self.pair.take(Step::Cancel { length, key })?;
@@ -397,6 +389,43 @@ impl Rounds<'_, '_> {
             _ => self.reading(length, keys)?,
         }
         Ok(())
+    }
+
+    fn ticket(
+        &mut self,
+        kind: Kind,
+        length: usize,
+        key: u32,
+        (total, displayed): (u32, u32),
+    ) -> Result<Reply, Box<Mismatch>> {
+        let new = Quantities { total, displayed };
+        let ticket = Ticket { kind, key, new };
+        self.pair.take(Step::Ticket { length, ticket })
+    }
+
+    /// Amends a held key and enters any other.
+    fn put(&mut self, length: usize, key: u32, order: Quantities) -> Result<Reply, Box<Mismatch>> {
+        let is_held = orders_of(&self.pair.bytes()[..length]).contains_key(&key);
+        let kind = if is_held { Kind::Amend } else { Kind::Enter };
+        self.ticket(kind, length, key, (order.total, order.displayed))
+    }
+
+    /// Some total and displayed; now and then bad ones, or those that the order under the key has, or one of its two.
+    fn quantities(&mut self, length: usize, key: u32) -> (u32, u32) {
+        let (total, displayed) = some_quantities(&mut self.generator);
+        let kind = self.generator.below(12);
+        if kind == 0 {
+            return self.generator.pick(&BAD_QUANTITIES);
+        }
+        if kind > 3 {
+            return (total, displayed);
+        }
+        match orders_of(&self.pair.bytes()[..length]).get(&key) {
+            Some(own) if kind == 1 => (own.total, own.displayed),
+            Some(own) if kind == 2 => (own.total, displayed.min(own.total)),
+            Some(own) => (total.max(own.displayed), own.displayed),
+            None => (total, displayed),
+        }
     }
 
     /// One lookup, descent, span or seek.
@@ -462,7 +491,8 @@ impl Rounds<'_, '_> {
         Step::Descent { length, key, room }
     }
 
-    /// The held orders put into a new table in another order, with others among them that are cancelled again: the bytes must be equal.
+    /// The held orders entered into a new table in another order, with others among them that are cancelled again, and then amended: the bytes
+    /// must be equal.
     fn another_way(&mut self, made: &Made, size: usize) -> Outcome {
         let length = made.sizes.length();
         let orders = match held(&self.pair.bytes()[..length]) {
@@ -482,27 +512,15 @@ impl Rounds<'_, '_> {
         let mut mixed = [others.as_slice(), wanted.as_slice()].concat();
         self.generator.shuffle(&mut mixed);
         for &key in &mixed {
-            let (total, displayed) = some_quantities(&mut self.generator);
-            self.pair.take(Step::Put {
-                length,
-                key,
-                total,
-                displayed,
-            })?;
+            let quantities = some_quantities(&mut self.generator);
+            self.ticket(Kind::Enter, length, key, quantities)?;
         }
         for &key in &others {
             self.pair.take(Step::Cancel { length, key })?;
         }
         // Each with its own quantities; those that the others kept out come in now.
         for key in wanted {
-            let Quantities { total, displayed } = orders[&key];
-            let reply = self.pair.take(Step::Put {
-                length,
-                key,
-                total,
-                displayed,
-            })?;
-            if reply.number != 0 {
+            if self.put(length, key, orders[&key])?.number != 0 {
                 return Err(self
                     .pair
                     .mismatch("an order of a set that fits was turned down".into()));
@@ -520,7 +538,8 @@ impl Rounds<'_, '_> {
 // ---- every edit of every small set ---------------------------------------------
 
 impl Rounds<'_, '_> {
-    /// Four keys, each absent or with one of two pairs of quantities: from every such set that fits, every put and cancel of these keys.
+    /// Four keys, each absent or with one of two pairs of quantities: from every such set that fits, every enter, amend and
+    /// cancel of these keys; the quantities that are there, both others, or one of them.
     fn every_edit(&mut self) -> Outcome {
         let gamma = self.generator.pick(&[2, 2, 2, 3, 4, 8]);
         let nodes = self.generator.pick(&[2, 2, 3, 4]);
@@ -555,24 +574,27 @@ impl Rounds<'_, '_> {
                 room: NODE * orders.len(),
             })?;
             for &key in &keys {
-                self.pair.take(Step::Lookup { length, key })?;
-                let descent = self.descent(length, key);
-                self.pair.take(descent)?;
-                for (total, displayed) in quantities {
-                    let reply = self.pair.take(Step::Put {
-                        length,
-                        key,
-                        total,
-                        displayed,
-                    })?;
-                    if reply.number == 0 {
-                        self.pair.set(0, &bytes);
-                    }
-                }
-                if self.pair.take(Step::Cancel { length, key })?.number == 0 {
-                    self.pair.set(0, &bytes);
+                self.edits_of(&bytes, key)?;
+            }
+        }
+        Ok(())
+    }
+
+    /// Every call with this key on a table of these bytes.
+    fn edits_of(&mut self, bytes: &[u8], key: u32) -> Outcome {
+        let length = bytes.len();
+        self.pair.take(Step::Lookup { length, key })?;
+        let descent = self.descent(length, key);
+        self.pair.take(descent)?;
+        for kind in BOTH {
+            for new in [(1, 0), (u32::MAX, u32::MAX), (u32::MAX, 0)] {
+                if self.ticket(kind, length, key, new)?.number == 0 {
+                    self.pair.set(0, bytes);
                 }
             }
+        }
+        if self.pair.take(Step::Cancel { length, key })?.number == 0 {
+            self.pair.set(0, bytes);
         }
         Ok(())
     }
@@ -596,12 +618,9 @@ impl Rounds<'_, '_> {
         }
         if self.generator.one_in(12) {
             let key = self.key(keys);
-            self.pair.take(Step::Put {
-                length,
-                key,
-                total: 7,
-                displayed: 3,
-            })?;
+            for kind in BOTH {
+                self.ticket(kind, length, key, (7, 3))?;
+            }
             self.pair.take(Step::Cancel { length, key })?;
             self.reading(length, keys)?;
         }
@@ -1039,7 +1058,7 @@ impl Rounds<'_, '_> {
         Ok(())
     }
 
-    /// Puts these keys into a table with room for one order more and cancels half of them. Between, a number that is no key stands in the table,
+    /// Enters these keys into a table with room for one order more and cancels half of them. Between, a number that is no key stands in the table,
     /// which is right otherwise.
     fn filled(&mut self, gamma: u32, seed: Seed, keys: &[u32]) -> Outcome {
         let nodes = self.generator.pick(&[2, 2, 3, 8]);
@@ -1065,12 +1084,7 @@ impl Rounds<'_, '_> {
         self.generator.shuffle(&mut keys);
         for &key in &keys {
             let Quantities { total, displayed } = orders[&key];
-            let reply = self.pair.take(Step::Put {
-                length,
-                key,
-                total,
-                displayed,
-            })?;
+            let reply = self.ticket(Kind::Enter, length, key, (total, displayed))?;
             if reply.number == 0 {
                 self.pair.tally.count_hash(&made, key);
             }
@@ -1180,18 +1194,15 @@ impl Rounds<'_, '_> {
             room: NODE * held,
         })?;
         self.some_calls(&made, &keys)?;
-        // Out and in again: every byte as before.
+        // Out, in again with other quantities, and amended: every byte as before.
         let before = self.pair.tested_bytes().to_vec();
         let key = self.generator.pick(&keys);
         let found = self.pair.take(Step::Lookup { length, key })?;
         self.pair.take(Step::Cancel { length, key })?;
         if found.number == 0 {
-            self.pair.take(Step::Put {
-                length,
-                key,
-                total: found.total,
-                displayed: found.displayed,
-            })?;
+            let other = some_quantities(&mut self.generator);
+            self.ticket(Kind::Enter, length, key, other)?;
+            self.ticket(Kind::Amend, length, key, (found.total, found.displayed))?;
             if self.pair.tested_bytes() != before {
                 return Err(self
                     .pair

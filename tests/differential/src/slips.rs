@@ -1,4 +1,4 @@
-//! Hashes and levels that are slightly wrong, and the tables they lead to. Each slip is planted once in a put and once in a check.
+//! Hashes and levels that are slightly wrong, and the tables they lead to. Each slip is planted once in an enter and once in a check.
 
 use crate::faults::arrange_by;
 use reference::image::{place, table};

@@ -1,6 +1,7 @@
 //! Steps taken on both sides, and their comparison after each.
 
 use crate::archive::Calls;
+use crate::tickets::{self, Found, Kind, Ticket, TICKETS};
 use reference::calls::{self, stays_within, Reply};
 use reference::image::held;
 use reference::lists::Orders;
@@ -28,11 +29,9 @@ pub enum Step {
     Check {
         length: usize,
     },
-    Put {
+    Ticket {
         length: usize,
-        key: u32,
-        total: u32,
-        displayed: u32,
+        ticket: Ticket,
     },
     Cancel {
         length: usize,
@@ -62,15 +61,24 @@ pub enum Step {
 }
 
 /// Names of the calls, in the order of the tally.
-pub const CALLS: [&str; 8] = [
-    "make", "check", "put", "cancel", "lookup", "span", "seek", "descent",
+pub const CALLS: [&str; 9] = [
+    "make", "check", "enter", "amend", "cancel", "lookup", "span", "seek", "descent",
 ];
 
+/// The place of enter or amend among them.
+fn place_of(kind: Kind) -> usize {
+    match kind {
+        Kind::Enter => 2,
+        Kind::Amend => 3,
+    }
+}
+
 /// The numbers that each call can answer.
-pub const NUMBERS: [&[usize]; 8] = [
+pub const NUMBERS: [&[usize]; 9] = [
     &[0, 1, 2, 3],
     &[0, 4],
-    &[0, 4, 5, 6, 7, 8],
+    &[0, 4, 5, 6, 7, 8, 13],
+    &[0, 4, 5, 6, 9],
     &[0, 4, 5, 9],
     &[0, 4, 5, 9],
     &[0, 4, 5, 10, 11],
@@ -78,12 +86,14 @@ pub const NUMBERS: [&[usize]; 8] = [
     &[0, 4, 5, 9, 11],
 ];
 
-/// How often each call answered each number, how many descents there were whose answer no definition decides, how often each kind of seek
-/// that tells one reserve from another came, and how many orders of each level and with each kind of hash were put into tables made for that.
+/// How often each call answered each number, how many descents there were whose answer no definition decides, how often each kind of enter and
+/// amend came, and of seek that tells one reserve from another, and how many orders of each level and with each kind of hash were entered into
+/// tables made for that.
 #[derive(Clone, Default)]
 pub struct Tally {
-    answered: [[u64; 13]; 8],
+    answered: [[u64; 14]; 9],
     pub undecided: u64,
+    pub tickets: [u64; TICKETS.len()],
     pub seeks: [u64; SEEKS.len()],
     pub levels: [[[u64; 19]; GAMMAS.len()]; WAYS.len()],
     pub hashes: [u64; HASHES.len()],
@@ -189,13 +199,20 @@ impl Tally {
             .collect()
     }
 
+    fn count_ticket(&mut self, ticket: &Ticket, found: &Found, number: u32) {
+        let kinds = tickets::kinds(ticket, found, number);
+        for (count, met) in self.tickets.iter_mut().zip(kinds) {
+            *count += u64::from(met);
+        }
+    }
+
     fn count_seek(&mut self, orders: &Orders, asked: (u32, u32, u32), reply: &Reply) {
         for (count, met) in self.seeks.iter_mut().zip(kinds(orders, asked, reply)) {
             *count += u64::from(met);
         }
     }
 
-    /// Counts an order that was put into a table with one of the γ above.
+    /// Counts an order that was entered into a table with one of the γ above.
     pub fn count_hash(&mut self, made: &Made, key: u32) {
         let gamma = GAMMAS.iter().position(|&gamma| gamma == made.sizes.gamma);
         let gamma = gamma.expect("one of these");
@@ -222,6 +239,12 @@ impl Tally {
         let hashes = HASHES.iter().map(|kind| kind.to_string());
         kinds.extend(self.hashes.iter().copied().zip(hashes));
         kinds.into_iter().min().expect("there are kinds")
+    }
+
+    /// The kind of enter or amend that came least often, and how often.
+    pub fn rarest_ticket(&self) -> (u64, &'static str) {
+        let kinds = self.tickets.iter().copied().zip(TICKETS);
+        kinds.min().expect("there are kinds")
     }
 
     /// The kind of seek that came least often, and how often.
@@ -334,20 +357,10 @@ impl<'a> Pair<'a> {
     }
 
     fn compare(&mut self, step: &Step) -> Result<Reply, String> {
-        match *step {
-            Step::Room { size, byte } => {
-                self.tested.restart();
-                self.store = Fenced::new(&vec![byte; size], usize::from(byte));
-                self.expected = vec![byte; size];
-                return Ok(Reply::done());
-            }
-            Step::Set { place, ref bytes } => {
-                self.store.lent(place + bytes.len())[place..].copy_from_slice(bytes);
-                self.expected[place..place + bytes.len()].copy_from_slice(bytes);
-                return Ok(Reply::done());
-            }
-            _ => {}
+        if self.prepares(step) {
+            return Ok(Reply::done());
         }
+        let ticket = self.ticket_and_found(step);
         let (call, found, output) = self.on_tested(step)?;
         let (wanted, expected_output) = on_reference(&mut self.expected, step);
         let name = CALLS[call];
@@ -356,6 +369,9 @@ impl<'a> Pair<'a> {
                 self.judge_answer(step, &found, &wanted)
                     .map_err(|what| format!("{name} {what}"))?;
                 self.tally.answered[call][found.number as usize] += 1;
+                if let Some((ticket, before)) = ticket {
+                    self.tally.count_ticket(&ticket, &before, found.number);
+                }
             }
             None => self.tally.undecided += 1,
         }
@@ -370,6 +386,34 @@ impl<'a> Pair<'a> {
         Ok(found)
     }
 
+    /// Whether a step is no call. It is taken on both stores then.
+    fn prepares(&mut self, step: &Step) -> bool {
+        match *step {
+            Step::Room { size, byte } => {
+                self.tested.restart();
+                self.store = Fenced::new(&vec![byte; size], usize::from(byte));
+                self.expected = vec![byte; size];
+                true
+            }
+            Step::Set { place, ref bytes } => {
+                self.store.lent(place + bytes.len())[place..].copy_from_slice(bytes);
+                self.expected[place..place + bytes.len()].copy_from_slice(bytes);
+                true
+            }
+            _ => false,
+        }
+    }
+
+    /// An enter or amend and what it finds; None for another step, and where there is no table.
+    fn ticket_and_found(&self, step: &Step) -> Option<(Ticket, Found)> {
+        match *step {
+            Step::Ticket { length, ticket } => {
+                Found::in_table(&self.expected[..length]).map(|found| (ticket, found))
+            }
+            _ => None,
+        }
+    }
+
     /// Makes the call on the tested side: its place among the calls, its answer, and the output that it was lent.
     fn on_tested(&mut self, step: &Step) -> Result<(usize, Reply, Option<Fenced>), String> {
         let Pair { tested, store, .. } = self;
@@ -381,17 +425,12 @@ impl<'a> Pair<'a> {
                 length,
             } => (0, self.make_on_tested(sizes, seed, length)?, None),
             Step::Check { length } => (1, tested.check(store.lent(length)), None),
-            Step::Put {
-                length,
-                key,
-                total,
-                displayed,
-            } => {
-                let found = tested.put(store.lent(length), key, total, displayed);
-                (2, found, None)
+            Step::Ticket { length, ticket } => {
+                let found = tested.enter_or_amend(store.lent(length), &ticket);
+                (place_of(ticket.kind), found, None)
             }
-            Step::Cancel { length, key } => (3, tested.cancel(store.lent(length), key), None),
-            Step::Lookup { length, key } => (4, tested.lookup(store.lent(length), key), None),
+            Step::Cancel { length, key } => (4, tested.cancel(store.lent(length), key), None),
+            Step::Lookup { length, key } => (5, tested.lookup(store.lent(length), key), None),
             Step::Span {
                 length,
                 lo,
@@ -400,15 +439,15 @@ impl<'a> Pair<'a> {
             } => {
                 let mut lent = Fenced::new(&before(room), room + length);
                 let found = tested.span(store.lent(length), lo, hi, lent.lent(room));
-                (5, found, Some(lent))
+                (6, found, Some(lent))
             }
             Step::Seek { length, lo, hi, r } => {
-                (6, tested.seek(store.lent(length), lo, hi, r), None)
+                (7, tested.seek(store.lent(length), lo, hi, r), None)
             }
             Step::Descent { length, key, room } => {
                 let mut lent = Fenced::new(&before(room), room + length);
                 let found = tested.descent(store.lent(length), key, lent.lent(room));
-                (7, found, Some(lent))
+                (8, found, Some(lent))
             }
         })
     }
@@ -513,12 +552,7 @@ fn on_reference(store: &mut [u8], step: &Step) -> (Option<Reply>, Vec<u8>) {
             &mut store[..length],
         ),
         Step::Check { length } => calls::check(&store[..length]),
-        Step::Put {
-            length,
-            key,
-            total,
-            displayed,
-        } => calls::put(&mut store[..length], key, total, displayed),
+        Step::Ticket { length, ticket } => ticket.on_reference(&mut store[..length]),
         Step::Cancel { length, key } => calls::cancel(&mut store[..length], key),
         Step::Lookup { length, key } => calls::lookup(&store[..length], key),
         Step::Span {
@@ -578,60 +612,56 @@ pub fn script(steps: &[Step]) -> String {
     let mut text = String::new();
     let mut store = Vec::new();
     for step in steps {
-        let line = match *step {
-            Step::Room { size, byte } => {
-                store = vec![byte; size];
-                format!("room {size} {byte}")
-            }
+        text.push_str(&line(step));
+        match *step {
+            Step::Room { size, byte } => store = vec![byte; size],
             Step::Set { place, ref bytes } => {
-                store[place..place + bytes.len()].copy_from_slice(bytes);
-                format!("set {place} {}", hex(bytes))
+                store[place..place + bytes.len()].copy_from_slice(bytes)
             }
-            Step::Make {
-                sizes:
-                    Sizes {
-                        gamma,
-                        nodes,
-                        orders,
-                        blocks,
-                    },
-                ref seed,
-                length,
-            } => {
-                format!(
-                    "make {gamma} {nodes} {orders} {blocks} {} {length}",
-                    hex(seed)
-                )
-            }
-            Step::Check { length } => format!("check {length}"),
-            Step::Put {
-                length,
-                key,
-                total,
-                displayed,
-            } => format!("put {length} {key} {total} {displayed}"),
-            Step::Cancel { length, key } => format!("cancel {length} {key}"),
-            Step::Lookup { length, key } => format!("lookup {length} {key}"),
-            Step::Descent { length, key, room } => format!("descent {length} {key} {room}"),
-            Step::Span {
-                length,
-                lo,
-                hi,
-                room,
-            } => format!("span {length} {lo} {hi} {room}"),
-            Step::Seek { length, lo, hi, r } => format!("seek {length} {lo} {hi} {r}"),
-        };
-        text.push_str(&line);
-        if !matches!(step, Step::Room { .. } | Step::Set { .. }) {
-            let (reply, output) = on_reference(&mut store, step);
-            text.push_str(&answer(reply, &store));
-            if reply.is_some() && matches!(step, Step::Span { .. } | Step::Descent { .. }) {
-                write!(text, " {:016x}", fnv_1a(&output)).expect("a string");
+            _ => {
+                let (reply, output) = on_reference(&mut store, step);
+                text.push_str(&answer(reply, &store));
+                if reply.is_some() && matches!(step, Step::Span { .. } | Step::Descent { .. }) {
+                    write!(text, " {:016x}", fnv_1a(&output)).expect("a string");
+                }
             }
         }
         text.push('\n');
     }
     text
+}
+
+/// A step without its answer.
+fn line(step: &Step) -> String {
+    match *step {
+        Step::Room { size, byte } => format!("room {size} {byte}"),
+        Step::Set { place, ref bytes } => format!("set {place} {}", hex(bytes)),
+        Step::Make {
+            ref sizes,
+            ref seed,
+            length,
+        } => {
+            let (gamma, nodes, seed) = (sizes.gamma, sizes.nodes, hex(seed));
+            let (orders, blocks) = (sizes.orders, sizes.blocks);
+            format!("make {gamma} {nodes} {orders} {blocks} {seed} {length}")
+        }
+        Step::Check { length } => format!("check {length}"),
+        Step::Ticket { length, ticket } => {
+            let (word, key) = (CALLS[place_of(ticket.kind)], ticket.key);
+            let (total, displayed) = (ticket.new.total, ticket.new.displayed);
+            format!("{word} {length} {key} {total} {displayed}")
+        }
+        Step::Cancel { length, key } => format!("cancel {length} {key}"),
+        Step::Lookup { length, key } => format!("lookup {length} {key}"),
+        Step::Descent { length, key, room } => format!("descent {length} {key} {room}"),
+        Step::Span {
+            length,
+            lo,
+            hi,
+            room,
+        } => format!("span {length} {lo} {hi} {room}"),
+        Step::Seek { length, lo, hi, r } => format!("seek {length} {lo} {hi} {r}"),
+    }
 }
 
 fn answer(reply: Option<Reply>, store: &[u8]) -> String {
