@@ -291,21 +291,17 @@ static uint32_t make(const model *m, table *t, unsigned how) {
     return number;
 }
 
-static uint32_t enter(table *t, order o, unsigned how) {
+/* An enter or an amend, by its number in the list of calls. */
+static uint32_t change(table *t, int call, order o, unsigned how) {
     uint8_t *lent = lend(t, how);
-    uint32_t number = balluchaw_enter(lent, t->length, o.key, o.total, o.displayed);
+    uint32_t number = (call == ENTER ? balluchaw_enter : balluchaw_amend)(lent, t->length, o.key, o.total, o.displayed);
     take_back(t, lent, how, number == 0);
-    feature(ENTER * 16 + number % 16);
+    feature((size_t)call * 16 + number % 16);
     return number;
 }
 
-static uint32_t amend(table *t, order o, unsigned how) {
-    uint8_t *lent = lend(t, how);
-    uint32_t number = balluchaw_amend(lent, t->length, o.key, o.total, o.displayed);
-    take_back(t, lent, how, number == 0);
-    feature(AMEND * 16 + number % 16);
-    return number;
-}
+static uint32_t enter(table *t, order o, unsigned how) { return change(t, ENTER, o, how); }
+static uint32_t amend(table *t, order o, unsigned how) { return change(t, AMEND, o, how); }
 
 static uint32_t cancel(table *t, uint32_t key, unsigned how) {
     uint8_t *lent = lend(t, how);
@@ -659,19 +655,11 @@ static void edited(const model *m, table *t, uint32_t key, unsigned how) {
     shape(m, t);
 }
 
-static void step_enter(model *m, table *t, int held, unsigned how) {
+static void step_change(model *m, table *t, int call, int held, unsigned how) {
     order o = some_order(m, held);
-    noes(m, ENTER, o);
-    uint32_t number = enter(t, o, how);
-    must(number == model_enter(m, o), "enter answers as the model");
-    if (number == 0) edited(m, t, o.key, how);
-}
-
-static void step_amend(model *m, table *t, int held, unsigned how) {
-    order o = some_order(m, held);
-    noes(m, AMEND, o);
-    uint32_t number = amend(t, o, how);
-    must(number == model_amend(m, o), "amend answers as the model");
+    noes(m, call, o);
+    uint32_t number = change(t, call, o, how);
+    must(number == (call == ENTER ? model_enter : model_amend)(m, o), "enter and amend answer as the model");
     if (number == 0) edited(m, t, o.key, how);
 }
 
@@ -716,8 +704,8 @@ static void other_bytes(const model *m, const table *t, int blocks, unsigned how
 static void step(model *m, table *t) {
     uint32_t kind = byte(), how = byte(), quarter = kind / 16 % 4 == 0;
     switch (kind % 16) {
-    case 0: case 1: case 2: case 3: step_enter(m, t, quarter, how); return;
-    case 4: case 5: case 6: step_amend(m, t, !quarter, how); return;
+    case 0: case 1: case 2: case 3: step_change(m, t, ENTER, quarter, how); return;
+    case 4: case 5: case 6: step_change(m, t, AMEND, !quarter, how); return;
     case 7: case 8: step_cancel(m, t, how); return;
     case 9: {
         uint32_t key = some_key(m);
