@@ -14,10 +14,9 @@ use Rattle.placement.specs.Chunks.{Chunk}
 use Rattle.placement.specs.Decode.{blocks-in}
 use Rattle.placement.specs.declared.Order.{Order}
 use Rattle.skiplist.specs.Image.{image, orders-in}
-use Rattle.skiplist.specs.Questions.{first-no, between, asks-image, asks-span}
-use Rattle.skiplist.specs.Book.{cancel, lookup, make-refusal, refusal, done}
-use Rattle.table.specs.declared.Reply.{Reply}
-use Rattle.table.specs.Calls.{check-number, total-of, displayed-of, Seek-says}
+use Rattle.skiplist.specs.Questions.{first-no, between, enough, lowest, asks-image, asks-span}
+use Rattle.skiplist.specs.Book.{cancel, lookup, seek, make-refusal, refusal, done}
+use Rattle.table.specs.Calls.{check-number, total-of, displayed-of}
 use Rattle.answers.specs.Asked.{piece, asked, sizes-asked, long-asked}
 use Rattle.answers.specs.Lent.{Lent}
 use Rattle.answers.specs.Output.{Said}
@@ -48,6 +47,9 @@ unfoldable pub show-lines : (table : List ℕ) → (key : ℕ) → List (List �
 show-lines x k = answer-lines (refusal (lookup k) x) (total-of k (orders-in x) ∷ displayed-of k (orders-in x) ∷ []) []
 
 -- "`span` the number found; then `span` prints its orders, one line each": key, total, displayed
+abbrev pub parts : Order → List ℕ
+parts o = o .key ∷ o .total ∷ o .displayed ∷ []
+
 unfoldable pub order-line : Order → List ℕ
 order-line o = row (o .key) (o .total ∷ o .displayed ∷ [])
 
@@ -58,11 +60,9 @@ span-lines x lo hi room =
     (length (between lo hi (orders-in x)) ∷ [])
     (map order-line (between lo hi (orders-in x)))
 
--- "`seek` the order (key, total, displayed)": some reply that a seek may give
-pub record Seek-lines (table : List ℕ) (lo hi least : ℕ) (lines : List (List ℕ)) : Type 0 where
-  pub reply : Reply
-  pub says : Seek-says table lo hi least reply
-  pub is : lines ≡ answer-lines (reply .number) (reply .key ∷ reply .total ∷ reply .displayed ∷ []) []
+-- "`seek` the order (key, total, displayed)"
+unfoldable pub seek-lines : (table : List ℕ) → (lo hi least : ℕ) → List (List ℕ)
+seek-lines x lo hi l = answer-lines (refusal (seek lo hi l) x) (parts (lowest (enough l (between lo hi (orders-in x))))) []
 
 -- "for each block its number and either `-` or level, chunk number, first key, count, and the keys"
 abbrev pub keys-of : List Order → List ℕ
@@ -84,22 +84,30 @@ image-lines x = block-lines 0 (blocks-in (sizes-in x) x)
 unfoldable pub blocks-lines : (table : List ℕ) → List (List ℕ)
 blocks-lines x = answer-lines (check-number x) [] (image-lines x)
 
--- ONE LINE, with the numbers of its pieces: what it leaves of the table, and what it prints
-unfoldable pub Answered : Call → (pieces : List ℕ) → (room : ℕ) → (table table-now : List ℕ) → (lines : List (List ℕ)) → Type 0
-Answered Make p room x z ls = (z ≡ make-leaves p x) × (ls ≡ make-lines p)
-Answered Put p room x z ls =
-    (z ≡ put-leaves (piece p 1) (piece p 2) (piece p 3) x) × (ls ≡ answer-lines (put-refusal (piece p 1) (piece p 2) (piece p 3) x) [] [])
-Answered Cancel p room x z ls = (z ≡ done (cancel (piece p 1)) x) × (ls ≡ answer-lines (refusal (cancel (piece p 1)) x) [] [])
-Answered Show p room x z ls = (z ≡ x) × (ls ≡ show-lines x (piece p 1))
-Answered Span p room x z ls = (z ≡ x) × (ls ≡ span-lines x (piece p 1) (piece p 2) room)
-Answered Seek p room x z ls = (z ≡ x) × Seek-lines x (piece p 1) (piece p 2) (piece p 3) ls
-Answered Blocks p room x z ls = (z ≡ x) × (ls ≡ blocks-lines x)
-Answered Bad p room x z ls = (z ≡ x) × (ls ≡ mark-lines)
+-- ONE LINE, with the numbers of its pieces: what it leaves of the table, and what it prints; `room` is the length of the output that a span is lent
+unfoldable pub leaves : Call → (pieces table : List ℕ) → List ℕ
+leaves Make p x = make-leaves p x
+leaves Put p x = put-leaves (piece p 1) (piece p 2) (piece p 3) x
+leaves Cancel p x = done (cancel (piece p 1)) x
+leaves Show p x = x
+leaves Span p x = x
+leaves Seek p x = x
+leaves Blocks p x = x
+leaves Bad p x = x
 
--- the same of the program's buffers, whose first bytes are the table and the output that waits; `room` is the length of the output that a span is lent
+unfoldable pub prints : Call → (pieces : List ℕ) → (room : ℕ) → (table : List ℕ) → List (List ℕ)
+prints Make p room x = make-lines p
+prints Put p room x = answer-lines (put-refusal (piece p 1) (piece p 2) (piece p 3) x) [] []
+prints Cancel p room x = answer-lines (refusal (cancel (piece p 1)) x) [] []
+prints Show p room x = show-lines x (piece p 1)
+prints Span p room x = span-lines x (piece p 1) (piece p 2) room
+prints Seek p room x = seek-lines x (piece p 1) (piece p 2) (piece p 3)
+prints Blocks p room x = blocks-lines x
+prints Bad p room x = mark-lines
+
+-- the same of the program's buffers, whose first bytes are the table and the output that waits
 pub record Step (c : Call) (p : List ℕ) (room : ℕ) (d : Lengths) (table out : List ℕ) (e : Lengths) (table-now out-now : List ℕ) : Type 0 where
-  pub lines : List (List ℕ)
-  pub answered : Answered c p room (take (d .long) table) (take (e .long) table-now) lines
+  pub left : take (e .long) table-now ≡ leaves c p (take (d .long) table)
   pub behind : drop (e .long) table-now ≡ drop (e .long) table
   pub lent : Lent table-now (e .long)
-  pub said : Said out (d .used) lines out-now (e .used)
+  pub said : Said out (d .used) (prints c p room (take (d .long) table)) out-now (e .used)

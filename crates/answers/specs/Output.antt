@@ -44,9 +44,3 @@ pub record Said (old : List ℕ) (used : ℕ) (lines : List (List ℕ)) (new : L
   pub lent : Lent new r
   pub is : waiting new r ≡ told (waiting old used) lines
   pub whole : handed (waiting old used) lines ++ take r new ≡ take used old ++ text lines
-
--- some lines of a kind are printed
-pub record Prints (Are : (lines : List (List ℕ)) → Type 0) (old : List ℕ) (used : ℕ) (new : List ℕ) (r : ℕ) : Type 0 where
-  pub lines : List (List ℕ)
-  pub are : Are lines
-  pub said : Said old used lines new r

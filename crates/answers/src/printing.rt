@@ -9,9 +9,9 @@ ghost use Rattle.lines.specs.Text.{row, dash};
 ghost use Rattle.sizes.specs.Numbers.{field};
 ghost use Rattle.placement.specs.Decode.{node-in, nodes-from, block-of};
 ghost use Rattle.skiplist.specs.Image.{is-image};
-ghost use Rattle.answers.specs.Answers.{show-lines, order-line, span-lines, Seek-lines, keys-of, block-line, image-lines, blocks-lines, Step};
+ghost use Rattle.answers.specs.Answers.{show-lines, order-line, span-lines, seek-lines, keys-of, block-line, image-lines, blocks-lines, Step};
 ghost use Rattle.answers.specs.Lent.{Lent, Laid};
-ghost use Rattle.answers.specs.Output.{room-at, Said, Prints};
+ghost use Rattle.answers.specs.Output.{room-at, Said};
 use crate::Lengths;
 use crate::calls;
 use libc::STDOUT_FILENO;
@@ -195,7 +195,7 @@ fn answer_show(out: &mut [u8], table: &[u8], d: Lengths, key: u32) -> usize
 
 fn answer_seek(out: &mut [u8], table: &[u8], d: Lengths, lo: u32, hi: u32, reserve: u32) -> usize
     requires { ⌜ Lent (now out) (d .used) × Lent (now table) (d .long) ⌝ }
-    ensures { λ r. ⌜ Prints (Seek-lines (take (d .long) (now (table .entry))) lo hi reserve) (now (out .entry)) (d .used) (now (out .exit)) r ⌝ }
+    ensures { λ r. ⌜ Said (now (out .entry)) (d .used) (seek-lines (take (d .long) (now (table .entry))) lo hi reserve) (now (out .exit)) r ⌝ }
 {
     let r = calls::seek(table, d.long, lo, hi, reserve);
     if r.number != 0 {

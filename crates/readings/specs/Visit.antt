@@ -18,7 +18,6 @@ use Rattle.skiplist.specs.Image.{image, orders-in, orders-good, fits}
 use Rattle.skiplist.specs.Questions.{reserve}
 use Rattle.skiplist.specs.Parts.{each, spread}
 use Rattle.levels.specs.Ways.{upto-in}
-use Rattle.table.specs.declared.Reply.{Reply}
 use Rattle.readings.specs.declared.Visit.{Visit}
 use Rattle.readings.specs.declared.calls.Sought.{Sought}
 use Rattle.readings.specs.declared.calls.Sought.the-variants.{Is, Nothing}
@@ -116,11 +115,7 @@ under s bs l o = spread s (orders-in bs) l o
 unfoldable pub all-under : Sizes → List ℕ → (level : ℕ) → List Order → List Order
 all-under s bs l ns = each (spread s (orders-in bs) l) ns
 
--- THE FIRST ORDER that has a reserve
-unfoldable pub first-enough : (least : ℕ) → List Order → Sought
-first-enough l [] = Nothing
-first-enough l (o ∷ os) = cond (leb l (reserve o)) (Is o) (first-enough l os)
-
--- an order as an answer, with a count
-abbrev pub reply-of : (count : ℕ) → Order → Reply
-reply-of c o = record { number = 0; key = o .key; total = o .total; displayed = o .displayed; count = c }
+-- THE FIRST of some orders, if there is one
+unfoldable pub first-of : List Order → Sought
+first-of [] = Nothing
+first-of (o ∷ os) = Is o

@@ -4,9 +4,9 @@ ghost use mathlib.Core.Bool.{true};
 ghost use mathlib.Core.List.{_++_};
 ghost use Prim.Native.Nat.{_≤_};
 ghost use Rattle.skiplist.specs.Image.{is-image, orders-in};
-ghost use Rattle.skiplist.specs.Questions.{first-no, is-key, between, asks-image, asks-range};
-ghost use Rattle.table.specs.Calls.{says, Look-says, Span-says, Seek-says};
-ghost use Rattle.readings.specs.Visit.{scan, starting, steps, first-enough, reply-of};
+ghost use Rattle.skiplist.specs.Questions.{first-no, is-key, between, enough, asks-image, asks-range};
+ghost use Rattle.table.specs.Calls.{reply, Look-says, Span-says, Seek-says};
+ghost use Rattle.readings.specs.Visit.{scan, starting, steps, first-of};
 use crate::Visit;
 use crate::descent::geometry_of;
 use crate::descent::order_of;
@@ -19,7 +19,7 @@ use table::checking::check;
 
 // A refusal: all other parts are 0, but for the count of a descent that shows its path.
 pub fn refused(number: u32, count: u32) -> Reply
-    ensures { λ r. ⌜ says number 0 0 0 count r ⌝ }
+    ensures { λ r. ⌜ r ≡ reply number 0 0 0 count ⌝ }
 {
     Reply {
         number: number,
@@ -32,7 +32,7 @@ pub fn refused(number: u32, count: u32) -> Reply
 
 // An order as an answer.
 pub fn answered(o: Order, count: u32) -> Reply
-    ensures { λ r. ⌜ r ≡ reply-of count o ⌝ }
+    ensures { λ r. ⌜ r ≡ reply 0 (o .key) (o .total) (o .displayed) count ⌝ }
 {
     Reply {
         number: 0,
@@ -119,10 +119,10 @@ pub enum Sought {
     Nothing,
 }
 
-// The first order in lo..hi that has the reserve.
+// The first order in lo..hi that has the reserve: a visit goes by rising keys, so it has the smallest.
 pub fn first_with(table: &[u8], lo: u32, hi: u32, least: u32) -> Sought
     requires { ⌜ (is-image (now table) ≡ true) × (1 ≤ lo) × (lo ≤ hi) ⌝ }
-    ensures { λ r. ⌜ r ≡ first-enough least (between lo hi (orders-in (now (table .entry)))) ⌝ }
+    ensures { λ r. ⌜ r ≡ first-of (enough least (between lo hi (orders-in (now (table .entry))))) ⌝ }
 {
     let mut none = [0u8; 1];
     let v = visit_all(table, lo, hi, least, false, true, &mut none);
@@ -174,7 +174,7 @@ pub fn span(table: &[u8], lo: u32, hi: u32, output: &mut [u8]) -> Reply
     }
 }
 
-// Seek: 4, 5, 10, 12.
+// Seek: 4, 5, 10, 12. Document 02, A.5: the lowest.
 pub fn seek(table: &[u8], lo: u32, hi: u32, reserve: u32) -> Reply
     ensures { λ r. ⌜ Seek-says (now (table .entry)) lo hi reserve r × (now (table .exit) ≡ now (table .entry)) ⌝ }
 {

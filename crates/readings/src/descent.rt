@@ -9,7 +9,7 @@ ghost use Rattle.placement.specs.Place.{Shaped};
 ghost use Rattle.skiplist.specs.Image.{is-image, orders-in};
 ghost use Rattle.skiplist.specs.Questions.{between};
 ghost use Rattle.table.specs.Calls.{Descent-says};
-ghost use Rattle.readings.specs.Visit.{Known, first-enough};
+ghost use Rattle.readings.specs.Visit.{Known, first-of};
 ghost use Rattle.readings.specs.Descent.{way, landed, Written};
 use crate::calls::Sought;
 use crate::calls::answered;
@@ -52,7 +52,7 @@ pub fn order_at(table: &[u8], at: usize, key: u32) -> Sought
 // The order with a key.
 pub fn order_of(table: &[u8], q: Geometry, key: u32) -> Sought
     requires { ⌜ Known (q .sizes) (now table) × Reckoned q × (1 ≤ key) ⌝ }
-    ensures { λ r. ⌜ r ≡ first-enough 0 (between key key (orders-in (now (table .entry)))) ⌝ }
+    ensures { λ r. ⌜ r ≡ first-of (between key key (orders-in (now (table .entry)))) ⌝ }
 {
     let t = way_down(table, q, 0, key);
     order_at(table, t.at, key)

@@ -1,10 +1,10 @@
 -- All that is promised, proved.
-use Rattle.skiplist.specs.Questions.{First-no-means, Zero-finds-any}
+use Rattle.skiplist.specs.Questions.{First-no-means, Zero-finds-all}
 use Rattle.skiplist.specs.Rules.{Image-exactly, Paper-partitions, Paper-top, Beta-is, Level-is, Hash-is, Lists-are, Chunks-are}
 use Rattle.skiplist.specs.Promise.{Image-reads-back, Labels-rise, Rule-three, One-arrangement, Chunks-by-keys, Amend-has-room, Lists-image, Equal-exactly, Checks-exactly}
 use Rattle.skiplist.specs.Paths.{Path-fits, Path-one-way}
 use Rattle.skiplist.specs.Examples.{One-to-nine, Examples-hold}
-use Rattle.skiplist.proofs.Laws.Questions.{first-no-means, zero-finds-any}
+use Rattle.skiplist.proofs.Laws.Questions.{first-no-means, zero-finds-all}
 use Rattle.skiplist.proofs.Laws.Examples.{examples-hold}
 use Rattle.skiplist.proofs.Laws.Keys.{chunks-by-keys}
 use Rattle.skiplist.proofs.Laws.Kept.{amend-has-room}
@@ -23,7 +23,7 @@ pub record Proved : Type 0 where
   -- DEMAND 1's first clause
   pub first-no : First-no-means
   -- with r = 0 hidden orders are still found
-  pub zero-finds : Zero-finds-any
+  pub zero-finds : Zero-finds-all
   -- DEMAND 2: images
   pub reads : Image-reads-back
   pub rise : Labels-rise
@@ -55,7 +55,7 @@ pub record Proved : Type 0 where
 pub proved : Proved
 proved = record {
   first-no = first-no-means;
-  zero-finds = zero-finds-any;
+  zero-finds = zero-finds-all;
   reads = reads-back;
   rise = labels-do-rise;
   rule-3 = rule-three;

@@ -11,7 +11,7 @@ use Rattle.sizes.specs.Header.{seed-bytes, table-long, header}
 use Rattle.placement.specs.Labels.{label, home}
 use Rattle.sizes.specs.declared.Sizes.{Sizes}
 use Rattle.skiplist.specs.Image.{image, is-image, orders-in, same}
-use Rattle.skiplist.specs.Questions.{Parameters, parameters, sizes}
+use Rattle.skiplist.specs.Questions.{Parameters, parameters, sizes, between, enough, lowest}
 use Rattle.skiplist.specs.Paths.{descent-path}
 use Rattle.skiplist.specs.Book.{Call, enter, amend, cancel, lookup, descent, span, seek, check, make-refusal, refusal, after}
 
@@ -43,6 +43,7 @@ pub data Example : Type 0 where
   alike : (one other : List Call) → Example
   has-home : (level first number is : ℕ) → Example
   goes : (calls : List Call) → (key : ℕ) → (path : List ℕ) → Example
+  finds : (calls : List Call) → (lo hi reserve : ℕ) → (key : ℕ) → Example
 
 -- a block's bytes, against what is shown
 unfoldable pub keys-at : (left : ℕ) → List ℕ → List ℕ → Bool
@@ -71,6 +72,7 @@ true-of (answers cs c l) = eqb (refusal c (after cs empty-table)) l
 true-of (alike cs ds) = same (after cs empty-table) (after ds empty-table)
 true-of (has-home l f n i) = eqb (home run-sizes (label l f n)) i
 true-of (goes cs k path) = same (descent-path run-sizes (orders-in (after cs empty-table)) k) path
+true-of (finds cs lo hi r k) = eqb (lowest (enough r (between lo hi (orders-in (after cs empty-table)))) .key) k
 
 unfoldable pub every : List Example → Bool
 every [] = true
@@ -174,6 +176,10 @@ left-open =
     ∷ answers (enter-6 ∷ enter-3 ∷ []) (enter 3 10 0) 13 ∷ answers (enter-3 ∷ []) (enter 3 7 8) 6 ∷ alike (enter-3 ∷ enter 3 10 0 ∷ []) (enter-3 ∷ [])
     ∷ answers (enter-6 ∷ enter-3 ∷ []) (amend 3 10 0) 0 ∷ answers (enter-3 ∷ []) (amend 6 10 0) 9 ∷ answers (enter-3 ∷ []) (amend 6 7 8) 6 ∷ answers [] (amend 0 1 1) 5
     ∷ alike (enter-3 ∷ amend 3 50 10 ∷ []) (enter 3 50 10 ∷ []) ∷ alike (enter-3 ∷ amend 6 50 50 ∷ []) (enter-3 ∷ [])
+    -- A.5: the smaller key of two; of those that have the reserve; of those in lo..hi
+    ∷ finds (enter-6 ∷ enter-3 ∷ []) 1 9 0 3 ∷ finds (enter 6 50 10 ∷ enter-3 ∷ []) 1 9 40 3
+    ∷ finds (enter 6 50 10 ∷ enter 3 100 0 ∷ []) 1 9 1 6 ∷ finds (enter 6 50 10 ∷ enter 3 100 61 ∷ []) 1 9 40 6
+    ∷ finds (enter-6 ∷ enter-3 ∷ []) 3 6 0 3 ∷ finds (enter-6 ∷ enter-3 ∷ []) 4 9 0 6 ∷ answers (enter-6 ∷ enter-3 ∷ []) (seek 4 5 0) 12
     -- the chunk number counts in a home, and quantities above level 1 are zero
     ∷ has-home 1 0 1 1 ∷ has-home 2 6 3 1
     ∷ leaves-bytes (enter-3 ∷ enter-6 ∷ []) 85 (2 ∷ 2 ∷ replicate 18 0 ++ (0 ∷ 0 ∷ 0 ∷ 6 ∷ replicate 8 0))

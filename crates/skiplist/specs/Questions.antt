@@ -66,18 +66,23 @@ between lo hi (o ∷ os) = cond (leb lo (o .key) && leb (o .key) hi) (o ∷ betw
 unfoldable pub reserve : Order → ℕ
 reserve o = cond (eqb (o .displayed) 0) 0 (o .total - o .displayed)
 
--- is there an order that has at least r?
-unfoldable pub any-reserve : (r : ℕ) → List Order → Bool
-any-reserve r [] = false
-any-reserve r (o ∷ os) = leb r (reserve o) || any-reserve r os
+-- the orders that have at least r
+unfoldable pub enough : (r : ℕ) → List Order → List Order
+enough r [] = []
+enough r (o ∷ os) = cond (leb r (reserve o)) (o ∷ enough r os) (enough r os)
 
--- "With r = 0 hidden orders are still found": then it is asked only whether there is an order
+-- "With r = 0 hidden orders are still found"
+unfoldable pub Zero-finds-all : Type 0
+Zero-finds-all = (os : List Order) → enough 0 os ≡ os
+
+-- is there an order? And the one with the smallest key: keys rise, so it is the first
 unfoldable pub any-order : List Order → Bool
 any-order [] = false
 any-order (o ∷ os) = true
 
-unfoldable pub Zero-finds-any : Type 0
-Zero-finds-any = (os : List Order) → any-reserve 0 os ≡ any-order os
+unfoldable pub lowest : List Order → Order
+lowest [] = order 0 0 0
+lowest (o ∷ os) = o
 
 -- WHAT MAKE IS ASKED: γ, B, N, M, and the seed's bytes
 pub record Parameters : Type 0 where
@@ -131,4 +136,4 @@ unfoldable pub asks-span : (lo hi room : ℕ) → List Order → List Question
 asks-span lo hi k os = asks-range lo hi ++ ask 11 (leb (12 * length (between lo hi os)) k) ∷ []
 
 unfoldable pub asks-seek : (lo hi r : ℕ) → List Order → List Question
-asks-seek lo hi r os = asks-range lo hi ++ ask 12 (any-reserve r (between lo hi os)) ∷ []
+asks-seek lo hi r os = asks-range lo hi ++ ask 12 (any-order (enough r (between lo hi os))) ∷ []

@@ -20,6 +20,8 @@ pub mod Makes
 pub mod Runs
 pub mod Alike
 pub mod Descents
+pub mod Fixed
+pub mod Sought
 pub mod Meeting
 pub mod Reached
 pub mod Demands

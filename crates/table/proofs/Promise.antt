@@ -1,9 +1,10 @@
 -- All that is promised of images, of single calls and of whole lists of calls, proved. That the program keeps the contracts which these statements cite is proved with its functions.
 use Rattle.skiplist.proofs.Promise.{Proved, proved}
-use Rattle.table.specs.Promise.{Demand-3, Demand-3-check, Runs-exist, Runs-fixed, Make-reaches, Make-only, Demand-2-rules, Demand-2-lookup, Demand-2-descent, Descent-looks-up, Demand-2-span, Demand-2-seek, Demand-1-edits}
+use Rattle.table.specs.Promise.{Demand-3, Demand-3-check, Runs-exist, Replies-fixed, Make-fixed, Runs-fixed, Make-reaches, Make-only, Demand-2-rules, Demand-2-lookup, Demand-2-descent, Descent-looks-up, Demand-2-span, Demand-2-seek, Seek-lowest, Demand-1-edits}
 use Rattle.table.proofs.Laws.Makes.{make-only, make-reaches}
-use Rattle.table.proofs.Laws.Runs.{runs-fixed}
+use Rattle.table.proofs.Laws.Fixed.{replies-fixed, make-fixed, runs-fixed}
 use Rattle.table.proofs.Laws.Descents.{descent-looks-up}
+use Rattle.table.proofs.Laws.Sought.{seek-lowest}
 use Rattle.table.proofs.Laws.Meeting.{runs-exist}
 use Rattle.table.proofs.Laws.Reached.{demand-3-check}
 use Rattle.table.proofs.Laws.Demands.{demand-3, demand-2-rules, demand-2-lookup, demand-2-descent, demand-2-span, demand-2-seek, demand-1-edits}
@@ -13,18 +14,21 @@ pub record Kept-promise : Type 0 where
   pub images : Proved
   -- DEMAND 1: after any list, an enter, amend or cancel answers what the plain book answers
   pub edits : Demand-1-edits
-  -- DEMAND 2: after any list, the published rules, and the orders read back by number, by descent, by span, by seek; a descent's quantities are a lookup's
+  -- DEMAND 2: after any list, the published rules, and the orders read back by number, by descent, by span, by seek; a descent's quantities are a lookup's, a seek's key the smallest
   pub rules : Demand-2-rules
   pub lookups : Demand-2-lookup
   pub descents : Demand-2-descent
   pub looks-up : Descent-looks-up
   pub spans : Demand-2-span
   pub seeks : Demand-2-seek
+  pub smallest : Seek-lowest
   -- DEMAND 3: equal bytes exactly where the plain books are equal, and the check accepts exactly such bytes
   pub equal-bytes : Demand-3
   pub checks : Demand-3-check
-  -- the contracts can be met and fix every table; make reaches every allowed sizes and seed, and accepts no others
+  -- the contracts can be met, and fix every answer and every table; make reaches every allowed sizes and seed, and accepts no others
   pub runs : Runs-exist
+  pub replies : Replies-fixed
+  pub makes : Make-fixed
   pub fixed : Runs-fixed
   pub reaches : Make-reaches
   pub only : Make-only
@@ -39,9 +43,12 @@ kept-promise = record {
   looks-up = descent-looks-up;
   spans = demand-2-span;
   seeks = demand-2-seek;
+  smallest = seek-lowest;
   equal-bytes = demand-3;
   checks = demand-3-check;
   runs = runs-exist;
+  replies = replies-fixed;
+  makes = make-fixed;
   fixed = runs-fixed;
   reaches = make-reaches;
   only = make-only;

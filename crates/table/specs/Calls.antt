@@ -9,7 +9,7 @@ use Rattle.sizes.specs.Header.{sizes-in, rule-1}
 use Rattle.placement.specs.Chunks.{nodes-bytes}
 use Rattle.placement.specs.declared.Order.{Order}
 use Rattle.skiplist.specs.Image.{image, is-image, orders-in}
-use Rattle.skiplist.specs.Questions.{Question, ask, first-no, is-key, Parameters, sizes, held, between, reserve, order}
+use Rattle.skiplist.specs.Questions.{Question, ask, first-no, is-key, Parameters, sizes, between, enough, lowest, order}
 use Rattle.skiplist.specs.Paths.{descent-path, path-bytes}
 -- passed on: a contract of make builds what it is asked from its arguments
 pub use Rattle.skiplist.specs.Questions.{parameters}
@@ -17,8 +17,13 @@ use Rattle.skiplist.specs.Book.{Call, enter, amend, cancel, lookup, descent, sp
 use Rattle.table.specs.declared.Reply.{Reply}
 
 -- every part of an answer; on a refusal all other parts are 0
-unfoldable pub says : (number key total displayed count : ℕ) → Reply → Type 0
-says n k t d c r = (r .number ≡ n) × (r .key ≡ k) × (r .total ≡ t) × (r .displayed ≡ d) × (r .count ≡ c)
+abbrev pub reply : (number key total displayed count : ℕ) → Reply
+reply n k t d c = record { number = n; key = k; total = t; displayed = d; count = c }
+
+-- one that gives an order, where no question turns the call down
+unfoldable pub gives : (number count : ℕ) → Order → Reply
+gives zero c o = reply 0 (o .key) (o .total) (o .displayed) c
+gives (suc n) c o = reply (suc n) 0 0 0 c
 
 -- MAKE: 1, 2, 3; then every byte is that of the image of no orders
 unfoldable pub Make-says : Parameters → (r : ℕ) → (table table-now : List ℕ) → Type 0
@@ -51,8 +56,7 @@ displayed-of k [] = 0
 displayed-of k (o ∷ os) = cond (eqb (o .key) k) (o .displayed) (displayed-of k os)
 
 unfoldable pub Look-as : (number count : ℕ) → (key : ℕ) → List Order → Reply → Type 0
-Look-as zero c k os r = says 0 k (total-of k os) (displayed-of k os) c r
-Look-as (suc n) c k os r = says (suc n) 0 0 0 c r
+Look-as n c k os r = r ≡ gives n c (order k (total-of k os) (displayed-of k os))
 
 unfoldable pub Look-says : (table : List ℕ) → (key : ℕ) → Reply → Type 0
 Look-says x k r = Look-as (refusal (lookup k) x) 0 k (orders-in x) r
@@ -78,31 +82,22 @@ pub record Within (r : Reply) (output output-now : List ℕ) : Type 0 where
 
 -- 4 and 5 on any bytes; then all that an image decides. "On bytes that pass 4 and 5 here but are no image it ends and stays within its output"
 pub record Descent-says (table : List ℕ) (key : ℕ) (r : Reply) (output output-now : List ℕ) : Type 0 where
-  pub turned-down : (first-no (asks-first table key) ≡ 0 → ⊥) → says (first-no (asks-first table key)) 0 0 0 0 r × (output-now ≡ output)
+  pub turned-down : (first-no (asks-first table key) ≡ 0 → ⊥) → (r ≡ reply (first-no (asks-first table key)) 0 0 0 0) × (output-now ≡ output)
   pub on-image : is-image table ≡ true →
       Descent-as (refusal (descent key output) table) key (orders-in table) (descent-path (sizes-in table) (orders-in table) key) r output output-now
   pub within : Within r output output-now
 
 -- SPAN: 4, 5, 10, 11; key, total, displayed of each order in lo..hi, rising, at the front of the output, and their number
 unfoldable pub Span-as : (number : ℕ) → List Order → Reply → (output output-now : List ℕ) → Type 0
-Span-as zero os r o z = says 0 0 0 0 (length os) r × (z ≡ nodes-bytes os ++ drop (12 * length os) o)
-Span-as (suc n) os r o z = says (suc n) 0 0 0 0 r × (z ≡ o)
+Span-as zero os r o z = (r ≡ reply 0 0 0 0 (length os)) × (z ≡ nodes-bytes os ++ drop (12 * length os) o)
+Span-as (suc n) os r o z = (r ≡ reply (suc n) 0 0 0 0) × (z ≡ o)
 
 unfoldable pub Span-says : (table : List ℕ) → (lo hi : ℕ) → Reply → (output output-now : List ℕ) → Type 0
 Span-says x lo hi r o z = Span-as (refusal (span lo hi o) x) (between lo hi (orders-in x)) r o z
 
--- SEEK: 4, 5, 10, 12; some order that is held, lies in lo..hi and has the reserve, with its own quantities
-pub record Seek-gives (os : List Order) (lo hi least : ℕ) (r : Reply) : Type 0 where
-  pub number : r .number ≡ 0
-  pub held-there : held (r .key) (between lo hi os) ≡ true
-  pub own-total : r .total ≡ total-of (r .key) os
-  pub own-displayed : r .displayed ≡ displayed-of (r .key) os
-  pub none-counted : r .count ≡ 0
-  pub enough : least ≤ reserve (order (r .key) (r .total) (r .displayed))
-
+-- SEEK: 4, 5, 10, 12. Document 02, A.5: "the order with the smallest key in lo..hi that has the reserve"
 unfoldable pub Seek-as : (number : ℕ) → List Order → (lo hi least : ℕ) → Reply → Type 0
-Seek-as zero os lo hi l r = Seek-gives os lo hi l r
-Seek-as (suc n) os lo hi l r = says (suc n) 0 0 0 0 r
+Seek-as n os lo hi l r = r ≡ gives n 0 (lowest (enough l (between lo hi os)))
 
 unfoldable pub Seek-says : (table : List ℕ) → (lo hi least : ℕ) → Reply → Type 0
 Seek-says x lo hi l r = Seek-as (refusal (seek lo hi l) x) (orders-in x) lo hi l r

@@ -1,22 +1,23 @@
 -- The three demands over whole lists of calls, by the very predicates that the calls' contracts cite. Document 00, and document 01, "The plain book".
 -- Each statement is a type; its proof stands in proofs/.
 use mathlib.Core.Path.{_≡_}
-use mathlib.Core.Bool.{Bool, true, _&&_}
+use mathlib.Core.Bool.{Bool, true, not, _&&_, _||_}
 use mathlib.Core.List.{List, [], _∷_}
-use Prim.Native.Nat.{ℕ}
-use lib.Dec.{ltb}
+use Prim.Native.Nat.{ℕ, _≤_}
+use lib.Dec.{ltb, eqb}
 use lib.ListN.{length}
 use Rattle.sizes.specs.Sizes.{made}
 use Rattle.sizes.specs.Header.{table-long}
 use Rattle.sizes.specs.declared.Sizes.{Sizes}
+use Rattle.placement.specs.Blocks.{Among}
 use Rattle.placement.specs.declared.Order.{Order}
-use Rattle.skiplist.specs.Image.{image, is-image}
-use Rattle.skiplist.specs.Questions.{Parameters, sizes, held, between}
+use Rattle.skiplist.specs.Image.{image, is-image, orders-in}
+use Rattle.skiplist.specs.Questions.{first-no, Parameters, sizes, held, between, reserve, order}
 use Rattle.skiplist.specs.Paths.{descent-path}
 use Rattle.skiplist.specs.Book.{Call, enter, amend, cancel, lookup, descent, span, seek, check, make-refusal, book-refusal, book}
 use Rattle.skiplist.specs.Rules.{Rules}
 use Rattle.skiplist.specs.Promise.{byte-list}
-use Rattle.table.specs.Calls.{Make-says, check-number, Enter-says, Amend-says, Cancel-says, total-of, displayed-of, Look-says, Look-as, Descent-says, Descent-as, Span-says, Span-as, Seek-says, Seek-as}
+use Rattle.table.specs.Calls.{Make-says, check-number, Enter-says, Amend-says, Cancel-says, total-of, displayed-of, Look-says, Look-as, asks-first, Descent-says, Descent-as, Span-says, Span-as, Seek-says, Seek-as}
 use Rattle.table.specs.declared.Reply.{Reply}
 
 -- WHAT A CALL DOES TO A TABLE, by its contract alone. A reading leaves the table
@@ -95,9 +96,52 @@ Demand-3-check =
 unfoldable pub Runs-exist : Type 0
 Runs-exist = (cs : List Call) (x : List ℕ) → (z : List ℕ) × Runs cs x z
 
--- and they fix what a run leaves, though a seek is free in what it gives, and a descent on bytes that are no image
+-- WHAT COMES BACK of a call besides the table: a number alone, a reply, or a reply and the output that was lent
+pub data Answer : Type 0 where
+  alone : (number : ℕ) → Answer
+  whole : Reply → Answer
+  lent : Reply → (output-now : List ℕ) → Answer
+
+unfoldable pub answer : (c : Call) (table table-now : List ℕ) → Does c table table-now → Answer
+unfolding Does
+answer (enter k t d) x z w = alone (w .0)
+answer (amend k t d) x z w = alone (w .0)
+answer (cancel k) x z w = alone (w .0)
+answer (lookup k) x z w = whole (w .0)
+answer (descent k o) x z w = lent (w .0) (w .1)
+answer (span lo hi o) x z w = lent (w .0) (w .1)
+answer (seek lo hi l) x z w = whole (w .0)
+answer check x z w = alone (w .0)
+
+unfoldable pub answers : (cs : List Call) (table table-now : List ℕ) → Runs cs table table-now → List Answer
+unfolding Runs
+answers [] x z w = []
+answers (c ∷ cs) x z w = answer c x (w .0) (w .1) ∷ answers cs (w .0) z (w .2)
+
+-- Document 01, "Contracts": "what none decides is named there". That is what a descent gives on bytes that pass its 4 and 5 and are no image, and nothing else
+unfoldable pub decided : Call → (table : List ℕ) → Bool
+decided (enter k t d) x = true
+decided (amend k t d) x = true
+decided (cancel k) x = true
+decided (lookup k) x = true
+decided (descent k o) x = is-image x || not (eqb (first-no (asks-first x k)) 0)
+decided (span lo hi o) x = true
+decided (seek lo hi l) x = true
+decided check x = true
+
+-- EQUAL TABLES AND ARGUMENTS GIVE EQUAL ANSWERS: number, reply and output
+unfoldable pub Replies-fixed : Type 0
+Replies-fixed =
+    (c : Call) (x v w : List ℕ) (one : Does c x v) (other : Does c x w) → decided c x ≡ true → answer c x v one ≡ answer c x w other
+
+unfoldable pub Make-fixed : Type 0
+Make-fixed = (q : Parameters) (old v w : List ℕ) (n m : ℕ) → Make-says q n old v → Make-says q m old w → (n ≡ m) × (v ≡ w)
+
+-- so the contracts fix what a run leaves, and from an image on every answer in it
 unfoldable pub Runs-fixed : Type 0
-Runs-fixed = (cs : List Call) (x v w : List ℕ) → Runs cs x v → Runs cs x w → v ≡ w
+Runs-fixed =
+    (cs : List Call) (x v w : List ℕ) (one : Runs cs x v) (other : Runs cs x w) →
+    (v ≡ w) × (is-image x ≡ true → answers cs x v one ≡ answers cs x w other)
 
 -- MAKE reaches every allowed sizes and seed, with numbers that a program can hand over, and accepts no others
 unfoldable pub Make-reaches : Type 0
@@ -134,6 +178,17 @@ Descent-looks-up =
 unfoldable pub Demand-2-span : Type 0
 Demand-2-span =
     After-any (λ s os z. (lo hi : ℕ) (r : Reply) (o now : List ℕ) → Span-says z lo hi r o now → Span-as (book-refusal s (span lo hi o) os) (between lo hi os) r o now)
+
+-- "the order with the smallest key in lo..hi that has the reserve", said of every order that the table holds
+pub record Lowest (os : List Order) (lo hi least : ℕ) (o : Order) : Type 0 where
+  pub held : Among o os
+  pub inside : (lo ≤ o .key) × (o .key ≤ hi)
+  pub has : least ≤ reserve o
+  pub smallest : (q : Order) → Among q os → lo ≤ q .key → q .key ≤ hi → least ≤ reserve q → o .key ≤ q .key
+
+unfoldable pub Seek-lowest : Type 0
+Seek-lowest =
+    (x : List ℕ) (lo hi l : ℕ) (r : Reply) → Seek-says x lo hi l r → r .number ≡ 0 → Lowest (orders-in x) lo hi l (order (r .key) (r .total) (r .displayed))
 
 unfoldable pub Demand-2-seek : Type 0
 Demand-2-seek = After-any (λ s os z. (lo hi l : ℕ) (r : Reply) → Seek-says z lo hi l r → Seek-as (book-refusal s (seek lo hi l) os) os lo hi l r)

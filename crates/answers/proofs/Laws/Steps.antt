@@ -1,5 +1,5 @@
 -- The step of one line, put together from what its call did and what was printed.
-use mathlib.Core.Path.{_≡_, refl, ap, sym, _∙_}
+use mathlib.Core.Path.{_≡_, refl, ap, sym, _∙_, subst}
 use mathlib.Core.Logic.{_≢_}
 use denote.Enum.Declared.{tagOf}
 use types.Run.{OneOf, miss}
@@ -17,10 +17,10 @@ use Rattle.lines.specs.declared.Call.{Call}
 use Rattle.lines.specs.declared.Call.the-variants.{Bad, Make, Put, Cancel, Show, Span, Seek, Blocks}
 use Rattle.skiplist.specs.Image.{image}
 use Rattle.table.specs.Calls.{Make-says, Edit-says, Cancel-says}
-use Rattle.answers.specs.Answers.{answer-lines, mark-lines, make-number, make-lines, make-leaves, show-lines, span-lines, Seek-lines, blocks-lines, Answered, Step}
+use Rattle.answers.specs.Answers.{answer-lines, mark-lines, make-number, make-lines, make-leaves, show-lines, span-lines, seek-lines, blocks-lines, leaves, prints, Step}
 use Rattle.answers.specs.Asked.{piece, sizes-asked, long-asked, Make-asked}
 use Rattle.answers.specs.Lent.{Lent, Front}
-use Rattle.answers.specs.Output.{Said, Prints}
+use Rattle.answers.specs.Output.{Said}
 use Rattle.answers.specs.Put.{Put-does}
 use Rattle.answers.specs.declared.Lengths.{Lengths}
 
@@ -36,10 +36,10 @@ alone (suc n) = refl
 -- MAKE
 module _ (p table out out′ : List ℕ) (room : ℕ) (d : Lengths) (u long : ℕ) (l : Lent table (d .long)) (e : long ≡ long-asked p) where
   pub make-marked : 65536 < long → Said out (d .used) mark-lines out′ u → Step Make p room d table out (lengths (d .long) u) table out′
-  unfolding Answered make-leaves make-lines
+  unfolding leaves prints make-leaves make-lines
   make-marked h s =
       let t : ltb 65536 (long-asked p) ≡ true = ap (ltb 65536) (sym e) ∙ lt-ltb 65536 long h in
-      record { lines = mark-lines; answered = (sym (rw t), sym (rw t)); behind = refl; lent = l; said = s }
+      record { left = sym (rw t); behind = refl; lent = l; said = rw t s }
 
   module _ (n : ℕ) (new : List ℕ) (h : long ≤ 65536) (f : Front long table new (Make-asked p n)) (s : Said out (d .used) (row n [] ∷ []) out′ u) where
     asked-long : length (take long table) ≡ long-asked p
@@ -56,86 +56,84 @@ module _ (p table out out′ : List ℕ) (room : ℕ) (d : Lengths) (u long : �
     short : ltb 65536 (long-asked p) ≡ false
     short = ap (ltb 65536) (sym e) ∙ le-ltb 65536 long h
 
-    lines-are : row n [] ∷ [] ≡ make-lines p
+    said-so : Said out (d .used) (make-lines p) out′ u
     unfolding make-lines
-    lines-are = alone n ∙ sym (rw (short, number-is))
+    said-so = subst (λ (ls : List (List ℕ)). Said out (d .used) ls out′ u) (alone n ∙ sym (rw (short, number-is))) s
 
     -- what it leaves, where it is refused and where not
-    leaves : (x : List ℕ) → cond (eqb n 0) (image (sizes-asked p) []) x ≡ make-leaves p x
+    left-so : (x : List ℕ) → cond (eqb n 0) (image (sizes-asked p) []) x ≡ make-leaves p x
     unfolding make-leaves
-    leaves x = sym (rw (short, number-is))
+    left-so x = sym (rw (short, number-is))
 
     pub make-refused : n ≢ 0 → Step Make p room d table out (lengths (d .long) u) new out′
-    unfolding Answered
+    unfolding leaves prints
     make-refused z =
         let b = ne-eqb n 0 z in
         let front : take long new ≡ take long table = rw b at table-is in
         let same : new ≡ table = sym (take-append-drop long new) ∙ rw (front, f .behind) (take-append-drop long table) in
-        record {
-          lines = row n [] ∷ [];
-          answered = (ap (take (d .long)) same ∙ (rw b at (leaves (take (d .long) table))), lines-are);
-          behind = ap (drop (d .long)) same;
-          lent = rw same l;
-          said = s;
-        }
+        record { left = ap (take (d .long)) same ∙ (rw b at (left-so (take (d .long) table))); behind = ap (drop (d .long)) same; lent = rw same l; said = said-so }
 
     pub make-done : n ≡ 0 → Step Make p room d table out (lengths long u) new out′
-    unfolding Answered
+    unfolding leaves prints
     make-done z =
         let b = eq-eqb n 0 z in
         record {
-          lines = row n [] ∷ [];
-          answered = ((rw b at table-is) ∙ (rw b at (leaves (take (d .long) table))), lines-are);
+          left = (rw b at table-is) ∙ (rw b at (left-so (take (d .long) table)));
           behind = f .behind;
           lent = record { whole = f .whole ∙ l .whole; within = h };
-          said = s;
+          said = said-so;
         }
 
 -- A LINE OF ANY CALL BUT MAKE
 module _ (c : Call) (p table out out′ : List ℕ) (room : ℕ) (d : Lengths) (u : ℕ) (l : Lent table (d .long)) where
-  step-kept : (lines : List (List ℕ)) → Answered c p room (take (d .long) table) (take (d .long) table) lines → Said out (d .used) lines out′ u
-      → Step c p room d table out (lengths (d .long) u) table out′
-  step-kept lines a s = record { lines = lines; answered = a; behind = refl; lent = l; said = s }
+  abbrev x : List ℕ
+  x = take (d .long) table
 
-  step-changed : (new : List ℕ) (lines : List (List ℕ)) → length new ≡ length table → drop (d .long) new ≡ drop (d .long) table
-      → Answered c p room (take (d .long) table) (take (d .long) new) lines → Said out (d .used) lines out′ u → Step c p room d table out (lengths (d .long) u) new out′
-  step-changed new lines w b a s = record { lines = lines; answered = a; behind = b; lent = record { whole = w ∙ l .whole; within = l .within }; said = s }
+  said-as : (lines : List (List ℕ)) → lines ≡ prints c p room x → Said out (d .used) lines out′ u → Said out (d .used) (prints c p room x) out′ u
+  said-as lines e s = subst (λ (ls : List (List ℕ)). Said out (d .used) ls out′ u) e s
+
+  step-kept : (lines : List (List ℕ)) → x ≡ leaves c p x → lines ≡ prints c p room x → Said out (d .used) lines out′ u → Step c p room d table out (lengths (d .long) u) table out′
+  step-kept lines a e s = record { left = a; behind = refl; lent = l; said = said-as lines e s }
+
+  -- an edit: its number is all that it prints
+  step-changed : (new : List ℕ) (n : ℕ) → length new ≡ length table → drop (d .long) new ≡ drop (d .long) table → take (d .long) new ≡ leaves c p x →
+      answer-lines n [] [] ≡ prints c p room x → Said out (d .used) (row n [] ∷ []) out′ u → Step c p room d table out (lengths (d .long) u) new out′
+  step-changed new n w b a e s = record { left = a; behind = b; lent = record { whole = w ∙ l .whole; within = l .within }; said = said-as _ (alone n ∙ e) s }
 
   pub step-put : (new : List ℕ) (n : ℕ) → c ≡ Put → Front (d .long) table new (Put-does (piece p 1) (piece p 2) (piece p 3) n) → Said out (d .used) (row n [] ∷ []) out′ u
       → Step c p room d table out (lengths (d .long) u) new out′
-  unfolding Answered Put-does
-  step-put new n e f s = step-changed new (row n [] ∷ []) (f .whole) (f .behind) (rw e (f .says .1, alone n ∙ rw (f .says .0))) s
+  unfolding leaves prints Put-does
+  step-put new n e f s = step-changed new n (f .whole) (f .behind) (rw e (f .says .1)) (rw (e, f .says .0)) s
 
   pub step-cancel : (new : List ℕ) (n : ℕ) → c ≡ Cancel → Front (d .long) table new (Cancel-says (piece p 1) n) → Said out (d .used) (row n [] ∷ []) out′ u
       → Step c p room d table out (lengths (d .long) u) new out′
-  unfolding Answered Cancel-says Edit-says
-  step-cancel new n e f s = step-changed new (row n [] ∷ []) (f .whole) (f .behind) (rw e (f .says .1, alone n ∙ rw (f .says .0))) s
+  unfolding leaves prints Cancel-says Edit-says
+  step-cancel new n e f s = step-changed new n (f .whole) (f .behind) (rw e (f .says .1)) (rw (e, f .says .0)) s
 
-  pub step-show : c ≡ Show → Said out (d .used) (show-lines (take (d .long) table) (piece p 1)) out′ u → Step c p room d table out (lengths (d .long) u) table out′
-  unfolding Answered
-  step-show e s = step-kept _ (rw e (refl, refl)) s
+  pub step-show : c ≡ Show → Said out (d .used) (show-lines x (piece p 1)) out′ u → Step c p room d table out (lengths (d .long) u) table out′
+  unfolding leaves prints
+  step-show e s = step-kept _ (rw e) (rw e) s
 
-  pub step-span : c ≡ Span → Said out (d .used) (span-lines (take (d .long) table) (piece p 1) (piece p 2) room) out′ u → Step c p room d table out (lengths (d .long) u) table out′
-  unfolding Answered
-  step-span e s = step-kept _ (rw e (refl, refl)) s
+  pub step-span : c ≡ Span → Said out (d .used) (span-lines x (piece p 1) (piece p 2) room) out′ u → Step c p room d table out (lengths (d .long) u) table out′
+  unfolding leaves prints
+  step-span e s = step-kept _ (rw e) (rw e) s
 
-  pub step-seek : c ≡ Seek → Prints (Seek-lines (take (d .long) table) (piece p 1) (piece p 2) (piece p 3)) out (d .used) out′ u
-      → Step c p room d table out (lengths (d .long) u) table out′
-  unfolding Answered
-  step-seek e s = step-kept (s .lines) (rw e (refl, s .are)) (s .said)
+  pub step-seek : c ≡ Seek → Said out (d .used) (seek-lines x (piece p 1) (piece p 2) (piece p 3)) out′ u → Step c p room d table out (lengths (d .long) u) table out′
+  unfolding leaves prints
+  step-seek e s = step-kept _ (rw e) (rw e) s
 
-  pub step-blocks : c ≡ Blocks → Said out (d .used) (blocks-lines (take (d .long) table)) out′ u → Step c p room d table out (lengths (d .long) u) table out′
-  unfolding Answered
-  step-blocks e s = step-kept _ (rw e (refl, refl)) s
+  pub step-blocks : c ≡ Blocks → Said out (d .used) (blocks-lines x) out′ u → Step c p room d table out (lengths (d .long) u) table out′
+  unfolding leaves prints
+  step-blocks e s = step-kept _ (rw e) (rw e) s
 
   pub step-bad : c ≡ Bad → Said out (d .used) mark-lines out′ u → Step c p room d table out (lengths (d .long) u) table out′
-  unfolding Answered
-  step-bad e s = step-kept mark-lines (rw e (refl, refl)) s
+  unfolding leaves prints
+  step-bad e s = step-kept _ (rw e) (rw e) s
 
 -- WHAT A MAKE LEAVES does not depend on the room for a span
 pub step-make : (c : Call) (p table out new out′ : List ℕ) (room : ℕ) (d e : Lengths) → c ≡ Make → Step Make p 0 d table out e new out′ → Step c p room d table out e new out′
-unfolding Answered
-step-make c p table out new out′ room d e h s = record { lines = s .lines; answered = rw h (s .answered); behind = s .behind; lent = s .lent; said = s .said }
+unfolding leaves prints
+step-make c p table out new out′ room d e h s = record { left = rw h (s .left); behind = s .behind; lent = s .lent; said = rw h (s .said) }
 
 -- WHICH CALLS ARE LEFT: variants are told apart by their numbers
 pub bad-left : (c : Call) → OneOf (0 ∷ 1 ∷ []) (tagOf the-type c) → (c ≡ Make → ⊥) → c ≡ Bad

@@ -21,7 +21,7 @@ use Rattle.table.specs.Calls.{Amend-says}
 use Rattle.levels.specs.declared.Trail.{Trail}
 use Rattle.levels.specs.Edit.{replaced}
 use Rattle.levels.specs.Ways.{way-down}
-use Rattle.readings.specs.Visit.{Known, first-enough}
+use Rattle.readings.specs.Visit.{Known, first-of}
 use Rattle.readings.specs.Descent.{landed}
 use Rattle.readings.specs.declared.calls.Sought.{Sought}
 use Rattle.readings.specs.declared.calls.Sought.the-variants.{Is, Nothing}
@@ -48,7 +48,7 @@ module _ (bs : List ℕ) (k t d : ℕ) (p : Sure bs k t d) (q : Geometry) (eq : 
   w : Known s bs
   w = known-at bs s (p .image) eq
 
-  sought : r ≡ first-enough 0 (between k k os)
+  sought : r ≡ first-of (between k k os)
   sought = order-alone s bs w k (key-least k (is-key k) refl (p .key)) q refl rk x ex r er
 
   pub amend-no-9 : r ≡ Nothing → Amend-says k t d 9 bs bs

@@ -7,18 +7,18 @@ use native.Mathlib.Omega.{arith}
 use Rattle.placement.specs.declared.Order.{Order}
 use Rattle.skiplist.specs.Questions.{is-key, held, between}
 use Rattle.table.specs.Calls.{Cancel-says}
-use Rattle.readings.specs.Visit.{first-enough}
+use Rattle.readings.specs.Visit.{first-of}
 use Rattle.readings.specs.declared.calls.Sought.{Sought}
 use Rattle.readings.specs.declared.calls.Sought.the-variants.{Is, Nothing}
-use Rattle.readings.proofs.Laws.Replies.{first-is, first-empty, spot-inside, spot-held, none-held}
+use Rattle.readings.proofs.Laws.Replies.{first-spot, first-empty, spot-inside, spot-held, none-held}
 
-module _ (k : ℕ) (os : List Order) (q : Sought) (e : q ≡ first-enough 0 (between k k os)) where
+module _ (k : ℕ) (os : List Order) (q : Sought) (e : q ≡ first-of (between k k os)) where
   module _ (o : Order) (z : q ≡ Is o) where
     pub seen-key : o .key ≡ k
-    seen-key = let w = spot-inside k k o os (first-is 0 (between k k os) o (sym z ∙ e) .spot) in omega (arith, w .low, w .high)
+    seen-key = let w = spot-inside k k o os (first-spot (between k k os) o (sym z ∙ e)) in omega (arith, w .low, w .high)
 
     pub seen-held : held (o .key) os ≡ true
-    seen-held = spot-held o os (spot-inside k k o os (first-is 0 (between k k os) o (sym z ∙ e) .spot) .spot)
+    seen-held = spot-held o os (spot-inside k k o os (first-spot (between k k os) o (sym z ∙ e)) .spot)
 
     pub seen-own : held k os ≡ true
     seen-own = subst (λ (i : ℕ). held i os ≡ true) seen-key seen-held

@@ -18,13 +18,13 @@ use Rattle.placement.proofs.Laws.Bridge.{nodes-long}
 use Rattle.placement.proofs.Laws.Tables.{shaped}
 use Rattle.skiplist.specs.Lists.{front}
 use Rattle.skiplist.specs.Image.{is-image, orders-in}
-use Rattle.skiplist.specs.Questions.{between}
+use Rattle.skiplist.specs.Questions.{between, enough}
 use Rattle.skiplist.proofs.Laws.Walk.{walk-all}
 use Rattle.skiplist.proofs.Laws.Kept.{fits-parts}
 use Rattle.skiplist.proofs.Laws.Third.{image-parts}
 use Rattle.readings.specs.declared.Visit.{Visit}
 use Rattle.readings.specs.declared.calls.Sought.the-variants.{Is, Nothing}
-use Rattle.readings.specs.Visit.{Scan, scan, starting, steps, Known, under, first-enough}
+use Rattle.readings.specs.Visit.{Scan, scan, starting, steps, Known, under, first-of}
 use Rattle.readings.proofs.Laws.Visits.{step-below}
 use Rattle.readings.proofs.Laws.Chunked.{kept-by, orders-up}
 use Rattle.readings.proofs.Laws.Wholes.{rowed}
@@ -103,13 +103,13 @@ module _ (bs : List ℕ) (image : is-image bs ≡ true) (lo hi : ℕ) where
 
   -- seeking
   module _ (least : ℕ) (w : Visit) (x z : List ℕ) (e : scan w z ≡ steps (orders-in bs) (scan (starting lo hi least false true) x)) where
-    answer : answer-of w ≡ first-enough least (between lo hi (orders-in bs))
+    answer : answer-of w ≡ first-of (enough least (between lo hi (orders-in bs)))
     answer =
         ap (λ (y : Scan). answer-of (y .visit)) e
         ∙ sought (starting lo hi least false true) x refl refl refl (orders-in bs) 1 (orders-up (sizes-in bs) bs (known-image bs image))
 
-    pub sought-none : w .found ≡ 0 → Nothing ≡ first-enough least (between lo hi (orders-in bs))
+    pub sought-none : w .found ≡ 0 → Nothing ≡ first-of (enough least (between lo hi (orders-in bs)))
     sought-none f = rw (eq-eqb (w .found) 0 f) at answer
 
-    pub sought-some : (w .found ≡ 0 → ⊥) → Is (record { key = w .key; total = w .total; displayed = w .displayed }) ≡ first-enough least (between lo hi (orders-in bs))
+    pub sought-some : (w .found ≡ 0 → ⊥) → Is (record { key = w .key; total = w .total; displayed = w .displayed }) ≡ first-of (enough least (between lo hi (orders-in bs)))
     sought-some f = rw (ne-eqb (w .found) 0 f) at answer

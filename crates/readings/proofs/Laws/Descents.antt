@@ -34,7 +34,7 @@ use Rattle.levels.specs.Ways.{Trek, trek, starting, down-in, way-down}
 use Rattle.levels.proofs.Laws.Numbers.{numbers-in, numbers-long, numbers-room, Goes, goes-down}
 use Rattle.levels.proofs.Laws.Leading.{last-of, last-append, Ends}
 use Rattle.levels.proofs.Laws.Arriving.{arrives, last-listed}
-use Rattle.readings.specs.Visit.{Known, first-enough}
+use Rattle.readings.specs.Visit.{Known, first-of}
 use Rattle.readings.specs.Descent.{way, landed, Written}
 use Rattle.readings.specs.declared.calls.Sought.{Sought}
 use Rattle.readings.specs.declared.calls.Sought.the-variants.{Is, Nothing}
@@ -48,12 +48,12 @@ between-behind lo hi (x ∷ xs) zs e =
     let w = and-parts (ltb (x .key) lo) (below lo xs) e in
     rw (lt-leb lo (x .key) (ltb-true (x .key) lo (w .0))) (between-behind lo hi xs zs (w .1))
 
-found-there : (xs : List Order) (y : Order) (zs : List Order) → below (y .key) xs ≡ true → first-enough 0 (between (y .key) (y .key) (xs ++ y ∷ zs)) ≡ Is y
-unfolding between first-enough
-found-there xs y zs e = rw (between-behind (y .key) (y .key) xs (y ∷ zs) e, le-leb (y .key) (y .key) (omega arith), le-leb 0 (reserve y) (omega arith))
+found-there : (xs : List Order) (y : Order) (zs : List Order) → below (y .key) xs ≡ true → first-of (between (y .key) (y .key) (xs ++ y ∷ zs)) ≡ Is y
+unfolding between first-of
+found-there xs y zs e = rw (between-behind (y .key) (y .key) xs (y ∷ zs) e, le-leb (y .key) (y .key) (omega arith))
 
-found-absent : (k : ℕ) (xs zs : List Order) → below k xs ≡ true → Up (suc k) zs → first-enough 0 (between k k (xs ++ zs)) ≡ Nothing
-unfolding first-enough
+found-absent : (k : ℕ) (xs zs : List Order) → below k xs ≡ true → Up (suc k) zs → first-of (between k k (xs ++ zs)) ≡ Nothing
+unfolding first-of
 found-absent k xs zs e u = rw (between-behind k k xs zs e, between-above k k (suc k) zs (omega arith) u)
 
 -- the last of some orders below a key, or the front, has not the key
@@ -161,10 +161,10 @@ module _ (s : Sizes) (bs : List ℕ) (w : Known s bs) (k : ℕ) (pos : 1 ≤ k) 
         }
 
     -- THE ORDER OF THE KEY is what stands there, if it has the key
-    pub ends-right : (o : List ℕ) → (z : Order) × Reached o z × (cond (eqb (z .key) k) (Is z) Nothing ≡ first-enough 0 (between k k (orders-in bs)))
+    pub ends-right : (o : List ℕ) → (z : Order) × Reached o z × (cond (eqb (z .key) k) (Is z) Nothing ≡ first-of (between k k (orders-in bs)))
     ends-right o = go (place k 1 (orders-in bs) (orders-up s bs w))
       where
-        go : Place k (orders-in bs) → (z : Order) × Reached o z × (cond (eqb (z .key) k) (Is z) Nothing ≡ first-enough 0 (between k k (orders-in bs)))
+        go : Place k (orders-in bs) → (z : Order) × Reached o z × (cond (eqb (z .key) k) (Is z) Nothing ≡ first-of (between k k (orders-in bs)))
         go (there xs y zs e h) =
             let u : Up 1 (xs ++ y ∷ zs) = rw e at (orders-up s bs w) in
             let b = below-here xs y zs 1 u in
@@ -181,12 +181,12 @@ module _ (s : Sizes) (bs : List ℕ) (w : Known s bs) (k : ℕ) (pos : 1 ≤ k) 
           rw (ne-eqb (last-of front xs .key) k (λ h. omega (arith, last-low k xs (omega arith) b)), e) (sym (found-absent k xs zs b u)),
         )
 
-    pub order-right : (o : List ℕ) (t : Trail) (z : List ℕ) → trek t z ≡ way q bs k o → (r : Sought) → r ≡ landed bs (t .at) k → r ≡ first-enough 0 (between k k (orders-in bs))
+    pub order-right : (o : List ℕ) (t : Trail) (z : List ℕ) → trek t z ≡ way q bs k o → (r : Sought) → r ≡ landed bs (t .at) k → r ≡ first-of (between k k (orders-in bs))
     order-right o t z e r er =
         let v = ends-right o in
         er ∙ ap (λ (x : Trek). landed bs (x .trail .at) k) (e ∙ v .1 .is) ∙ landed-is bs k (v .1 .trail) (v .0) (v .1 .ends) ∙ v .2
 
     -- .. by the way alone
-    pub order-alone : (t : Trail) → t ≡ way-down (q .sizes) bs (q .top) 0 k → (r : Sought) → r ≡ landed bs (t .at) k → r ≡ first-enough 0 (between k k (orders-in bs))
+    pub order-alone : (t : Trail) → t ≡ way-down (q .sizes) bs (q .top) 0 k → (r : Sought) → r ≡ landed bs (t .at) k → r ≡ first-of (between k k (orders-in bs))
     unfolding way-down
     order-alone t e r er = order-right (0 ∷ []) t (way q bs k (0 ∷ []) .path) (ap (λ (x : Trail). trek x (way q bs k (0 ∷ []) .path)) e) r er

@@ -12,7 +12,7 @@ use Rattle.sizes.specs.Header.{sizes-in}
 use Rattle.sizes.proofs.Laws.Sizes.{and-parts}
 use Rattle.placement.specs.declared.Order.{Order}
 use Rattle.skiplist.specs.Image.{is-image, orders-in}
-use Rattle.skiplist.specs.Questions.{ask, first-no, is-key, held, between, reserve, any-reserve, asks-image, asks-key, asks-range, asks-span, asks-seek}
+use Rattle.skiplist.specs.Questions.{ask, first-no, is-key, held, between, enough, any-order, lowest, asks-image, asks-key, asks-range, asks-span, asks-seek}
 use Rattle.skiplist.specs.Book.{check, asks, refusal}
 use Rattle.skiplist.proofs.Laws.Parts.{Up, up-past}
 use Rattle.skiplist.proofs.Laws.Shapes.{held-there}
@@ -23,10 +23,10 @@ use Rattle.readings.specs.declared.Visit.{Visit}
 use Rattle.table.specs.declared.Reply.{Reply}
 use Rattle.readings.specs.declared.calls.Sought.{Sought}
 use Rattle.readings.specs.declared.calls.Sought.the-variants.{Is, Nothing}
-use Rattle.table.specs.Calls.{says, check-number, Look-as, Look-says, Span-as, Span-says, Seek-as, Seek-says}
+use Rattle.table.specs.Calls.{reply, gives, check-number, Look-as, Look-says, Span-as, Span-says, Seek-as, Seek-says}
 use Rattle.table.proofs.Laws.Alike.{Tells, here, there}
-use Rattle.readings.specs.Visit.{scan, starting, steps, first-enough, reply-of}
-use Rattle.readings.proofs.Laws.Rows.{spot-here, spot-more, passed-spot}
+use Rattle.readings.specs.Visit.{scan, starting, steps, first-of}
+use Rattle.readings.proofs.Laws.Rows.{spot-here, passed-spot}
 use Rattle.readings.proofs.Laws.Chunked.{orders-up}
 use Rattle.readings.proofs.Laws.Answers.{known-image, counted-all, written-all}
 
@@ -47,40 +47,21 @@ pub key-least : (k : ℕ) (b : Bool) → b ≡ is-key k → b ≡ true → 1 ≤
 unfolding is-key
 key-least k b e t = leb-true 1 k (and-parts (leb 1 k) (ltb k prime) (sym e ∙ t) .0)
 
--- THE FIRST ORDER WITH A RESERVE
-pub record First (l : ℕ) (ys : List Order) (o : Order) : Type 0 where
-  pub spot : Spot o ys
-  pub enough : l ≤ reserve o
-  pub any : any-reserve l ys ≡ true
+-- THE FIRST OF SOME ORDERS
+pub first-is : (ys : List Order) (o : Order) → Is o ≡ first-of ys → (any-order ys ≡ true) × (lowest ys ≡ o)
+unfolding first-of any-order lowest
+first-is [] o e = absurd (true≢false (cc))
+first-is (y ∷ ys) o e = (refl, cc)
 
-pub first-is : (l : ℕ) (ys : List Order) (o : Order) → Is o ≡ first-enough l ys → First l ys o
-unfolding first-enough any-reserve
-first-is l [] o e = absurd (true≢false (cc))
-first-is l (y ∷ ys) o e = go (first-is l ys o) (leb l (reserve y)) refl e
-  where
-    go : (Is o ≡ first-enough l ys → First l ys o) → (t : Bool) → leb l (reserve y) ≡ t → Is o ≡ cond t (Is y) (first-enough l ys) → First l (y ∷ ys) o
-    go ih true q e =
-        let w : y ≡ o = cc in
-        subst (First l (y ∷ ys)) w (record { spot = spot-here y ys; enough = leb-true l (reserve y) q; any = rw q })
-    go ih false q e =
-        let f = ih e in
-        record { spot = spot-more o y ys (f .spot); enough = f .enough; any = rw q (f .any) }
+pub first-spot : (ys : List Order) (o : Order) → Is o ≡ first-of ys → Spot o ys
+unfolding first-of
+first-spot [] o e = absurd (true≢false (cc))
+first-spot (y ∷ ys) o e = let w : y ≡ o = cc in subst (λ (z : Order). Spot z (y ∷ ys)) w (spot-here y ys)
 
-pub first-none : (l : ℕ) (ys : List Order) → Nothing ≡ first-enough l ys → any-reserve l ys ≡ false
-unfolding first-enough any-reserve
-first-none l [] e = refl
-first-none l (y ∷ ys) e = go (first-none l ys) (leb l (reserve y)) e
-  where
-    go : (Nothing ≡ first-enough l ys → any-reserve l ys ≡ false) → (t : Bool) → Nothing ≡ cond t (Is y) (first-enough l ys) → (t || any-reserve l ys) ≡ false
-    go ih true e = cc
-    go ih false e = ih e
-
-pub first-empty : (ys : List Order) → Nothing ≡ first-enough 0 ys → ys ≡ []
-unfolding first-enough
+pub first-empty : (ys : List Order) → Nothing ≡ first-of ys → ys ≡ []
+unfolding first-of
 first-empty [] e = refl
-first-empty (y ∷ ys) e =
-    let f = rw (le-leb 0 (reserve y) (omega arith)) at e in
-    absurd (true≢false (cc))
+first-empty (y ∷ ys) e = absurd (true≢false (cc))
 
 -- AN ORDER IN A RANGE
 pub record Inside (lo hi : ℕ) (o : Order) (os : List Order) : Type 0 where
@@ -121,14 +102,13 @@ none-held k (o ∷ os) e = go (none-held k os) (leb k (o .key)) refl (leb (o .ke
     go ih false p b q e = rw (ne-eqb (o .key) k (λ z. omega (arith, leb-false k (o .key) p))) (ih e)
 
 -- WHAT THE SEARCH FOR A KEY FOUND: the order that has it, or that it is not held
-module _ (bs : List ℕ) (image : is-image bs ≡ true) (k : ℕ) (q : Sought) (eq : q ≡ first-enough 0 (between k k (orders-in bs))) where
+module _ (bs : List ℕ) (image : is-image bs ≡ true) (k : ℕ) (q : Sought) (eq : q ≡ first-of (between k k (orders-in bs))) where
   pub sought-absent : q ≡ Nothing → held k (orders-in bs) ≡ false
   sought-absent z = none-held k (orders-in bs) (first-empty (between k k (orders-in bs)) (sym z ∙ eq))
 
   pub sought-there : (o : Order) → q ≡ Is o → (o .key ≡ k) × Tells k (o .total) (o .displayed) (orders-in bs)
   sought-there o z =
-      let f = first-is 0 (between k k (orders-in bs)) o (sym z ∙ eq) in
-      let w = spot-inside k k o (orders-in bs) (f .spot) in
+      let w = spot-inside k k o (orders-in bs) (first-spot (between k k (orders-in bs)) o (sym z ∙ eq)) in
       let s : o .key ≡ k = omega (arith, w .low, w .high) in
       (s, rw s at (spot-tells (orders-in bs) 1 (orders-up (sizes-in bs) bs (known-image bs image)) o (w .spot)))
 
@@ -138,25 +118,25 @@ module _ (bs : List ℕ) (k : ℕ) (r : Reply) where
   unfolding Look-says refusal asks first-no asks-image asks-key
   look-by a b c ea eb ec h = rw (ea, eb, ec) h
 
-  pub look-4 : is-image bs ≡ false → says 4 0 0 0 0 r → Look-says bs k r
-  unfolding Look-as
+  pub look-4 : is-image bs ≡ false → r ≡ reply 4 0 0 0 0 → Look-says bs k r
+  unfolding Look-as gives
   look-4 e h = look-by false _ _ e refl refl h
 
   module _ (image : is-image bs ≡ true) (b : Bool) (eb : b ≡ is-key k) where
-    pub look-5 : b ≡ false → says 5 0 0 0 0 r → Look-says bs k r
-    unfolding Look-as
+    pub look-5 : b ≡ false → r ≡ reply 5 0 0 0 0 → Look-says bs k r
+    unfolding Look-as gives
     look-5 e h = look-by true false _ image (sym eb ∙ e) refl h
 
-    module _ (e : b ≡ true) (q : Sought) (eq : q ≡ first-enough 0 (between k k (orders-in bs))) where
-      pub look-9 : q ≡ Nothing → says 9 0 0 0 0 r → Look-says bs k r
-      unfolding Look-as
+    module _ (e : b ≡ true) (q : Sought) (eq : q ≡ first-of (between k k (orders-in bs))) where
+      pub look-9 : q ≡ Nothing → r ≡ reply 9 0 0 0 0 → Look-says bs k r
+      unfolding Look-as gives
       look-9 z h = look-by true true false image (sym eb ∙ e) (sought-absent bs image k q eq z) h
 
-      pub look-found : (o : Order) → q ≡ Is o → r ≡ reply-of 0 o → Look-says bs k r
-      unfolding Look-as says
+      pub look-found : (o : Order) → q ≡ Is o → r ≡ reply 0 (o .key) (o .total) (o .displayed) 0 → Look-says bs k r
+      unfolding Look-as gives
       look-found o z h =
           let t = sought-there bs image k q eq o z in
-          look-by true true true image (sym eb ∙ e) (t .1 .0) (rw h (refl, t .0, sym (t .1 .1), sym (t .1 .2), refl))
+          look-by true true true image (sym eb ∙ e) (t .1 .0) (rw (h, t .0, t .1 .1, t .1 .2))
 
 -- THE QUESTIONS OF A RANGE, which span and seek share
 module _ (bs : List ℕ) (lo hi : ℕ) where
@@ -187,38 +167,29 @@ module _ (bs : List ℕ) (lo hi : ℕ) where
 
 -- SEEK
 module _ (bs : List ℕ) (lo hi least : ℕ) (r : Reply) (n : ℕ) (en : n ≡ first-no (asks-image bs ++ asks-range lo hi)) where
-  seek-by : (i : ℕ) → cond (eqb n 0) (cond (any-reserve least (between lo hi (orders-in bs))) 0 12) n ≡ i →
-      Seek-as i (orders-in bs) lo hi least r → Seek-says bs lo hi least r
-  unfolding Seek-says refusal asks asks-seek
-  seek-by i e h = subst (λ (j : ℕ). Seek-as j (orders-in bs) lo hi least r) (sym (range-more bs lo hi n en 12 _ ∙ e)) h
+  abbrev fitting : List Order
+  fitting = enough least (between lo hi (orders-in bs))
 
-  refused-seek : (i : ℕ) → (i ≡ 0 → ⊥) → says i 0 0 0 0 r → Seek-as i (orders-in bs) lo hi least r
-  unfolding Seek-as
+  seek-by : (i : ℕ) → cond (eqb n 0) (cond (any-order fitting) 0 12) n ≡ i → r ≡ gives i 0 (lowest fitting) → Seek-says bs lo hi least r
+  unfolding Seek-says Seek-as refusal asks asks-seek
+  seek-by i e h = h ∙ ap (λ (j : ℕ). gives j 0 (lowest fitting)) (sym (range-more bs lo hi n en 12 _ ∙ e))
+
+  refused-seek : (i : ℕ) → (i ≡ 0 → ⊥) → r ≡ reply i 0 0 0 0 → r ≡ gives i 0 (lowest fitting)
+  unfolding gives
   refused-seek zero z h = absurd (z refl)
   refused-seek (suc i) z h = h
 
-  pub seek-turned : (n ≡ 0 → ⊥) → says n 0 0 0 0 r → Seek-says bs lo hi least r
+  pub seek-turned : (n ≡ 0 → ⊥) → r ≡ reply n 0 0 0 0 → Seek-says bs lo hi least r
   seek-turned z h = seek-by n (rw (ne-eqb n 0 z)) (refused-seek n z h)
 
-  module _ (z : n ≡ 0) (q : Sought) (eq : q ≡ first-enough least (between lo hi (orders-in bs))) where
-    pub seek-12 : q ≡ Nothing → says 12 0 0 0 0 r → Seek-says bs lo hi least r
-    seek-12 e h = seek-by 12 (rw (eq-eqb n 0 z, first-none least (between lo hi (orders-in bs)) (sym e ∙ eq))) (refused-seek 12 (omega arith) h)
+  module _ (z : n ≡ 0) (q : Sought) (eq : q ≡ first-of fitting) where
+    pub seek-12 : q ≡ Nothing → r ≡ reply 12 0 0 0 0 → Seek-says bs lo hi least r
+    unfolding any-order
+    seek-12 e h = seek-by 12 (rw (eq-eqb n 0 z, first-empty fitting (sym e ∙ eq))) (refused-seek 12 (omega arith) h)
 
-    pub seek-found : (o : Order) → q ≡ Is o → r ≡ reply-of 0 o → Seek-says bs lo hi least r
-    unfolding Seek-as
-    seek-found o e h =
-        let g = first-is least (between lo hi (orders-in bs)) o (sym e ∙ eq) in
-        let w = spot-inside lo hi o (orders-in bs) (g .spot) in
-        let t = spot-tells (orders-in bs) 1 (orders-up (sizes-in bs) bs (known-image bs (range-asked bs lo hi n en z .0))) o (w .spot) in
-        seek-by 0 (rw (eq-eqb n 0 z, g .any))
-        (subst (λ (x : Reply). Seek-as 0 (orders-in bs) lo hi least x) (sym h) (record {
-          number = refl;
-          held-there = spot-held o (between lo hi (orders-in bs)) (g .spot);
-          own-total = sym (t .1);
-          own-displayed = sym (t .2);
-          none-counted = refl;
-          enough = g .enough;
-        }))
+    pub seek-found : (o : Order) → q ≡ Is o → r ≡ reply 0 (o .key) (o .total) (o .displayed) 0 → Seek-says bs lo hi least r
+    unfolding gives
+    seek-found o e h = let g = first-is fitting o (sym e ∙ eq) in seek-by 0 (rw (eq-eqb n 0 z, g .0)) (rw (h, g .1))
 
 -- SPAN
 module _ (bs : List ℕ) (lo hi : ℕ) (r : Reply) (x : List ℕ) (n : ℕ) (en : n ≡ first-no (asks-image bs ++ asks-range lo hi)) where
@@ -227,12 +198,12 @@ module _ (bs : List ℕ) (lo hi : ℕ) (r : Reply) (x : List ℕ) (n : ℕ) (en 
   unfolding Span-says refusal asks asks-span
   span-by z i e h = subst (λ (j : ℕ). Span-as j (between lo hi (orders-in bs)) r x z) (sym (range-more bs lo hi n en 11 _ ∙ e)) h
 
-  refused-span : (i : ℕ) → (i ≡ 0 → ⊥) → says i 0 0 0 0 r → (z : List ℕ) → z ≡ x → Span-as i (between lo hi (orders-in bs)) r x z
+  refused-span : (i : ℕ) → (i ≡ 0 → ⊥) → r ≡ reply i 0 0 0 0 → (z : List ℕ) → z ≡ x → Span-as i (between lo hi (orders-in bs)) r x z
   unfolding Span-as
   refused-span zero p h z e = absurd (p refl)
   refused-span (suc i) p h z e = (h, e)
 
-  pub span-turned : (n ≡ 0 → ⊥) → says n 0 0 0 0 r → Span-says bs lo hi r x x
+  pub span-turned : (n ≡ 0 → ⊥) → r ≡ reply n 0 0 0 0 → Span-says bs lo hi r x x
   span-turned p h = span-by x n (rw (ne-eqb n 0 p)) (refused-span n p h x refl)
 
   -- it counts, and then writes into the output that it has left as it was
@@ -240,18 +211,15 @@ module _ (bs : List ℕ) (lo hi : ℕ) (r : Reply) (x : List ℕ) (n : ℕ) (en 
     many : (v .found ≡ length (between lo hi (orders-in bs))) × (y ≡ x)
     many = counted-all bs (range-asked bs lo hi n en p .0) lo hi v x y ev
 
-    pub span-11 : length y < 12 * v .found → says 11 0 0 0 0 r → Span-says bs lo hi r x y
+    pub span-11 : length y < 12 * v .found → r ≡ reply 11 0 0 0 0 → Span-says bs lo hi r x y
     span-11 h g =
         let short : length x < 12 * length (between lo hi (orders-in bs)) = omega (arith, many .0, ap length (many .1)) in
         span-by y 11 (rw (eq-eqb n 0 p, lt-leb _ _ short)) (refused-span 11 (omega arith) g y (many .1))
 
     pub span-written : 12 * v .found ≤ length y → (w : Visit) (z : List ℕ) → scan w z ≡ steps (orders-in bs) (scan (starting lo hi 0 true false) y) →
-        r ≡ record { number = 0; key = 0; total = 0; displayed = 0; count = w .found } → Span-says bs lo hi r x z
-    unfolding Span-as says
+        r ≡ reply 0 0 0 0 (w .found) → Span-says bs lo hi r x z
+    unfolding Span-as
     span-written h w z ew er =
         let room : 12 * length (between lo hi (orders-in bs)) ≤ length x = omega (arith, many .0, ap length (many .1)) in
         let g = written-all bs (range-asked bs lo hi n en p .0) lo hi w x z room (rw (many .1) at ew) in
-        span-by z 0 (rw (eq-eqb n 0 p, le-leb _ _ room)) (
-          rw er (refl, refl, refl, refl, g .0),
-          g .1,
-        )
+        span-by z 0 (rw (eq-eqb n 0 p, le-leb _ _ room)) (rw (er, g .0), g .1)

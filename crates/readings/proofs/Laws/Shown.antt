@@ -19,13 +19,13 @@ use Rattle.skiplist.specs.Image.{is-image, orders-in}
 use Rattle.skiplist.specs.Questions.{first-no, is-key, held, between, asks-image}
 use Rattle.skiplist.specs.Paths.{descent-path, path-bytes, asks-descent}
 use Rattle.skiplist.specs.Book.{descent, asks, refusal}
-use Rattle.table.specs.Calls.{says, Look-as, asks-first, shown, Descent-as, Within, Descent-says}
+use Rattle.table.specs.Calls.{reply, gives, Look-as, asks-first, shown, Descent-as, Within, Descent-says}
 use Rattle.table.specs.declared.Reply.{Reply}
 use Rattle.table.proofs.Laws.Descents.{path-long, image-rule}
 use Rattle.levels.specs.declared.Trail.{Trail}
 use Rattle.levels.specs.Ways.{Trek, trek}
 use Rattle.levels.proofs.Laws.Numbers.{numbers-in, numbers-long, numbers-behind, numbers-room}
-use Rattle.readings.specs.Visit.{reply-of, first-enough}
+use Rattle.readings.specs.Visit.{first-of}
 use Rattle.readings.specs.Descent.{way, landed}
 use Rattle.readings.specs.declared.calls.Sought.{Sought}
 use Rattle.readings.specs.declared.calls.Sought.the-variants.{Is, Nothing}
@@ -52,30 +52,28 @@ module _ (bs : List ℕ) (k : ℕ) (o : List ℕ) where
 
   module _ (r : Reply) where
     -- a refusal that shows no path
-    refused-as : (n : ℕ) → n ≡ 5 ⊎ n ≡ 11 → says n 0 0 0 0 r → refusal (descent k o) bs ≡ n → Descent-as (refusal (descent k o) bs) k (orders-in bs) path r o o
-    unfolding Descent-as Look-as shown path-bytes rows
+    refused-as : (n : ℕ) → n ≡ 5 ⊎ n ≡ 11 → r ≡ reply n 0 0 0 0 → refusal (descent k o) bs ≡ n → Descent-as (refusal (descent k o) bs) k (orders-in bs) path r o o
+    unfolding Descent-as Look-as gives shown path-bytes rows
     refused-as n (inl e) h q = rw (q, e) (rw e at h, refl)
     refused-as n (inr e) h q = rw (q, e) (rw e at h, refl)
 
     -- 4 and 5
-    pub descent-4 : (a : Bool) → a ≡ rule-1 bs → a ≡ false → says 4 0 0 0 0 r → Descent-says bs k r o o
-    unfolding says
+    pub descent-4 : (a : Bool) → a ≡ rule-1 bs → a ≡ false → r ≡ reply 4 0 0 0 0 → Descent-says bs k r o o
     descent-4 a ea e h = record {
       turned-down = λ z. (rw (first false (is-key k) (sym ea ∙ e) refl) h, refl);
       on-image = λ i. absurd (false≢true (sym e ∙ ea ∙ image-rule bs i));
-      within = within-none r o (h .4);
+      within = within-none r o (rw h);
     }
 
-    pub descent-short : length bs < 53 → says 4 0 0 0 0 r → Descent-says bs k r o o
+    pub descent-short : length bs < 53 → r ≡ reply 4 0 0 0 0 → Descent-says bs k r o o
     descent-short l h = descent-4 false (rule-short bs l) refl h
 
     module _ (a : Bool) (ea : a ≡ rule-1 bs) (ra : a ≡ true) (b : Bool) (eb : b ≡ is-key k) where
-      pub descent-5 : b ≡ false → says 5 0 0 0 0 r → Descent-says bs k r o o
-      unfolding says
+      pub descent-5 : b ≡ false → r ≡ reply 5 0 0 0 0 → Descent-says bs k r o o
       descent-5 e h = record {
         turned-down = λ z. (rw (first true false (sym ea ∙ ra) (sym eb ∙ e)) h, refl);
         on-image = λ i. refused-as 5 (inl refl) h (number i false _ _ (sym eb ∙ e) refl refl);
-        within = within-none r o (h .4);
+        within = within-none r o (rw h);
       }
 
       module _ (rb : b ≡ true) (q : Geometry) (eq : q .sizes ≡ sizes-in bs) (rk : Reckoned q) (t : Trail) (x x′ : List ℕ) (et : trek t x′ ≡ way q bs k x) where
@@ -87,13 +85,13 @@ module _ (bs : List ℕ) (k : ℕ) (o : List ℕ) where
 
         -- on an image
         module _ (i : is-image bs ≡ true) where
-          reached : (z : List ℕ) → (y : Order) × Reached (sizes-in bs) bs (known-image bs i) k (key-least k b eb rb) q eq rk z y × (cond (eqb (y .key) k) (Is y) Nothing ≡ first-enough 0 (between k k (orders-in bs)))
+          reached : (z : List ℕ) → (y : Order) × Reached (sizes-in bs) bs (known-image bs i) k (key-least k b eb rb) q eq rk z y × (cond (eqb (y .key) k) (Is y) Nothing ≡ first-of (between k k (orders-in bs)))
           reached z = ends-right (sizes-in bs) bs (known-image bs i) k (key-least k b eb rb) q eq rk z
 
           long : t .count ≡ length path
           long = let v = reached x in ap (λ (z : Trek). z .trail .count) (et ∙ v .1 .is) ∙ v .1 .count
 
-          order : (f : Sought) → f ≡ landed bs (t .at) k → f ≡ first-enough 0 (between k k (orders-in bs))
+          order : (f : Sought) → f ≡ landed bs (t .at) k → f ≡ first-of (between k k (orders-in bs))
           order f ef = order-right (sizes-in bs) bs (known-image bs i) k (key-least k b eb rb) q eq rk x t x′ et f ef
 
           written : 2 * t .count ≤ length o → (z : List ℕ) → z ≡ way q bs k o .path → z ≡ path-bytes path ++ drop (2 * length path) o
@@ -104,12 +102,11 @@ module _ (bs : List ℕ) (k : ℕ) (o : List ℕ) where
               ez ∙ ap (λ (w : Trek). w .path) (v .1 .is) ∙ numbers-room o 0 path room ∙ sets-eq (path-bytes path) o 0 (omega (arith, path-long path, room))
               ∙ ap (λ (j : ℕ). path-bytes path ++ drop j o) n
 
-        pub descent-11 : length o < 2 * t .count → says 11 0 0 0 0 r → Descent-says bs k r o o
-        unfolding says
+        pub descent-11 : length o < 2 * t .count → r ≡ reply 11 0 0 0 0 → Descent-says bs k r o o
         descent-11 l h = record {
           turned-down = λ z. passed z;
           on-image = λ i. refused-as 11 (inr refl) h (number i true false _ (sym eb ∙ rb) (lt-leb (2 * length path) (length o) (omega (arith, long i))) refl);
-          within = within-none r o (h .4);
+          within = within-none r o (rw h);
         }
 
         module _ (l : 2 * t .count ≤ length o) (z : List ℕ) (ez : z ≡ way q bs k o .path) where
@@ -126,27 +123,27 @@ module _ (bs : List ℕ) (k : ℕ) (o : List ℕ) where
           room-yes i = le-leb (2 * length path) (length o) (omega (arith, long i))
 
           module _ (f : Sought) (ef : f ≡ landed bs (t .at) k) where
-            pub descent-9 : f ≡ Nothing → says 9 0 0 0 (t .count) r → Descent-says bs k r o z
-            unfolding says Descent-as Look-as shown
+            pub descent-9 : f ≡ Nothing → r ≡ reply 9 0 0 0 (t .count) → Descent-says bs k r o z
+            unfolding Descent-as Look-as gives shown
             descent-9 e h = record {
               turned-down = λ z. passed z;
               on-image = λ i.
                   rw (number i true true false (sym eb ∙ rb) (room-yes i) (sought-absent bs i k f (order i f ef) e)) (
-                    (h .0, h .1, h .2, h .3, h .4 ∙ long i),
+                    rw (h, long i),
                     written i l z ez,
                   );
-              within = inside (h .4);
+              within = inside (rw h);
             }
 
-            pub descent-found : (y : Order) → f ≡ Is y → r ≡ reply-of (t .count) y → Descent-says bs k r o z
-            unfolding says Descent-as Look-as shown
+            pub descent-found : (y : Order) → f ≡ Is y → r ≡ reply 0 (y .key) (y .total) (y .displayed) (t .count) → Descent-says bs k r o z
+            unfolding Descent-as Look-as gives shown
             descent-found y e h = record {
               turned-down = λ z. passed z;
               on-image = λ i.
                   let v = sought-there bs i k f (order i f ef) y e in
                   rw (number i true true true (sym eb ∙ rb) (room-yes i) (v .1 .0)) (
-                    rw h (refl, v .0, sym (v .1 .1), sym (v .1 .2), long i),
+                    rw (h, v .0, v .1 .1, v .1 .2, long i),
                     written i l z ez,
                   );
-              within = inside (ap (λ (w : Reply). w .count) h);
+              within = inside (rw h);
             }

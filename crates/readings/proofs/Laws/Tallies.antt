@@ -10,13 +10,13 @@ use lib.ListN.{length}
 use borrow.Author.Tests.{leb-true, leb-false, eq-eqb, lt-ltb, le-ltb}
 use Rattle.sizes.specs.Numbers.{rows}
 use Rattle.placement.specs.declared.Order.{Order}
-use Rattle.skiplist.specs.Questions.{reserve, between}
+use Rattle.skiplist.specs.Questions.{reserve, between, enough}
 use Rattle.skiplist.proofs.Laws.Parts.{Up}
 use Rattle.skiplist.proofs.Laws.Segment.{between-above}
 use Rattle.readings.specs.declared.Visit.{Visit}
 use Rattle.readings.specs.declared.calls.Sought.{Sought}
 use Rattle.readings.specs.declared.calls.Sought.the-variants.{Is, Nothing}
-use Rattle.readings.specs.Visit.{Scan, scan, next-found, more-found, ended-visit, step-by, steps, first-enough}
+use Rattle.readings.specs.Visit.{Scan, scan, next-found, more-found, ended-visit, step-by, steps, first-of}
 use Rattle.readings.proofs.Laws.Visits.{next-more, wanted-some, told, steps-ended, step-keeps, step-below}
 use Rattle.readings.proofs.Laws.Wholes.{Within, rowed, steps-whole}
 
@@ -93,13 +93,13 @@ module _ (v : Visit) (x : List ℕ) (goes-on : v .ended ≡ false) where
 
   -- SEEKING
   module _ (p : v .seeks ≡ true) (f : v .found ≡ 0) where
-    sought-within : (ns : List Order) → Within (v .lo) (v .hi) ns → answer-of (steps ns (scan v x) .visit) ≡ first-enough (v .least) ns
-    unfolding steps first-enough more-found
+    sought-within : (ns : List Order) → Within (v .lo) (v .hi) ns → answer-of (steps ns (scan v x) .visit) ≡ first-of (enough (v .least) ns)
+    unfolding steps enough first-of more-found
     sought-within [] w = rw (eq-eqb (v .found) 0 f)
     sought-within (o ∷ os) w = go (sought-within os (w .2)) (leb (v .least) (reserve o)) refl
       where
-        go : answer-of (steps os (scan v x) .visit) ≡ first-enough (v .least) os → (t : Bool) → leb (v .least) (reserve o) ≡ t →
-            answer-of (steps os (step-by o (scan v x)) .visit) ≡ cond t (Is o) (first-enough (v .least) os)
+        go : answer-of (steps os (scan v x) .visit) ≡ first-of (enough (v .least) os) → (t : Bool) → leb (v .least) (reserve o) ≡ t →
+            answer-of (steps os (step-by o (scan v x)) .visit) ≡ first-of (cond t (o ∷ enough (v .least) os) (enough (v .least) os))
         go ih false q = rw (told o v x false false false _ goes-on (le-ltb _ _ (w .1)) (sym (wanted-some v o (w .0) p (reserve o) refl) ∙ q) refl) ih
         go ih true q =
             let n : next-found (v .found) ≡ 1 = ap next-found f ∙ sym (next-more 0 (omega arith)) in
@@ -107,5 +107,5 @@ module _ (v : Visit) (x : List ℕ) (goes-on : v .ended ≡ false) where
             (ap (steps os) (told o v x false false true _ goes-on (le-ltb _ _ (w .1)) (sym (wanted-some v o (w .0) p (reserve o) refl) ∙ q) refl) ∙ steps-ended os _ p)
             ∙ rw n
 
-    pub sought : (os : List Order) (a : ℕ) → Up a os → answer-of (steps os (scan v x) .visit) ≡ first-enough (v .least) (between (v .lo) (v .hi) os)
+    pub sought : (os : List Order) (a : ℕ) → Up a os → answer-of (steps os (scan v x) .visit) ≡ first-of (enough (v .least) (between (v .lo) (v .hi) os))
     sought os a u = steps-between (v .lo) (v .hi) os a u (scan v x) refl refl .answer ∙ sought-within (between (v .lo) (v .hi) os) (all-within (v .lo) (v .hi) os)

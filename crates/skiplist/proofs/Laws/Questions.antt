@@ -8,7 +8,7 @@ use native.Mathlib.Omega.{arith}
 use borrow.Author.Tests.{eq-eqb, le-leb}
 use lib.Dec.{eqb}
 use Rattle.sizes.proofs.Laws.Sizes.{and-parts}
-use Rattle.skiplist.specs.Questions.{Question, ask, first-no, all-yes, Turned-down, First-no-means, reserve, any-reserve, any-order, Zero-finds-any}
+use Rattle.skiplist.specs.Questions.{Question, ask, first-no, all-yes, Turned-down, First-no-means, reserve, enough, Zero-finds-all}
 
 -- a question that does not turn the call down
 pub passes : (n : ℕ) (yes : Bool) (r : ℕ) → cond yes r (suc n) ≡ 0 → (yes ≡ true) × (r ≡ 0)
@@ -25,10 +25,10 @@ first-no-means (ask n true ∷ qs) = go (first-no-means qs)
     go (inl w) = inl w
     go (inr w) = inr (record { asked = ask n true ∷ w .asked; later = w .later; is = ap (λ (z : List Question). ask n true ∷ z) (w .is); passed = w .passed })
 
-pub zero-finds-any : Zero-finds-any
-unfolding Zero-finds-any any-reserve any-order
-zero-finds-any [] = refl
-zero-finds-any (o ∷ os) = rw (le-leb 0 (reserve o) (omega arith))
+pub zero-finds-all : Zero-finds-all
+unfolding Zero-finds-all enough
+zero-finds-all [] = refl
+zero-finds-all (o ∷ os) = rw (le-leb 0 (reserve o) (omega arith), zero-finds-all os)
 
 -- A NUMBER IS GIVEN FOR ITS OWN QUESTION, where no other question has it
 unfoldable pub apart : (n : ℕ) → List Question → Bool

@@ -15,35 +15,30 @@ use Rattle.sizes.proofs.Laws.Sizes.{and-parts}
 use Rattle.sizes.proofs.Laws.Numbers.{length-big}
 use Rattle.placement.proofs.Laws.Rows.{length-rows}
 use Rattle.skiplist.specs.Image.{is-image, orders-in}
-use Rattle.skiplist.specs.Questions.{first-no, asks-image, asks-key, is-key, held}
+use Rattle.skiplist.specs.Questions.{first-no, asks-image, asks-key, is-key, held, order}
 use Rattle.skiplist.specs.Paths.{descent-path, path-bytes, asks-descent}
 use Rattle.skiplist.specs.Book.{lookup, descent, asks, refusal}
-use Rattle.table.specs.Calls.{says, total-of, displayed-of, Look-says, Look-as, asks-first, shown, Descent-as, Within, Descent-says}
+use Rattle.table.specs.Calls.{reply, gives, total-of, displayed-of, Look-says, Look-as, asks-first, shown, Descent-as, Within, Descent-says}
 use Rattle.table.specs.Promise.{Descent-looks-up}
 use Rattle.table.specs.declared.Reply.{Reply}
 
 -- AN ANSWER, by its number
-pub look-some : (n c k : ℕ) (os : List Order) → (r : Reply) × Look-as n c k os r
-unfolding Look-as says
-look-some zero c k os = (record { number = 0; key = k; total = total-of k os; displayed = displayed-of k os; count = c }, (refl, refl, refl, refl, refl))
-look-some (suc n) c k os = (record { number = suc n; key = 0; total = 0; displayed = 0; count = c }, (refl, refl, refl, refl, refl))
+pub number-is : (n c : ℕ) (o : Order) (r : Reply) → r ≡ gives n c o → r .number ≡ n
+unfolding gives
+number-is zero c o r w = rw w
+number-is (suc n) c o r w = rw w
 
-pub look-number : (n c k : ℕ) (os : List Order) (r : Reply) → Look-as n c k os r → r .number ≡ n
-unfolding Look-as says
-look-number zero c k os r w = w .0
-look-number (suc n) c k os r w = w .0
+pub count-is : (n c : ℕ) (o : Order) (r : Reply) → r ≡ gives n c o → r .count ≡ c
+unfolding gives
+count-is zero c o r w = rw w
+count-is (suc n) c o r w = rw w
 
-pub look-count : (n c k : ℕ) (os : List Order) (r : Reply) → Look-as n c k os r → r .count ≡ c
-unfolding Look-as says
-look-count zero c k os r w = w .4
-look-count (suc n) c k os r w = w .4
-
--- one number, and whatever counts
-look-same : (n c d k : ℕ) (os : List Order) (r q : Reply) → Look-as n c k os r → Look-as n d k os q →
+-- one number and one order, whatever the counts
+same-order : (n c d : ℕ) (o : Order) (r q : Reply) → r ≡ gives n c o → q ≡ gives n d o →
     (r .number ≡ q .number) × (r .key ≡ q .key) × (r .total ≡ q .total) × (r .displayed ≡ q .displayed)
-unfolding Look-as says
-look-same zero c d k os r q v w = (v .0 ∙ sym (w .0), v .1 ∙ sym (w .1), v .2 ∙ sym (w .2), v .3 ∙ sym (w .3))
-look-same (suc n) c d k os r q v w = (v .0 ∙ sym (w .0), v .1 ∙ sym (w .1), v .2 ∙ sym (w .2), v .3 ∙ sym (w .3))
+unfolding gives
+same-order zero c d o r q v w = rw (v, w) (refl, refl, refl, refl)
+same-order (suc n) c d o r q v w = rw (v, w) (refl, refl, refl, refl)
 
 -- WITHIN ITS OUTPUT, where that has room for what is shown
 pub path-long : (is : List ℕ) → length (path-bytes is) ≡ 2 * length is
@@ -51,10 +46,10 @@ unfolding path-bytes
 path-long is = length-rows 2 (big 2) (length-big 2) is
 
 pub as-within : (n k : ℕ) (os : List Order) (path : List ℕ) (r : Reply) (o z : List ℕ) → 2 * length (shown n path) ≤ length o → Descent-as n k os path r o z → Within r o z
-unfolding Descent-as
+unfolding Descent-as Look-as
 as-within n k os path r o z h w =
     let is = shown n path in
-    let c = look-count n (length is) k os r (w .0) in
+    let c = count-is n (length is) _ r (w .0) in
     record {
       long = rw (w .1) (simp (length-append, length-drop) (omega (arith, path-long is)));
       room = rw c h;
@@ -84,19 +79,19 @@ unfolding is-image
 image-rule x e = and-parts (rule-1 x) _ e .0
 
 quiet : (x : List ℕ) (k : ℕ) (o : List ℕ) → (is-image x ≡ true → is-key k ≡ false) → Answered x k o
-unfolding says refusal asks asks-image asks-descent asks-first first-no shown path-bytes rows Descent-as Look-as
+unfolding refusal asks asks-image asks-descent asks-first first-no shown path-bytes rows Descent-as Look-as gives
 quiet x k o f = (
-  record { number = first-no (asks-first x k); key = 0; total = 0; displayed = 0; count = 0 },
+  reply (first-no (asks-first x k)) 0 0 0 0,
   o,
   record {
-    turned-down = λ h. ((refl, refl, refl, refl, refl), refl);
-    on-image = λ i. rw (i, image-rule x i, f i) ((refl, refl, refl, refl, refl), refl);
+    turned-down = λ h. (refl, refl);
+    on-image = λ i. rw (i, image-rule x i, f i) (refl, refl);
     within = record { long = refl; room = omega arith; behind = refl };
   },
 )
 
 pub descent-some : (x : List ℕ) (k : ℕ) (o : List ℕ) → Answered x k o
-unfolding asks-first first-no Descent-as
+unfolding asks-first first-no Descent-as Look-as
 descent-some x k o = go (is-image x) refl (is-key k) refl
   where
     go : (a : Bool) → is-image x ≡ a → (b : Bool) → is-key k ≡ b → Answered x k o
@@ -106,12 +101,12 @@ descent-some x k o = go (is-image x) refl (is-key k) refl
         let n = refusal (descent k o) x in
         let path = descent-path (sizes-in x) (orders-in x) k in
         let is = shown n path in
-        let v = look-some n (length is) k (orders-in x) in
+        let r = gives n (length is) (order k (total-of k (orders-in x)) (displayed-of k (orders-in x))) in
         let now = path-bytes is ++ drop (2 * length is) o in
-        let w : Descent-as n k (orders-in x) path (v .0) o now = (v .1, refl) in (
-          v .0,
+        let w : Descent-as n k (orders-in x) path r o now = (refl, refl) in (
+          r,
           now,
-          record { turned-down = λ h. absurd (h (rw (image-rule x e, f))); on-image = λ i. w; within = as-within n k (orders-in x) path (v .0) o now (image-room x k o e) w },
+          record { turned-down = λ h. absurd (h (rw (image-rule x e, f))); on-image = λ i. w; within = as-within n k (orders-in x) path r o now (image-room x k o e) w },
         )
 
 -- THE QUANTITIES ARE THOSE OF A LOOKUP
@@ -121,12 +116,12 @@ same-number true false c h = absurd (h refl)
 same-number true true c h = refl
 
 pub descent-looks-up : Descent-looks-up
-unfolding Descent-looks-up Descent-as Look-says refusal asks asks-image asks-descent asks-key first-no
+unfolding Descent-looks-up Descent-as Look-says Look-as refusal asks asks-image asks-descent asks-key first-no
 descent-looks-up x k r q o now e w h l =
     let os = orders-in x in
     let path = descent-path (sizes-in x) os k in
     let v = w .on-image e .0 in
-    let n = look-number (refusal (descent k o) x) _ k os r v in
+    let n = number-is (refusal (descent k o) x) _ _ r v in
     let same : refusal (descent k o) x ≡ refusal (lookup k) x =
     rw e (same-number (is-key k) (leb (2 * length path) (length o)) (held k os) (λ z. h (n ∙ rw e z))) in
-    look-same (refusal (lookup k) x) _ 0 k os r q (subst (λ (i : ℕ). Look-as i (length (shown (refusal (descent k o) x) path)) k os r) same v) l
+    same-order (refusal (lookup k) x) (length (shown (refusal (descent k o) x) path)) 0 _ r q (subst (λ (i : ℕ). Look-as i (length (shown (refusal (descent k o) x) path)) k os r) same v) l

@@ -1,8 +1,8 @@
--- The wrong programs of document 01, "Contracts", with those of a descent, of the reserve, of enter and of amend, and the clause that excludes each: on every table, and then on tables of the run.
+-- The wrong programs of document 01, "Contracts", with those of a descent, of the reserve, of enter and amend and of the lowest order, and the clause that excludes each: on every table, and then on tables of the run.
 use mathlib.Core.Path.{_≡_, refl, sym, ap, _∙_, subst}
 use mathlib.Core.Bool.{Bool, true, false, cond, not, false≢true}
 use mathlib.Core.List.{List, [], _∷_, _++_}
-use Prim.Native.Nat.{ℕ, zero, suc, _*_, _≤_}
+use Prim.Native.Nat.{ℕ, zero, suc, _*_, _≤_, _<_}
 use native.Mathlib.Omega.{arith}
 use borrow.Author.Tests.{leb-true, eqb-false, eq-eqb}
 use lib.Dec.{ltb, leb, eqb}
@@ -11,7 +11,7 @@ use Rattle.sizes.specs.Numbers.{big, value-from, field, rows, rows-in}
 use Rattle.sizes.specs.Sizes.{least-power, beta, sizes-good, seed-good, made}
 use Rattle.sizes.specs.Hash.{hash-from, h, g, divides-from, level}
 use Rattle.sizes.specs.Header.{block-long, table-long, header, sizes-in, held-in, rule-1}
-use Rattle.placement.specs.Blocks.{around, stored, place-from, placed}
+use Rattle.placement.specs.Blocks.{Among, around, stored, place-from, placed}
 use Rattle.placement.specs.Labels.{same-label, home}
 use Rattle.placement.specs.Chunks.{node-bytes, block-bytes}
 use Rattle.placement.specs.Decode.{node-in, head-label, chunk-of, block-of, blocks-in}
@@ -20,28 +20,26 @@ use Rattle.placement.specs.declared.Order.{Order}
 use Rattle.sizes.proofs.Laws.Sizes.{limits}
 use Rattle.skiplist.specs.Lists.{front, at-least, list-at, starts-one, run, rest, partitions, first-key, pick, part, last-from, masked, chunks-of, pieces, all-chunks, chunks-from, chunks, blocks}
 use Rattle.skiplist.specs.Image.{image, into, all-into, gathered, orders-in, quantities-good, orders-good, fits, same, is-image}
-use Rattle.skiplist.specs.Questions.{ask, first-no, is-key, held, without, with-order, order, between, reserve, any-reserve, any-order, Zero-finds-any, asks-image, asks-order, asks-room, asks-enter, asks-amend, asks-key, asks-range, asks-span, asks-seek}
+use Rattle.skiplist.specs.Questions.{ask, first-no, is-key, held, without, with-order, order, between, reserve, enough, any-order, lowest, Zero-finds-all, asks-image, asks-order, asks-room, asks-enter, asks-amend, asks-key, asks-range, asks-span, asks-seek}
 use Rattle.skiplist.specs.Paths.{greatest, nodes-upto, labels-from, path-labels, stands-in, descent-path, path-bytes, asks-descent}
 use Rattle.skiplist.specs.Book.{Call, enter, amend, cancel, lookup, descent, span, seek, check, asks, changed, book-refusal, refusal, done}
 use Rattle.skiplist.specs.Examples.{run-seed, run-sizes, empty-table, enter-3, enter-6}
-use Rattle.skiplist.proofs.Laws.Questions.{passes, zero-finds-any, apart, never, own-question, others, asked-before}
+use Rattle.skiplist.proofs.Laws.Questions.{passes, zero-finds-all, apart, never, own-question, others, asked-before}
 use Rattle.skiplist.proofs.Laws.Parts.{or-left, or-right, good-up}
-use Rattle.skiplist.proofs.Laws.Kept.{held-without, kept-none, kept-changed}
+use Rattle.skiplist.proofs.Laws.Kept.{held-without, kept-none}
 use Rattle.skiplist.proofs.Laws.Third.{image-parts, taken}
-use Rattle.table.specs.Calls.{says, Edit-says, Enter-says, Amend-says, Cancel-says, check-number, Look-says, shown, Descent-as, Descent-says, Span-says, Span-as, Seek-says, Seek-as}
+use Rattle.table.specs.Calls.{reply, gives, Edit-says, Enter-says, Amend-says, Cancel-says, check-number, Look-says, Look-as, shown, Descent-as, Descent-says, Span-says, Span-as, Seek-says, Seek-as}
+use Rattle.table.specs.Promise.{Seek-lowest}
 use Rattle.table.specs.declared.Reply.{Reply}
-use Rattle.table.proofs.Laws.Runs.{Holds, holds-image}
-use Rattle.table.proofs.Laws.Descents.{look-number, look-count}
+use Rattle.table.proofs.Laws.Runs.{Holds, holds-image, done-holds}
+use Rattle.table.proofs.Laws.Descents.{number-is, count-is}
+use Rattle.table.proofs.Laws.Sought.{seek-lowest}
 use Rattle.table.proofs.Laws.Alike.{Tells, here, there, none-held}
 
 -- ---- THE CLAUSE ON THE TABLE. An enter, amend or cancel that returns 0 leaves the orders as it changes them
 edit-holds : (c : Call) (x z : List ℕ) → Edit-says c 0 x z → Holds (sizes-in x) (changed c (orders-in x)) z
-unfolding Edit-says done
-edit-holds c x z w =
-    let s = sizes-in x in
-    let i = taken c x (sym (w .0)) in
-    let p = image-parts x (i .0) in
-    holds-image s (changed c (orders-in x)) z (p .sizes-made) (kept-changed s (limits s (p .sizes-made)) c (orders-in x) (p .orders-kept) (i .1)) (w .1 ∙ rw (← w .0))
+unfolding Edit-says
+edit-holds c x z w = subst (Holds (sizes-in x) (changed c (orders-in x))) (sym (w .1)) (done-holds c x (sym (w .0)))
 
 -- an order, with its quantities
 into-tells : (o : Order) (os : List Order) → held (o .key) os ≡ false → Tells (o .key) (o .total) (o .displayed) (into o os)
@@ -98,20 +96,23 @@ always-empty k t d x s m w =
 
 -- ---- THE CLAUSES ON THE ANSWER
 span-number : (n : ℕ) (os : List Order) (r : Reply) (o z : List ℕ) → Span-as n os r o z → r .number ≡ n
-unfolding Span-as says
-span-number zero os r o z w = w .0 .0
-span-number (suc n) os r o z w = w .0 .0
+unfolding Span-as
+span-number zero os r o z w = rw (w .0)
+span-number (suc n) os r o z w = rw (w .0)
+
+look-number : (n c k : ℕ) (os : List Order) (r : Reply) → Look-as n c k os r → r .number ≡ n
+unfolding Look-as
+look-number n c k os r w = number-is n c _ r w
 
 seek-number : (n : ℕ) (os : List Order) (lo hi l : ℕ) (r : Reply) → Seek-as n os lo hi l r → r .number ≡ n
-unfolding Seek-as says
-seek-number zero os lo hi l r w = w .number
-seek-number (suc n) os lo hi l r w = w .0
+unfolding Seek-as
+seek-number n os lo hi l r w = number-is n 0 _ r w
 
 -- a span whose count is invented: it is the number of orders in lo..hi
 counted : (n : ℕ) (os : List Order) (r : Reply) (o z : List ℕ) → Span-as n os r o z → r .number ≡ 0 → r .count ≡ length os
-unfolding Span-as says
-counted zero os r o z w e = w .0 .4
-counted (suc n) os r o z w e = absurd (omega (arith, w .0 .0))
+unfolding Span-as
+counted zero os r o z w e = rw (w .0)
+counted (suc n) os r o z w e = absurd (omega (arith, ap (λ (q : Reply). q .number) (w .0)))
 
 pub span-counts : (x : List ℕ) (lo hi : ℕ) (r : Reply) (o z : List ℕ) → Span-says x lo hi r o z → r .number ≡ 0 → r .count ≡ length (between lo hi (orders-in x))
 unfolding Span-says
@@ -121,13 +122,13 @@ span-counts x lo hi r o z w e = counted _ (between lo hi (orders-in x)) r o z w 
 pub nine-shows : (x : List ℕ) (k : ℕ) (r : Reply) (o z : List ℕ) → is-image x ≡ true → Descent-says x k r o z → r .number ≡ 9 →
     (r .count ≡ length (descent-path (sizes-in x) (orders-in x) k))
     × (z ≡ path-bytes (descent-path (sizes-in x) (orders-in x) k) ++ drop (2 * length (descent-path (sizes-in x) (orders-in x) k)) o)
-unfolding Descent-as shown
+unfolding Descent-as Look-as shown
 nine-shows x k r o z i w e =
     let path = descent-path (sizes-in x) (orders-in x) k in
     let v = w .on-image i in
     let n = sym (look-number _ _ k (orders-in x) r (v .0)) ∙ e in
     let u = subst (λ (j : ℕ). Descent-as j k (orders-in x) path r o z) n v in
-    (look-count 9 (length path) k (orders-in x) r (u .0), u .1)
+    (count-is 9 (length path) _ r (u .0), u .1)
 
 -- one that gives 9 where the path has no room: 11 comes before
 pub early-9 : (x : List ℕ) (k : ℕ) (r : Reply) (o z : List ℕ) → is-image x ≡ true → Descent-says x k r o z → r .number ≡ 9 →
@@ -183,24 +184,34 @@ module _ (k t d : ℕ) (x z : List ℕ) where
   amend-8 w = never 8 (asks-image x ++ asks-amend k t d (orders-in x)) refl (sym (w .0))
 
 -- a 12 given without looking
-pub blind-12 : (x : List ℕ) (lo hi l : ℕ) (r : Reply) → Seek-says x lo hi l r → r .number ≡ 12 → any-reserve l (between lo hi (orders-in x)) ≡ false
+pub blind-12 : (x : List ℕ) (lo hi l : ℕ) (r : Reply) → Seek-says x lo hi l r → r .number ≡ 12 → any-order (enough l (between lo hi (orders-in x))) ≡ false
 unfolding Seek-says refusal asks first-no asks-image asks-range asks-seek apart
 blind-12 x lo hi l r w e = own-question 12 (asks-image x ++ asks-range lo hi) [] _ refl (sym (seek-number _ (orders-in x) lo hi l r w) ∙ e)
 
 -- a seek that leaves hidden orders out at r = 0: there 12 says that no order lies in lo..hi
 pub zero-12 : (x : List ℕ) (lo hi : ℕ) (r : Reply) → Seek-says x lo hi 0 r → r .number ≡ 12 → any-order (between lo hi (orders-in x)) ≡ false
-unfolding Zero-finds-any
-zero-12 x lo hi r w e = sym (zero-finds-any (between lo hi (orders-in x))) ∙ blind-12 x lo hi 0 r w e
+unfolding Zero-finds-all
+zero-12 x lo hi r w e = ap any-order (sym (zero-finds-all (between lo hi (orders-in x)))) ∙ blind-12 x lo hi 0 r w e
 
 -- one that takes a hidden order's total for its reserve: from r = 1 on, an order that it gives has a displayed part
-enough : (n : ℕ) (os : List Order) (lo hi l : ℕ) (r : Reply) → Seek-as n os lo hi l r → r .number ≡ 0 → l ≤ reserve (order (r .key) (r .total) (r .displayed))
-unfolding Seek-as says
-enough zero os lo hi l r w e = w .enough
-enough (suc n) os lo hi l r w e = absurd (omega (arith, w .0))
-
 pub hidden-given : (x : List ℕ) (lo hi l : ℕ) (r : Reply) → Seek-says x lo hi l r → 1 ≤ l → r .number ≡ 0 → r .displayed ≡ 0 → ⊥
-unfolding Seek-says reserve
-hidden-given x lo hi l r w h n e = omega (arith, rw (eq-eqb (r .displayed) 0 e) at (enough _ (orders-in x) lo hi l r w n))
+unfolding Seek-lowest reserve
+hidden-given x lo hi l r w h n e = omega (arith, rw (eq-eqb (r .displayed) 0 e) at (seek-lowest x lo hi l r w n .has))
+
+-- one that gives an order though one with a smaller key would do: the highest, whatever comes first, the best
+pub not-lowest : (x : List ℕ) (lo hi l : ℕ) (r : Reply) (q : Order) → Seek-says x lo hi l r → r .number ≡ 0 → Among q (orders-in x) → lo ≤ q .key → q .key ≤ hi →
+    l ≤ reserve q → q .key < r .key → ⊥
+unfolding Seek-lowest
+not-lowest x lo hi l r q w n a y z h b = omega (arith, seek-lowest x lo hi l r w n .smallest q a y z h)
+
+-- the smallest key whether or not it has the reserve, or of the whole table
+pub without-reserve : (x : List ℕ) (lo hi l : ℕ) (r : Reply) → Seek-says x lo hi l r → r .number ≡ 0 → reserve (order (r .key) (r .total) (r .displayed)) < l → ⊥
+unfolding Seek-lowest
+without-reserve x lo hi l r w n h = omega (arith, seek-lowest x lo hi l r w n .has)
+
+pub outside : (x : List ℕ) (lo hi l : ℕ) (r : Reply) → Seek-says x lo hi l r → r .number ≡ 0 → (lo ≤ r .key) × (r .key ≤ hi)
+unfolding Seek-lowest
+outside x lo hi l r w n = seek-lowest x lo hi l r w n .inside
 
 -- a call that gives 4 to all: 4 is given only of bytes that are no image
 no-other-4 : (s : Sizes) (c : Call) (os : List Order) → apart 4 (asks s c os) ≡ true
@@ -264,6 +275,9 @@ with-both = done enter-3 with-6
 unfoldable pub with-hidden : List ℕ
 with-hidden = done (enter 3 100 0) empty-table
 
+unfoldable pub with-behind : List ℕ
+with-behind = done (enter 6 50 10) with-hidden
+
 record Computed : Type 0 where
   six : refusal enter-6 empty-table ≡ 0
   three : refusal enter-3 with-6 ≡ 0
@@ -275,6 +289,9 @@ record Computed : Type 0 where
   seeks : refusal (seek 1 9 80) with-both ≡ 0
   zero : refusal (seek 1 9 0) with-hidden ≡ 0
   one : refusal (seek 1 9 1) with-hidden ≡ 12
+  smaller : gives (refusal (seek 1 9 0) with-both) 0 (lowest (enough 0 (between 1 9 (orders-in with-both)))) ≡ reply 0 3 100 20 0
+  from-4 : gives (refusal (seek 4 9 0) with-both) 0 (lowest (enough 0 (between 4 9 (orders-in with-both)))) ≡ reply 0 6 50 50 0
+  behind : gives (refusal (seek 1 9 1) with-behind) 0 (lowest (enough 1 (between 1 9 (orders-in with-behind)))) ≡ reply 0 6 50 10 0
   taken-3 : refusal (enter 3 10 0) with-both ≡ 13
   lacks-4 : refusal (amend 4 10 0) with-both ≡ 9
   amends : refusal (amend 3 10 0) with-both ≡ 0
@@ -283,8 +300,8 @@ record Computed : Type 0 where
   goes : descent-path (sizes-in with-both) (orders-in with-both) 4 ≡ 3 ∷ 1 ∷ 0 ∷ []
 
 computed : Computed
-unfolding big value-from field rows rows-in least-power beta sizes-good seed-good made hash-from h g divides-from level block-long table-long header sizes-in held-in rule-1 around stored place-from placed home node-bytes block-bytes node-in head-label chunk-of block-of blocks-in front at-least list-at starts-one run rest partitions first-key masked chunks-of all-chunks chunks-from chunks blocks image into all-into gathered orders-in quantities-good orders-good fits same is-image pick part last-from pieces greatest nodes-upto labels-from path-labels same-label stands-in descent-path first-no is-key held without with-order between reserve any-reserve asks-image asks-order asks-room asks-enter asks-amend asks-key asks-descent asks-range asks-span asks-seek asks changed refusal done run-seed run-sizes empty-table enter-3 enter-6 with-6 with-both with-hidden
-computed = record { six = refl; three = refl; not-yet = refl; cancels = refl; allowed = refl; spans = refl; finds = refl; seeks = refl; zero = refl; one = refl; taken-3 = refl; lacks-4 = refl; amends = refl; both = refl; lacks = refl; goes = refl }
+unfolding big value-from field rows rows-in least-power beta sizes-good seed-good made hash-from h g divides-from level block-long table-long header sizes-in held-in rule-1 around stored place-from placed home node-bytes block-bytes node-in head-label chunk-of block-of blocks-in front at-least list-at starts-one run rest partitions first-key masked chunks-of all-chunks chunks-from chunks blocks image into all-into gathered orders-in quantities-good orders-good fits same is-image pick part last-from pieces greatest nodes-upto labels-from path-labels same-label stands-in descent-path first-no is-key held without with-order between reserve enough any-order lowest gives asks-image asks-order asks-room asks-enter asks-amend asks-key asks-descent asks-range asks-span asks-seek asks changed refusal done run-seed run-sizes empty-table enter-3 enter-6 with-6 with-both with-hidden with-behind
+computed = record { six = refl; three = refl; not-yet = refl; cancels = refl; allowed = refl; spans = refl; finds = refl; seeks = refl; zero = refl; one = refl; smaller = refl; from-4 = refl; behind = refl; taken-3 = refl; lacks-4 = refl; amends = refl; both = refl; lacks = refl; goes = refl }
 
 -- an enter that edits properly once and later only returns 0, or returns whatever it likes
 pub once-right : Enter-says 6 50 50 0 empty-table with-6
@@ -358,3 +375,16 @@ hidden-at-0 r w = seek-number _ (orders-in with-hidden) 1 9 0 r w ∙ computed .
 pub hidden-at-1 : (r : Reply) → Seek-says with-hidden 1 9 1 r → r .number ≡ 12
 unfolding Seek-says
 hidden-at-1 r w = seek-number _ (orders-in with-hidden) 1 9 1 r w ∙ computed .one
+
+-- the smaller key of two; the smallest from lo on; the smallest that has the reserve
+pub smaller-given : (r : Reply) → Seek-says with-both 1 9 0 r → r ≡ reply 0 3 100 20 0
+unfolding Seek-says Seek-as
+smaller-given r w = w ∙ computed .smaller
+
+pub given-from-4 : (r : Reply) → Seek-says with-both 4 9 0 r → r ≡ reply 0 6 50 50 0
+unfolding Seek-says Seek-as
+given-from-4 r w = w ∙ computed .from-4
+
+pub given-behind : (r : Reply) → Seek-says with-behind 1 9 1 r → r ≡ reply 0 6 50 10 0
+unfolding Seek-says Seek-as
+given-behind r w = w ∙ computed .behind

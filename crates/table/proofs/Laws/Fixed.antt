@@ -1,0 +1,81 @@
+-- The contracts leave nothing open: equal tables and arguments give equal answers, call by call and over whole runs.
+use mathlib.Core.Path.{_≡_, refl, sym, ap, _∙_, subst}
+use mathlib.Core.Bool.{Bool, true, false, not, _||_, false≢true}
+use mathlib.Core.List.{List, [], _∷_}
+use Prim.Native.Nat.{ℕ, zero, suc}
+use borrow.Author.Tests.{eqb-false}
+use lib.Dec.{eqb}
+use Rattle.placement.specs.declared.Order.{Order}
+use Rattle.skiplist.specs.Image.{is-image, orders-in}
+use Rattle.skiplist.specs.Questions.{first-no, between}
+use Rattle.skiplist.specs.Book.{Call, enter, amend, cancel, lookup, descent, span, seek, check, refusal}
+use Rattle.table.specs.Calls.{Make-says, Edit-says, Enter-says, Amend-says, Cancel-says, Look-says, Look-as, asks-first, Descent-as, Descent-says, Span-says, Span-as, Seek-says, Seek-as}
+use Rattle.table.specs.Promise.{Does, Runs, Answer, alone, whole, lent, answer, answers, decided, Replies-fixed, Make-fixed, Runs-fixed}
+use Rattle.table.specs.declared.Reply.{Reply}
+use Rattle.table.proofs.Laws.Runs.{does-done, runs-after, stays-image}
+
+-- TWO ANSWERS to one span, and to one descent
+span-fixed : (n : ℕ) (os : List Order) (r q : Reply) (o y z : List ℕ) → Span-as n os r o y → Span-as n os q o z → lent r y ≡ lent q z
+unfolding Span-as
+span-fixed zero os r q o y z v w = λ i. lent ((v .0 ∙ sym (w .0)) i) ((v .1 ∙ sym (w .1)) i)
+span-fixed (suc n) os r q o y z v w = λ i. lent ((v .0 ∙ sym (w .0)) i) ((v .1 ∙ sym (w .1)) i)
+
+descent-fixed : (x : List ℕ) (k : ℕ) (r q : Reply) (o y z : List ℕ) → Descent-says x k r o y → Descent-says x k q o z →
+    (is-image x || not (eqb (first-no (asks-first x k)) 0)) ≡ true → lent r y ≡ lent q z
+unfolding Descent-as Look-as
+descent-fixed x k r q o y z v w h = go (is-image x) refl (eqb (first-no (asks-first x k)) 0) refl h
+  where
+    go : (a : Bool) → is-image x ≡ a → (b : Bool) → eqb (first-no (asks-first x k)) 0 ≡ b → (a || not b) ≡ true → lent r y ≡ lent q z
+    go true e b f h =
+        let s = v .on-image e in
+        let t = w .on-image e in
+        λ i. lent ((s .0 ∙ sym (t .0)) i) ((s .1 ∙ sym (t .1)) i)
+    go false e false f h =
+        let n = eqb-false (first-no (asks-first x k)) 0 f in
+        let s = v .turned-down n in
+        let t = w .turned-down n in
+        λ i. lent ((s .0 ∙ sym (t .0)) i) ((s .1 ∙ sym (t .1)) i)
+    go false e true f h = absurd (false≢true h)
+
+pub replies-fixed : Replies-fixed
+unfolding Replies-fixed Does answer decided Enter-says Amend-says Cancel-says Edit-says Look-says Look-as Span-says Seek-says Seek-as
+replies-fixed (enter k t d) x v w p q h = ap alone (p .1 .0 ∙ sym (q .1 .0))
+replies-fixed (amend k t d) x v w p q h = ap alone (p .1 .0 ∙ sym (q .1 .0))
+replies-fixed (cancel k) x v w p q h = ap alone (p .1 .0 ∙ sym (q .1 .0))
+replies-fixed (lookup k) x v w p q h = ap whole (p .1 ∙ sym (q .1))
+replies-fixed (descent k o) x v w p q h = descent-fixed x k (p .0) (q .0) o (p .1) (q .1) (p .2) (q .2) h
+replies-fixed (span lo hi o) x v w p q h = span-fixed (refusal (span lo hi o) x) (between lo hi (orders-in x)) (p .0) (q .0) o (p .1) (q .1) (p .2) (q .2)
+replies-fixed (seek lo hi l) x v w p q h = ap whole (p .1 ∙ sym (q .1))
+replies-fixed check x v w p q h = ap alone (p .1 ∙ sym (q .1))
+
+pub make-fixed : Make-fixed
+unfolding Make-fixed Make-says
+make-fixed q old v w n m a b = (a .0 ∙ sym (b .0), a .1 ∙ sym (b .1))
+
+-- WHOLE RUNS: on an image every call is decided, and an image it leaves
+all-decided : (c : Call) (x : List ℕ) → is-image x ≡ true → decided c x ≡ true
+unfolding decided
+all-decided (enter k t d) x i = refl
+all-decided (amend k t d) x i = refl
+all-decided (cancel k) x i = refl
+all-decided (lookup k) x i = refl
+all-decided (descent k o) x i = rw i
+all-decided (span lo hi o) x i = refl
+all-decided (seek lo hi l) x i = refl
+all-decided check x i = refl
+
+answers-fixed : (cs : List Call) (x v w : List ℕ) (p : Runs cs x v) (q : Runs cs x w) → is-image x ≡ true → answers cs x v p ≡ answers cs x w q
+unfolding Runs answers Replies-fixed
+answers-fixed [] x v w p q i = refl
+answers-fixed (c ∷ cs) x v w p q i =
+    let e = does-done c x (p .0) (p .1) in
+    let j : is-image (p .0) ≡ true = ap is-image e ∙ stays-image c x i in
+    let then : (y : List ℕ) → p .0 ≡ y → (t : Runs cs y w) → answers cs (p .0) v (p .2) ≡ answers cs y w t =
+    λ y f. subst (λ (z : List ℕ). (t : Runs cs z w) → answers cs (p .0) v (p .2) ≡ answers cs z w t) f (λ t. answers-fixed cs (p .0) v w (p .2) t j) in
+    let first = replies-fixed c x (p .0) (q .0) (p .1) (q .1) (all-decided c x i) in
+    let rest = then (q .0) (e ∙ sym (does-done c x (q .0) (q .1))) (q .2) in
+    λ m. first m ∷ rest m
+
+pub runs-fixed : Runs-fixed
+unfolding Runs-fixed
+runs-fixed cs x v w p q = (runs-after cs x v p ∙ sym (runs-after cs x w q), answers-fixed cs x v w p q)
