@@ -16,7 +16,7 @@ use Rattle.placement.specs.declared.Order.{Order}
 use Rattle.skiplist.specs.Image.{image, orders-in}
 use Rattle.skiplist.specs.Questions.{first-no, between, enough, lowest, asks-image, asks-span}
 use Rattle.skiplist.specs.Book.{cancel, lookup, seek, make-refusal, refusal, done}
-use Rattle.table.specs.Calls.{check-number, total-of, displayed-of}
+use Rattle.table.specs.Calls.{check-number, order-of}
 use Rattle.answers.specs.Asked.{piece, asked, sizes-asked, long-asked}
 use Rattle.answers.specs.Lent.{Lent}
 use Rattle.answers.specs.Output.{Said}
@@ -44,7 +44,7 @@ make-leaves p x = cond (ltb 65536 (long-asked p)) x (cond (eqb (make-number p) 0
 
 -- "`show` adds total and displayed"
 unfoldable pub show-lines : (table : List ℕ) → (key : ℕ) → List (List ℕ)
-show-lines x k = answer-lines (refusal (lookup k) x) (total-of k (orders-in x) ∷ displayed-of k (orders-in x) ∷ []) []
+show-lines x k = answer-lines (refusal (lookup k) x) (order-of k (orders-in x) .total ∷ order-of k (orders-in x) .displayed ∷ []) []
 
 -- "`span` the number found; then `span` prints its orders, one line each": key, total, displayed
 abbrev pub parts : Order → List ℕ

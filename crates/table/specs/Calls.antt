@@ -9,7 +9,7 @@ use Rattle.sizes.specs.Header.{sizes-in, rule-1}
 use Rattle.placement.specs.Chunks.{nodes-bytes}
 use Rattle.placement.specs.declared.Order.{Order}
 use Rattle.skiplist.specs.Image.{image, is-image, orders-in}
-use Rattle.skiplist.specs.Questions.{Question, ask, first-no, is-key, Parameters, sizes, between, enough, lowest, order}
+use Rattle.skiplist.specs.Questions.{Question, ask, first-no, is-key, Parameters, sizes, between, enough, lowest}
 use Rattle.skiplist.specs.Paths.{descent-path, path-bytes}
 -- passed on: a contract of make builds what it is asked from its arguments
 pub use Rattle.skiplist.specs.Questions.{parameters}
@@ -46,17 +46,12 @@ Amend-says k t d r x z = Edit-says (amend k t d) r x z
 unfoldable pub Cancel-says : (key : ℕ) → (r : ℕ) → (table table-now : List ℕ) → Type 0
 Cancel-says k r x z = Edit-says (cancel k) r x z
 
--- LOOKUP: 4, 5, 9; the key and its quantities
-unfoldable pub total-of : (key : ℕ) → List Order → ℕ
-total-of k [] = 0
-total-of k (o ∷ os) = cond (eqb (o .key) k) (o .total) (total-of k os)
-
-unfoldable pub displayed-of : (key : ℕ) → List Order → ℕ
-displayed-of k [] = 0
-displayed-of k (o ∷ os) = cond (eqb (o .key) k) (o .displayed) (displayed-of k os)
+-- LOOKUP: 4, 5, 9; the order with the key
+unfoldable pub order-of : (key : ℕ) → List Order → Order
+order-of k os = lowest (between k k os)
 
 unfoldable pub Look-as : (number count : ℕ) → (key : ℕ) → List Order → Reply → Type 0
-Look-as n c k os r = r ≡ gives n c (order k (total-of k os) (displayed-of k os))
+Look-as n c k os r = r ≡ gives n c (order-of k os)
 
 unfoldable pub Look-says : (table : List ℕ) → (key : ℕ) → Reply → Type 0
 Look-says x k r = Look-as (refusal (lookup k) x) 0 k (orders-in x) r

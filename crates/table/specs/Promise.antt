@@ -17,7 +17,7 @@ use Rattle.skiplist.specs.Paths.{descent-path}
 use Rattle.skiplist.specs.Book.{Call, enter, amend, cancel, lookup, descent, span, seek, check, make-refusal, book-refusal, book}
 use Rattle.skiplist.specs.Rules.{Rules}
 use Rattle.skiplist.specs.Promise.{byte-list}
-use Rattle.table.specs.Calls.{Make-says, check-number, Enter-says, Amend-says, Cancel-says, total-of, displayed-of, Look-says, Look-as, asks-first, Descent-says, Descent-as, Span-says, Span-as, Seek-says, Seek-as}
+use Rattle.table.specs.Calls.{Make-says, check-number, Enter-says, Amend-says, Cancel-says, order-of, Look-says, Look-as, asks-first, Descent-says, Descent-as, Span-says, Span-as, Seek-says, Seek-as}
 use Rattle.table.specs.declared.Reply.{Reply}
 
 -- WHAT A CALL DOES TO A TABLE, by its contract alone. A reading leaves the table
@@ -42,7 +42,7 @@ Made-by q x = (old : List ℕ) × Make-says q 0 old x
 
 -- the same orders and quantities, said of every key and not of lists
 unfoldable pub Same-orders : (one other : List Order) → Type 0
-Same-orders os qs = (k : ℕ) → (held k os ≡ held k qs) × (total-of k os ≡ total-of k qs) × (displayed-of k os ≡ displayed-of k qs)
+Same-orders os qs = (k : ℕ) → (held k os ≡ held k qs) × (order-of k os ≡ order-of k qs)
 
 -- DEMAND 3: each table is the image of what its list leaves by the plain book, and the tables are equal exactly when the orders are
 pub record Third (s : Sizes) (cs ds : List Call) (v w : List ℕ) : Type 0 where
@@ -118,13 +118,13 @@ unfolding Runs
 answers [] x z w = []
 answers (c ∷ cs) x z w = answer c x (w .0) (w .1) ∷ answers cs (w .0) z (w .2)
 
--- Document 01, "Contracts": "what none decides is named there". That is what a descent gives on bytes that pass its 4 and 5 and are no image, and nothing else
+-- Document 01, "Contracts": "what none decides is named there". On an image a definition decides every answer; on other bytes all but a descent's that passes its 4 and 5
 unfoldable pub decided : Call → (table : List ℕ) → Bool
 decided (enter k t d) x = true
 decided (amend k t d) x = true
 decided (cancel k) x = true
 decided (lookup k) x = true
-decided (descent k o) x = is-image x || not (eqb (first-no (asks-first x k)) 0)
+decided (descent k o) x = not (eqb (first-no (asks-first x k)) 0)
 decided (span lo hi o) x = true
 decided (seek lo hi l) x = true
 decided check x = true
@@ -132,7 +132,7 @@ decided check x = true
 -- EQUAL TABLES AND ARGUMENTS GIVE EQUAL ANSWERS: number, reply and output
 unfoldable pub Replies-fixed : Type 0
 Replies-fixed =
-    (c : Call) (x v w : List ℕ) (one : Does c x v) (other : Does c x w) → decided c x ≡ true → answer c x v one ≡ answer c x w other
+    (c : Call) (x v w : List ℕ) (one : Does c x v) (other : Does c x w) → (is-image x || decided c x) ≡ true → answer c x v one ≡ answer c x w other
 
 unfoldable pub Make-fixed : Type 0
 Make-fixed = (q : Parameters) (old v w : List ℕ) (n m : ℕ) → Make-says q n old v → Make-says q m old w → (n ≡ m) × (v ≡ w)

@@ -26,11 +26,10 @@ use Rattle.readings.specs.Descent.{landed}
 use Rattle.readings.specs.declared.calls.Sought.{Sought}
 use Rattle.readings.specs.declared.calls.Sought.the-variants.{Is, Nothing}
 use Rattle.readings.proofs.Laws.Answers.{known-at}
-use Rattle.readings.proofs.Laws.Replies.{key-least}
+use Rattle.readings.proofs.Laws.Replies.{key-least, sought-absent, sought-there}
 use Rattle.readings.proofs.Laws.Descents.{order-alone}
 use Rattle.edits.specs.Change.{Setting, Sure}
 use Rattle.edits.proofs.Laws.EditAnswers.{refused, accepted, known-kept, Held-at, held-at}
-use Rattle.edits.proofs.Laws.Sightings.{seen-own, unseen-held}
 use Rattle.edits.proofs.Laws.Helds.{held-done}
 
 -- the way down to the key has ended at a place, and r is the order there if it has the key
@@ -53,11 +52,11 @@ module _ (bs : List ℕ) (k t d : ℕ) (p : Sure bs k t d) (q : Geometry) (eq : 
 
   pub amend-no-9 : r ≡ Nothing → Amend-says k t d 9 bs bs
   unfolding Amend-says refusal asks first-no asks-image asks-amend asks-order
-  amend-no-9 z = refused (amend k t d) 9 bs (rw (p .image, p .key, p .quantities, unseen-held k os r sought z)) (λ y. omega arith)
+  amend-no-9 z = refused (amend k t d) 9 bs (rw (p .image, p .key, p .quantities, sought-absent k os r sought z)) (λ y. omega arith)
 
   module _ (y : Order) (z : r ≡ Is y) where
     there : held k os ≡ true
-    there = seen-own k os r sought y z
+    there = sought-there k os r sought y z .0
 
     b : Held-at k os
     b = held-at k os (good-up 1 os (w .good)) there

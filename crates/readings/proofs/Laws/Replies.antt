@@ -14,21 +14,16 @@ use Rattle.placement.specs.declared.Order.{Order}
 use Rattle.skiplist.specs.Image.{is-image, orders-in}
 use Rattle.skiplist.specs.Questions.{ask, first-no, is-key, held, between, enough, any-order, lowest, asks-image, asks-key, asks-range, asks-span, asks-seek}
 use Rattle.skiplist.specs.Book.{check, asks, refusal}
-use Rattle.skiplist.proofs.Laws.Parts.{Up, up-past}
-use Rattle.skiplist.proofs.Laws.Shapes.{held-there}
-use Rattle.skiplist.proofs.Laws.Opens.{Spot}
+use Rattle.skiplist.proofs.Laws.Segment.{held-between}
 use Rattle.skiplist.proofs.Laws.Questions.{passes}
 use Rattle.skiplist.proofs.Laws.Third.{taken}
 use Rattle.readings.specs.declared.Visit.{Visit}
 use Rattle.table.specs.declared.Reply.{Reply}
 use Rattle.readings.specs.declared.calls.Sought.{Sought}
 use Rattle.readings.specs.declared.calls.Sought.the-variants.{Is, Nothing}
-use Rattle.table.specs.Calls.{reply, gives, check-number, Look-as, Look-says, Span-as, Span-says, Seek-as, Seek-says}
-use Rattle.table.proofs.Laws.Alike.{Tells, here, there}
+use Rattle.table.specs.Calls.{reply, gives, check-number, order-of, Look-as, Look-says, Span-as, Span-says, Seek-as, Seek-says}
 use Rattle.readings.specs.Visit.{scan, starting, steps, first-of}
-use Rattle.readings.proofs.Laws.Rows.{spot-here, passed-spot}
-use Rattle.readings.proofs.Laws.Chunked.{orders-up}
-use Rattle.readings.proofs.Laws.Answers.{known-image, counted-all, written-all}
+use Rattle.readings.proofs.Laws.Answers.{counted-all, written-all}
 
 -- QUESTION 4
 pub checked-yes : (bs : List ℕ) (n : ℕ) → n ≡ check-number bs → n ≡ 0 → is-image bs ≡ true
@@ -53,64 +48,23 @@ unfolding first-of any-order lowest
 first-is [] o e = absurd (true≢false (cc))
 first-is (y ∷ ys) o e = (refl, cc)
 
-pub first-spot : (ys : List Order) (o : Order) → Is o ≡ first-of ys → Spot o ys
-unfolding first-of
-first-spot [] o e = absurd (true≢false (cc))
-first-spot (y ∷ ys) o e = let w : y ≡ o = cc in subst (λ (z : Order). Spot z (y ∷ ys)) w (spot-here y ys)
-
 pub first-empty : (ys : List Order) → Nothing ≡ first-of ys → ys ≡ []
 unfolding first-of
 first-empty [] e = refl
 first-empty (y ∷ ys) e = absurd (true≢false (cc))
 
--- AN ORDER IN A RANGE
-pub record Inside (lo hi : ℕ) (o : Order) (os : List Order) : Type 0 where
-  pub spot : Spot o os
-  pub low : lo ≤ o .key
-  pub high : o .key ≤ hi
-
-pub spot-inside : (lo hi : ℕ) (o : Order) (os : List Order) → Spot o (between lo hi os) → Inside lo hi o os
-unfolding between
-spot-inside lo hi o os w =
-    let p = passed-spot (λ q. leb lo (q .key) && leb (q .key) hi) (between lo hi) refl (λ x xs. refl) o (w .behind) os (w .before) (w .is) in
-    let t = and-parts (leb lo (o .key)) (leb (o .key) hi) (p .1) in
-    record { spot = p .0; low = leb-true lo (o .key) (t .0); high = leb-true (o .key) hi (t .1) }
-
--- what the orders tell of the key of one of them
-own-tells : (xs : List Order) (y : Order) (zs : List Order) (a : ℕ) → Up a (xs ++ y ∷ zs) → Tells (y .key) (y .total) (y .displayed) (xs ++ y ∷ zs)
-own-tells [] y zs a u = here y zs
-own-tells (x ∷ xs) y zs a u =
-    let t = there (y .key) x (xs ++ y ∷ zs) (λ e. omega (arith, up-past xs y zs _ (u .1))) in
-    let w = own-tells xs y zs _ (u .1) in
-    (t .0 ∙ w .0, t .1 ∙ w .1, t .2 ∙ w .2)
-
-spot-tells : (os : List Order) (a : ℕ) → Up a os → (o : Order) → Spot o os → Tells (o .key) (o .total) (o .displayed) os
-spot-tells os a u o w = subst (Tells (o .key) (o .total) (o .displayed)) (sym (w .is)) (own-tells (w .before) o (w .behind) a (subst (Up a) (w .is) u))
-
-pub spot-held : (o : Order) (os : List Order) → Spot o os → held (o .key) os ≡ true
-spot-held o os w = ap (held (o .key)) (w .is) ∙ held-there (w .before) o (w .behind)
-
-pub none-held : (k : ℕ) (os : List Order) → between k k os ≡ [] → held k os ≡ false
-unfolding between held
-none-held k [] e = refl
-none-held k (o ∷ os) e = go (none-held k os) (leb k (o .key)) refl (leb (o .key) k) refl e
-  where
-    go : (between k k os ≡ [] → held k os ≡ false) → (a : Bool) → leb k (o .key) ≡ a → (b : Bool) → leb (o .key) k ≡ b →
-        cond (a && b) (o ∷ between k k os) (between k k os) ≡ [] → (eqb (o .key) k || held k os) ≡ false
-    go ih true p true q e = absurd (omega (arith, ap length e))
-    go ih true p false q e = rw (ne-eqb (o .key) k (λ z. omega (arith, leb-false (o .key) k q))) (ih e)
-    go ih false p b q e = rw (ne-eqb (o .key) k (λ z. omega (arith, leb-false k (o .key) p))) (ih e)
-
 -- WHAT THE SEARCH FOR A KEY FOUND: the order that has it, or that it is not held
-module _ (bs : List ℕ) (image : is-image bs ≡ true) (k : ℕ) (q : Sought) (eq : q ≡ first-of (between k k (orders-in bs))) where
-  pub sought-absent : q ≡ Nothing → held k (orders-in bs) ≡ false
-  sought-absent z = none-held k (orders-in bs) (first-empty (between k k (orders-in bs)) (sym z ∙ eq))
+module _ (k : ℕ) (os : List Order) (q : Sought) (eq : q ≡ first-of (between k k os)) where
+  pub sought-absent : q ≡ Nothing → held k os ≡ false
+  unfolding any-order
+  sought-absent z = held-between k os .0 ∙ ap any-order (first-empty (between k k os) (sym z ∙ eq))
 
-  pub sought-there : (o : Order) → q ≡ Is o → (o .key ≡ k) × Tells k (o .total) (o .displayed) (orders-in bs)
-  sought-there o z =
-      let w = spot-inside k k o (orders-in bs) (first-spot (between k k (orders-in bs)) o (sym z ∙ eq)) in
-      let s : o .key ≡ k = omega (arith, w .low, w .high) in
-      (s, rw s at (spot-tells (orders-in bs) 1 (orders-up (sizes-in bs) bs (known-image bs image)) o (w .spot)))
+  pub sought-there : (o : Order) → q ≡ Is o → (held k os ≡ true) × (order-of k os ≡ o)
+  unfolding order-of
+  sought-there o z = let f = first-is (between k k os) o (sym z ∙ eq) in (held-between k os .0 ∙ f .0, f .1)
+
+  pub sought-key : (o : Order) → q ≡ Is o → o .key ≡ k
+  sought-key o z = let f = first-is (between k k os) o (sym z ∙ eq) in ap (λ (y : Order). y .key) (sym (f .1)) ∙ held-between k os .1 (f .0)
 
 -- LOOKUP
 module _ (bs : List ℕ) (k : ℕ) (r : Reply) where
@@ -130,13 +84,11 @@ module _ (bs : List ℕ) (k : ℕ) (r : Reply) where
     module _ (e : b ≡ true) (q : Sought) (eq : q ≡ first-of (between k k (orders-in bs))) where
       pub look-9 : q ≡ Nothing → r ≡ reply 9 0 0 0 0 → Look-says bs k r
       unfolding Look-as gives
-      look-9 z h = look-by true true false image (sym eb ∙ e) (sought-absent bs image k q eq z) h
+      look-9 z h = look-by true true false image (sym eb ∙ e) (sought-absent k (orders-in bs) q eq z) h
 
       pub look-found : (o : Order) → q ≡ Is o → r ≡ reply 0 (o .key) (o .total) (o .displayed) 0 → Look-says bs k r
       unfolding Look-as gives
-      look-found o z h =
-          let t = sought-there bs image k q eq o z in
-          look-by true true true image (sym eb ∙ e) (t .1 .0) (rw (h, t .0, t .1 .1, t .1 .2))
+      look-found o z h = let t = sought-there k (orders-in bs) q eq o z in look-by true true true image (sym eb ∙ e) (t .0) (rw (h, t .1))
 
 -- THE QUESTIONS OF A RANGE, which span and seek share
 module _ (bs : List ℕ) (lo hi : ℕ) where

@@ -76,32 +76,32 @@ row-tail s os l n ns r =
       is = f .4;
     }
 
--- AN ORDER of a list, and of those of a list that pass a test
-pub spot-here : (o : Order) (os : List Order) → Spot o (o ∷ os)
+-- AN ORDER of a list, and of those of a list from some level on
+spot-here : (o : Order) (os : List Order) → Spot o (o ∷ os)
 spot-here o os = record { before = []; behind = os; is = refl }
 
-pub spot-more : (o x : Order) (xs : List Order) → Spot o xs → Spot o (x ∷ xs)
+spot-more : (o x : Order) (xs : List Order) → Spot o xs → Spot o (x ∷ xs)
 spot-more o x xs w = record { before = x ∷ w .before; behind = w .behind; is = ap (λ (z : List Order). x ∷ z) (w .is) }
 
-module _ (test : Order → Bool) (F : List Order → List Order) (none : F [] ≡ []) (more : (x : Order) (xs : List Order) → F (x ∷ xs) ≡ cond (test x) (x ∷ F xs) (F xs)) where
-  pub passed-spot : (y : Order) (B os A : List Order) → F os ≡ A ++ y ∷ B → Spot y os × (test y ≡ true)
-  passed-spot y B [] A e = absurd (nothing A y B (sym none ∙ e))
-  passed-spot y B (x ∷ xs) A e = go (passed-spot y B xs) (test x) refl A (sym (more x xs) ∙ e)
-    where
-      go : ((A : List Order) → F xs ≡ A ++ y ∷ B → Spot y xs × (test y ≡ true)) → (t : Bool) → test x ≡ t →
-          (A : List Order) → cond t (x ∷ F xs) (F xs) ≡ A ++ y ∷ B → Spot y (x ∷ xs) × (test y ≡ true)
-      go ih true q [] h =
-          let w : x ≡ y = cc in
-          subst (λ (o : Order). Spot o (x ∷ xs) × (test o ≡ true)) w (spot-here x xs, q)
-      go ih true q (a ∷ A) h = let w = ih A (cc) in (spot-more y x xs (w .0), w .1)
-      go ih false q A h = let w = ih A h in (spot-more y x xs (w .0), w .1)
+spot-from : (s : Sizes) (k : ℕ) (y : Order) (B os A : List Order) → at-least s k os ≡ A ++ y ∷ B → Spot y os × (leb k (level s (y .key)) ≡ true)
+unfolding at-least
+spot-from s k y B [] A e = absurd (nothing A y B e)
+spot-from s k y B (x ∷ xs) A e = go (spot-from s k y B xs) (leb k (level s (x .key))) refl A e
+  where
+    go : ((A : List Order) → at-least s k xs ≡ A ++ y ∷ B → Spot y xs × (leb k (level s (y .key)) ≡ true)) → (t : Bool) → leb k (level s (x .key)) ≡ t →
+        (A : List Order) → cond t (x ∷ at-least s k xs) (at-least s k xs) ≡ A ++ y ∷ B → Spot y (x ∷ xs) × (leb k (level s (y .key)) ≡ true)
+    go ih true q [] h =
+        let w : x ≡ y = cc in
+        subst (λ (o : Order). Spot o (x ∷ xs) × (leb k (level s (o .key)) ≡ true)) w (spot-here x xs, q)
+    go ih true q (a ∷ A) h = let w = ih A (cc) in (spot-more y x xs (w .0), w .1)
+    go ih false q A h = let w = ih A h in (spot-more y x xs (w .0), w .1)
 
 -- A NODE of a level above heads a partition of this one
 heading : (s : Sizes) (os : List Order) (l : ℕ) (y : Order) (B A : List Order) → list-at s (suc l) os ≡ A ++ y ∷ B → Heading s os l y
-unfolding list-at at-least
+unfolding list-at
 heading s os l y B [] e = inl (cc)
 heading s os l y B (a ∷ A) e =
-    let w = passed-spot (λ z. leb (suc l) (level s (z .key))) (at-least s (suc l)) refl (λ x xs. refl) y B os A (cc) in
+    let w = spot-from s (suc l) y B os A (cc) in
     inr (w .0, omega (arith, leb-true (suc l) (level s (y .key)) (w .1)))
 
 -- THE ORDERS UNDER A NODE come before the next node

@@ -128,7 +128,7 @@ module _ (bs : List ℕ) (k : ℕ) (o : List ℕ) where
             descent-9 e h = record {
               turned-down = λ z. passed z;
               on-image = λ i.
-                  rw (number i true true false (sym eb ∙ rb) (room-yes i) (sought-absent bs i k f (order i f ef) e)) (
+                  rw (number i true true false (sym eb ∙ rb) (room-yes i) (sought-absent k (orders-in bs) f (order i f ef) e)) (
                     rw (h, long i),
                     written i l z ez,
                   );
@@ -140,9 +140,9 @@ module _ (bs : List ℕ) (k : ℕ) (o : List ℕ) where
             descent-found y e h = record {
               turned-down = λ z. passed z;
               on-image = λ i.
-                  let v = sought-there bs i k f (order i f ef) y e in
-                  rw (number i true true true (sym eb ∙ rb) (room-yes i) (v .1 .0)) (
-                    rw (h, v .0, v .1 .1, v .1 .2, long i),
+                  let v = sought-there k (orders-in bs) f (order i f ef) y e in
+                  rw (number i true true true (sym eb ∙ rb) (room-yes i) (v .0)) (
+                    rw (h, v .1, long i),
                     written i l z ez,
                   );
               within = inside (rw h);

@@ -1,16 +1,16 @@
--- For the check and for spans: a partition from what stands behind its head; and the keys that a node's walk gives.
+-- For the check and for spans: a partition from what stands behind its head; the keys that a node's walk gives; the order with a key.
 use mathlib.Core.Path.{_≡_, refl, _∙_}
-use mathlib.Core.Bool.{Bool, true, false, cond, and-false}
+use mathlib.Core.Bool.{Bool, true, false, _&&_, _||_, cond, and-false, false≢true}
 use mathlib.Core.List.{List, [], _∷_, _++_}
 use Prim.Native.Nat.{ℕ, suc, _≤_, _<_}
 use native.Mathlib.Omega.{arith}
-use borrow.Author.Tests.{lt-leb}
-use lib.Dec.{leb}
+use borrow.Author.Tests.{eqb-true, eqb-false, leb-true, le-leb, lt-leb}
+use lib.Dec.{leb, eqb}
 use Rattle.sizes.specs.Hash.{level}
 use Rattle.sizes.specs.declared.Sizes.{Sizes}
 use Rattle.placement.specs.declared.Order.{Order}
 use Rattle.skiplist.specs.Lists.{at-least, starts-one, run}
-use Rattle.skiplist.specs.Questions.{between}
+use Rattle.skiplist.specs.Questions.{held, between, any-order, lowest}
 use Rattle.skiplist.proofs.Laws.Parts.{Up, up-from, part}
 use Rattle.skiplist.proofs.Laws.Edits.{stays, tail-part, tail-high, part-right}
 
@@ -46,3 +46,27 @@ pub between-above : (lo hi a : ℕ) (xs : List Order) → hi < a → Up a xs →
 unfolding between
 between-above lo hi a [] h u = refl
 between-above lo hi a (x ∷ xs) h u = rw (lt-leb (x .key) hi (omega (arith, u .0)), and-false) (between-above lo hi (suc (x .key)) xs (omega (arith, u .0)) (u .1))
+
+-- the orders with a key: one that has it comes, another does not
+pub between-own : (k : ℕ) (o : Order) (os : List Order) → o .key ≡ k → between k k (o ∷ os) ≡ o ∷ between k k os
+unfolding between
+between-own k o os e = rw (le-leb k (o .key) (omega (arith, e)), le-leb (o .key) k (omega (arith, e)))
+
+pub between-other : (k : ℕ) (o : Order) (os : List Order) → (o .key ≡ k → ⊥) → between k k (o ∷ os) ≡ between k k os
+unfolding between
+between-other k o os h = go (leb k (o .key)) refl (leb (o .key) k) refl
+  where
+    go : (a : Bool) → leb k (o .key) ≡ a → (b : Bool) → leb (o .key) k ≡ b → cond (a && b) (o ∷ between k k os) (between k k os) ≡ between k k os
+    go true p true q = absurd (h (omega (arith, leb-true k (o .key) p, leb-true (o .key) k q)))
+    go true p false q = refl
+    go false p b q = refl
+
+pub held-between : (k : ℕ) (os : List Order) → (held k os ≡ any-order (between k k os)) × (any-order (between k k os) ≡ true → lowest (between k k os) .key ≡ k)
+unfolding held between any-order lowest
+held-between k [] = (refl, λ h. absurd (false≢true h))
+held-between k (o ∷ os) = go (eqb (o .key) k) refl (held-between k os)
+  where
+    go : (t : Bool) → eqb (o .key) k ≡ t → (held k os ≡ any-order (between k k os)) × (any-order (between k k os) ≡ true → lowest (between k k os) .key ≡ k) →
+        ((t || held k os) ≡ any-order (between k k (o ∷ os))) × (any-order (between k k (o ∷ os)) ≡ true → lowest (between k k (o ∷ os)) .key ≡ k)
+    go true e ih = let f = eqb-true (o .key) k e in rw (between-own k o os f) (refl, λ h. f)
+    go false e ih = rw (between-other k o os (eqb-false (o .key) k e)) ih

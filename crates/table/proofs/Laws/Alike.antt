@@ -7,35 +7,32 @@ use native.Mathlib.Omega.{arith}
 use borrow.Author.Tests.{ltb-true, ltb-false, eqb-true, eqb-false, eq-eqb, ne-eqb}
 use lib.Dec.{ltb, eqb}
 use Rattle.placement.specs.declared.Order.{Order}
-use Rattle.skiplist.specs.Questions.{held}
+use Rattle.skiplist.specs.Questions.{held, lowest}
 use Rattle.skiplist.proofs.Laws.Parts.{Up}
+use Rattle.skiplist.proofs.Laws.Segment.{between-above, between-own, between-other}
 use Rattle.skiplist.proofs.Laws.Kept.{held-past}
-use Rattle.table.specs.Calls.{total-of, displayed-of}
+use Rattle.table.specs.Calls.{order-of}
 use Rattle.table.specs.Promise.{Same-orders}
 
--- what orders tell of a key that they have; and that two lists tell the same of a key
-abbrev pub Tells : (key total displayed : ℕ) → List Order → Type 0
-Tells k t d os = (held k os ≡ true) × (total-of k os ≡ t) × (displayed-of k os ≡ d)
+-- what orders tell of one that they have; and that two lists tell the same of a key
+abbrev pub Tells : Order → List Order → Type 0
+Tells o os = (held (o .key) os ≡ true) × (order-of (o .key) os ≡ o)
 
 abbrev pub Same-at : (key : ℕ) → (one other : List Order) → Type 0
-Same-at k os qs = (held k os ≡ held k qs) × (total-of k os ≡ total-of k qs) × (displayed-of k os ≡ displayed-of k qs)
+Same-at k os qs = (held k os ≡ held k qs) × (order-of k os ≡ order-of k qs)
 
 -- of the first key, of another key, and of one below all
-pub here : (o : Order) (os : List Order) → Tells (o .key) (o .total) (o .displayed) (o ∷ os)
-unfolding held total-of displayed-of
-here o os = rw (eq-eqb (o .key) (o .key) refl) (refl, refl, refl)
+pub here : (o : Order) (os : List Order) → Tells o (o ∷ os)
+unfolding held order-of lowest
+here o os = (rw (eq-eqb (o .key) (o .key) refl), ap lowest (between-own (o .key) o os refl))
 
 pub there : (k : ℕ) (o : Order) (os : List Order) → (o .key ≡ k → ⊥) → Same-at k (o ∷ os) os
-unfolding held total-of displayed-of
-there k o os h = rw (ne-eqb (o .key) k h) (refl, refl, refl)
+unfolding held order-of
+there k o os h = (rw (ne-eqb (o .key) k h), ap lowest (between-other k o os h))
 
-past : (k a : ℕ) (os : List Order) → k < a → Up a os → (total-of k os ≡ 0) × (displayed-of k os ≡ 0)
-unfolding total-of displayed-of
-past k a [] h u = (refl, refl)
-past k a (o ∷ os) h u =
-    let t = there k o os (omega (arith, u .0)) in
-    let w = past k (suc (o .key)) os (omega (arith, u .0)) (u .1) in
-    (t .1 ∙ w .0, t .2 ∙ w .1)
+past : (k a : ℕ) (os : List Order) → k < a → Up a os → (held k os ≡ false) × (order-of k os ≡ lowest [])
+unfolding order-of
+past k a os h u = (held-past k a os h u, ap lowest (between-above k k a os h u))
 
 pub none-held : (k : ℕ) → held k [] ≡ false
 unfolding held
@@ -48,7 +45,7 @@ missing a o os qs v e h = false≢true (sym (held-past (o .key) a qs e v) ∙ sy
 
 turned : (os qs : List Order) → Same-orders os qs → Same-orders qs os
 unfolding Same-orders
-turned os qs h k = (sym (h k .0), sym (h k .1), sym (h k .2))
+turned os qs h k = (sym (h k .0), sym (h k .1))
 
 rests : (o q : Order) (os qs : List Order) → o .key ≡ q .key → Up (suc (o .key)) os → Up (suc (q .key)) qs → Same-orders (o ∷ os) (q ∷ qs) → Same-orders os qs
 unfolding Same-orders
@@ -59,12 +56,12 @@ rests o q os qs e u v h k = go (eqb (o .key) k) refl
         let f = eqb-true (o .key) k g in
         let i = past k (suc (o .key)) os (omega arith) u in
         let j = past k (suc (q .key)) qs (omega arith) v in
-        (held-past k (suc (o .key)) os (omega arith) u ∙ sym (held-past k (suc (q .key)) qs (omega arith) v), i .0 ∙ sym (j .0), i .1 ∙ sym (j .1))
+        (i .0 ∙ sym (j .0), i .1 ∙ sym (j .1))
     go false g =
         let f = eqb-false (o .key) k g in
         let i = there k o os f in
         let j = there k q qs (λ w. f (e ∙ w)) in
-        (sym (i .0) ∙ h k .0 ∙ j .0, sym (i .1) ∙ h k .1 ∙ j .1, sym (i .2) ∙ h k .2 ∙ j .2)
+        (sym (i .0) ∙ h k .0 ∙ j .0, sym (i .1) ∙ h k .1 ∙ j .1)
 
 pub same-equal : (a : ℕ) (os qs : List Order) → Up a os → Up a qs → Same-orders os qs → os ≡ qs
 unfolding Same-orders
@@ -78,11 +75,10 @@ same-equal a (o ∷ os) (q ∷ qs) u v h = go (ltb (o .key) (q .key)) refl (ltb 
     go false e true f ih = absurd (missing (o .key) q qs (o ∷ os) (omega arith, u .1) (ltb-true (q .key) (o .key) f) (turned (o ∷ os) (q ∷ qs) h))
     go false e false f ih =
         let k : o .key ≡ q .key = omega (arith, ltb-false (o .key) (q .key) e, ltb-false (q .key) (o .key) f) in
-        let t : o .total ≡ q .total = sym (here o os .1) ∙ h (o .key) .1 ∙ rw k (here q qs .1) in
-        let d : o .displayed ≡ q .displayed = sym (here o os .2) ∙ h (o .key) .2 ∙ rw k (here q qs .2) in
+        let w : o ≡ q = sym (here o os .1) ∙ h (o .key) .1 ∙ rw k (here q qs .1) in
         let r = ih (subst (λ (z : ℕ). Up (suc z) os) k (u .1)) (rests o q os qs k (u .1) (v .1) h) in
-        λ i. record { key = k i; total = t i; displayed = d i } ∷ r i
+        λ i. w i ∷ r i
 
 pub equal-same : (os qs : List Order) → os ≡ qs → Same-orders os qs
 unfolding Same-orders
-equal-same os qs e k = (ap (held k) e, ap (total-of k) e, ap (displayed-of k) e)
+equal-same os qs e k = (ap (held k) e, ap (order-of k) e)

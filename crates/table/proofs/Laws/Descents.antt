@@ -15,10 +15,10 @@ use Rattle.sizes.proofs.Laws.Sizes.{and-parts}
 use Rattle.sizes.proofs.Laws.Numbers.{length-big}
 use Rattle.placement.proofs.Laws.Rows.{length-rows}
 use Rattle.skiplist.specs.Image.{is-image, orders-in}
-use Rattle.skiplist.specs.Questions.{first-no, asks-image, asks-key, is-key, held, order}
+use Rattle.skiplist.specs.Questions.{first-no, asks-image, asks-key, is-key, held}
 use Rattle.skiplist.specs.Paths.{descent-path, path-bytes, asks-descent}
 use Rattle.skiplist.specs.Book.{lookup, descent, asks, refusal}
-use Rattle.table.specs.Calls.{reply, gives, total-of, displayed-of, Look-says, Look-as, asks-first, shown, Descent-as, Within, Descent-says}
+use Rattle.table.specs.Calls.{reply, gives, order-of, Look-says, Look-as, asks-first, shown, Descent-as, Within, Descent-says}
 use Rattle.table.specs.Promise.{Descent-looks-up}
 use Rattle.table.specs.declared.Reply.{Reply}
 
@@ -101,7 +101,7 @@ descent-some x k o = go (is-image x) refl (is-key k) refl
         let n = refusal (descent k o) x in
         let path = descent-path (sizes-in x) (orders-in x) k in
         let is = shown n path in
-        let r = gives n (length is) (order k (total-of k (orders-in x)) (displayed-of k (orders-in x))) in
+        let r = gives n (length is) (order-of k (orders-in x)) in
         let now = path-bytes is ++ drop (2 * length is) o in
         let w : Descent-as n k (orders-in x) path r o now = (refl, refl) in (
           r,

@@ -52,18 +52,7 @@ pub make-fixed : Make-fixed
 unfolding Make-fixed Make-says
 make-fixed q old v w n m a b = (a .0 ∙ sym (b .0), a .1 ∙ sym (b .1))
 
--- WHOLE RUNS: on an image every call is decided, and an image it leaves
-all-decided : (c : Call) (x : List ℕ) → is-image x ≡ true → decided c x ≡ true
-unfolding decided
-all-decided (enter k t d) x i = refl
-all-decided (amend k t d) x i = refl
-all-decided (cancel k) x i = refl
-all-decided (lookup k) x i = refl
-all-decided (descent k o) x i = rw i
-all-decided (span lo hi o) x i = refl
-all-decided (seek lo hi l) x i = refl
-all-decided check x i = refl
-
+-- WHOLE RUNS: an image stays one
 answers-fixed : (cs : List Call) (x v w : List ℕ) (p : Runs cs x v) (q : Runs cs x w) → is-image x ≡ true → answers cs x v p ≡ answers cs x w q
 unfolding Runs answers Replies-fixed
 answers-fixed [] x v w p q i = refl
@@ -72,7 +61,7 @@ answers-fixed (c ∷ cs) x v w p q i =
     let j : is-image (p .0) ≡ true = ap is-image e ∙ stays-image c x i in
     let then : (y : List ℕ) → p .0 ≡ y → (t : Runs cs y w) → answers cs (p .0) v (p .2) ≡ answers cs y w t =
     λ y f. subst (λ (z : List ℕ). (t : Runs cs z w) → answers cs (p .0) v (p .2) ≡ answers cs z w t) f (λ t. answers-fixed cs (p .0) v w (p .2) t j) in
-    let first = replies-fixed c x (p .0) (q .0) (p .1) (q .1) (all-decided c x i) in
+    let first = replies-fixed c x (p .0) (q .0) (p .1) (q .1) (rw i) in
     let rest = then (q .0) (e ∙ sym (does-done c x (q .0) (q .1))) (q .2) in
     λ m. first m ∷ rest m
 

@@ -2,7 +2,7 @@
 use mathlib.Core.Path.{_≡_, refl, sym, ap, _∙_, subst}
 use mathlib.Core.Bool.{Bool, true, false, cond, not, false≢true}
 use mathlib.Core.List.{List, [], _∷_, _++_}
-use Prim.Native.Nat.{ℕ, zero, suc, _*_, _≤_, _<_}
+use Prim.Native.Nat.{ℕ, zero, suc, _*_, _≤_}
 use native.Mathlib.Omega.{arith}
 use borrow.Author.Tests.{leb-true, eqb-false, eq-eqb}
 use lib.Dec.{ltb, leb, eqb}
@@ -11,7 +11,7 @@ use Rattle.sizes.specs.Numbers.{big, value-from, field, rows, rows-in}
 use Rattle.sizes.specs.Sizes.{least-power, beta, sizes-good, seed-good, made}
 use Rattle.sizes.specs.Hash.{hash-from, h, g, divides-from, level}
 use Rattle.sizes.specs.Header.{block-long, table-long, header, sizes-in, held-in, rule-1}
-use Rattle.placement.specs.Blocks.{Among, around, stored, place-from, placed}
+use Rattle.placement.specs.Blocks.{around, stored, place-from, placed}
 use Rattle.placement.specs.Labels.{same-label, home}
 use Rattle.placement.specs.Chunks.{node-bytes, block-bytes}
 use Rattle.placement.specs.Decode.{node-in, head-label, chunk-of, block-of, blocks-in}
@@ -42,31 +42,31 @@ unfolding Edit-says
 edit-holds c x z w = subst (Holds (sizes-in x) (changed c (orders-in x))) (sym (w .1)) (done-holds c x (sym (w .0)))
 
 -- an order, with its quantities
-into-tells : (o : Order) (os : List Order) → held (o .key) os ≡ false → Tells (o .key) (o .total) (o .displayed) (into o os)
+into-tells : (o : Order) (os : List Order) → held (o .key) os ≡ false → Tells o (into o os)
 unfolding into held
 into-tells o [] e = here o []
 into-tells o (q ∷ os) e = go (ltb (o .key) (q .key)) (into-tells o os (or-right (eqb (q .key) (o .key)) (held (o .key) os) e))
   where
-    go : (t : Bool) → Tells (o .key) (o .total) (o .displayed) (into o os) → Tells (o .key) (o .total) (o .displayed) (cond t (o ∷ q ∷ os) (q ∷ into o os))
+    go : (t : Bool) → Tells o (into o os) → Tells o (cond t (o ∷ q ∷ os) (q ∷ into o os))
     go true w = here o (q ∷ os)
     go false w =
         let n = there (o .key) q (into o os) (eqb-false (q .key) (o .key) (or-left (eqb (q .key) (o .key)) (held (o .key) os) e)) in
-        (n .0 ∙ w .0, n .1 ∙ w .1, n .2 ∙ w .2)
+        (n .0 ∙ w .0, n .1 ∙ w .1)
 
-with-tells : (c : Call) (k t d : ℕ) (x z : List ℕ) → changed c (orders-in x) ≡ with-order (order k t d) (orders-in x) → Edit-says c 0 x z → Tells k t d (orders-in z)
+with-tells : (c : Call) (o : Order) (x z : List ℕ) → changed c (orders-in x) ≡ with-order o (orders-in x) → Edit-says c 0 x z → Tells o (orders-in z)
 unfolding Edit-says with-order
-with-tells c k t d x z e w =
+with-tells c o x z e w =
     let p = image-parts x (taken c x (sym (w .0)) .0) in
-    rw (edit-holds c x z w .orders, e) (into-tells (order k t d) (without k (orders-in x)) (held-without k 1 (orders-in x) (good-up 1 (orders-in x) (p .orders-kept .good))))
+    rw (edit-holds c x z w .orders, e) (into-tells o (without (o .key) (orders-in x)) (held-without (o .key) 1 (orders-in x) (good-up 1 (orders-in x) (p .orders-kept .good))))
 
-pub enter-tells : (k t d : ℕ) (x z : List ℕ) → Enter-says k t d 0 x z → Tells k t d (orders-in z)
+pub enter-tells : (k t d : ℕ) (x z : List ℕ) → Enter-says k t d 0 x z → Tells (order k t d) (orders-in z)
 unfolding Enter-says changed
-enter-tells k t d x z w = with-tells (enter k t d) k t d x z refl w
+enter-tells k t d x z w = with-tells (enter k t d) (order k t d) x z refl w
 
 -- an amend that leaves the old displayed quantity, or the old total
-pub amend-tells : (k t d : ℕ) (x z : List ℕ) → Amend-says k t d 0 x z → Tells k t d (orders-in z)
+pub amend-tells : (k t d : ℕ) (x z : List ℕ) → Amend-says k t d 0 x z → Tells (order k t d) (orders-in z)
 unfolding Amend-says changed
-amend-tells k t d x z w = with-tells (amend k t d) k t d x z refl w
+amend-tells k t d x z w = with-tells (amend k t d) (order k t d) x z refl w
 
 -- a cancel: an order was there, and is gone
 key-held : (s : Sizes) (k : ℕ) (os : List Order) → book-refusal s (cancel k) os ≡ 0 → held k os ≡ true
@@ -197,21 +197,6 @@ zero-12 x lo hi r w e = ap any-order (sym (zero-finds-all (between lo hi (orders
 pub hidden-given : (x : List ℕ) (lo hi l : ℕ) (r : Reply) → Seek-says x lo hi l r → 1 ≤ l → r .number ≡ 0 → r .displayed ≡ 0 → ⊥
 unfolding Seek-lowest reserve
 hidden-given x lo hi l r w h n e = omega (arith, rw (eq-eqb (r .displayed) 0 e) at (seek-lowest x lo hi l r w n .has))
-
--- one that gives an order though one with a smaller key would do: the highest, whatever comes first, the best
-pub not-lowest : (x : List ℕ) (lo hi l : ℕ) (r : Reply) (q : Order) → Seek-says x lo hi l r → r .number ≡ 0 → Among q (orders-in x) → lo ≤ q .key → q .key ≤ hi →
-    l ≤ reserve q → q .key < r .key → ⊥
-unfolding Seek-lowest
-not-lowest x lo hi l r q w n a y z h b = omega (arith, seek-lowest x lo hi l r w n .smallest q a y z h)
-
--- the smallest key whether or not it has the reserve, or of the whole table
-pub without-reserve : (x : List ℕ) (lo hi l : ℕ) (r : Reply) → Seek-says x lo hi l r → r .number ≡ 0 → reserve (order (r .key) (r .total) (r .displayed)) < l → ⊥
-unfolding Seek-lowest
-without-reserve x lo hi l r w n h = omega (arith, seek-lowest x lo hi l r w n .has)
-
-pub outside : (x : List ℕ) (lo hi l : ℕ) (r : Reply) → Seek-says x lo hi l r → r .number ≡ 0 → (lo ≤ r .key) × (r .key ≤ hi)
-unfolding Seek-lowest
-outside x lo hi l r w n = seek-lowest x lo hi l r w n .inside
 
 -- a call that gives 4 to all: 4 is given only of bytes that are no image
 no-other-4 : (s : Sizes) (c : Call) (os : List Order) → apart 4 (asks s c os) ≡ true
@@ -350,7 +335,7 @@ pub not-added : (r : ℕ) (z : List ℕ) → Amend-says 4 10 0 r with-both z →
 unfolding Amend-says Edit-says
 not-added r z w = w .0 ∙ computed .lacks-4
 
-pub amended : (r : ℕ) (z : List ℕ) → Amend-says 3 10 0 r with-both z → (r ≡ 0) × Tells 3 10 0 (orders-in z)
+pub amended : (r : ℕ) (z : List ℕ) → Amend-says 3 10 0 r with-both z → (r ≡ 0) × Tells (order 3 10 0) (orders-in z)
 unfolding Amend-says Edit-says
 amended r z w = (w .0 ∙ computed .amends, amend-tells 3 10 0 with-both z (sym (computed .amends), w .1))
 

@@ -2,9 +2,9 @@
 use mathlib.Core.Path.{_∙_}
 use borrow.Author.Needs.{needs}
 use Rattle.readings.proofs.Laws.Answers.{known-at, known-long}
+use Rattle.readings.proofs.Laws.Replies.{sought-absent, sought-there}
 use Rattle.edits.proofs.Laws.EditAnswers.{asked-sure, enter-asked, key-some, held-told}
 use Rattle.edits.proofs.Laws.SweptImage.{swept-full}
-use Rattle.edits.proofs.Laws.Sightings.{seen-own, unseen-held}
 use Rattle.edits.proofs.Laws.EnterAnswers.{enter-no-13, enter-no-7, enter-free}
 use Rattle.edits.proofs.changes.enter.Statement.{statement}
 use Rattle.edits.proofs.changes.enter.Tie as tie
@@ -29,7 +29,7 @@ returns-2 c =
     let q = o .before .before in
     let e = q .before .before in
     let p = asked-sure _ _ (e .before .before .examine .ensures .image) _ _ _ _ (e .before .asked .ensures) (e .if1 .left) in
-    enter-no-13 _ _ _ _ _ p (q .geometry-of .ensures .0) (seen-own _ _ _ (o .order-of .ensures) (w .0 .0) (w .1))
+    enter-no-13 _ _ _ _ _ p (q .geometry-of .ensures .0) (sought-there _ _ _ (o .order-of .ensures) (w .0 .0) (w .1) .0)
 
 field-requires : tie.Need-field-requires
 field-requires c κs =
@@ -44,7 +44,7 @@ returns-3 c =
     let q = o .before .before in
     let e = q .before .before in
     let p = asked-sure _ _ (e .before .before .examine .ensures .image) _ _ _ _ (e .before .asked .ensures) (e .if1 .left) in
-    enter-no-7 _ _ _ _ _ p (q .geometry-of .ensures .0) (unseen-held _ _ _ (o .order-of .ensures) (search needs)) _ (held-told _ _ (f .field .ensures)) (c .if2 .taken)
+    enter-no-7 _ _ _ _ _ p (q .geometry-of .ensures .0) (sought-absent _ _ _ (o .order-of .ensures) (search needs)) _ (held-told _ _ (f .field .ensures)) (c .if2 .taken)
 
 enter-free-requires : tie.Need-enter-free-requires
 enter-free-requires c κs =
@@ -55,7 +55,7 @@ enter-free-requires c κs =
     let m = e .before .before .examine .ensures in
     let p = asked-sure _ _ (m .image) _ _ _ _ (e .before .asked .ensures) (e .if1 .left) in
     let n = held-told _ _ (f .field .ensures) in
-    (p, enter-free _ _ _ _ _ p (q .geometry-of .ensures .0) (unseen-held _ _ _ (o .order-of .ensures) (search needs)) _ n (c .before .if2 .left), n, swept-full _ _ _ (m .count (m .image ∙ p .image)) (q .geometry-of .ensures .0) (p .image), q .geometry-of .ensures .1)
+    (p, enter-free _ _ _ _ _ p (q .geometry-of .ensures .0) (sought-absent _ _ _ (o .order-of .ensures) (search needs)) _ n (c .before .if2 .left), n, swept-full _ _ _ (m .count (m .image ∙ p .image)) (q .geometry-of .ensures .0) (p .image), q .geometry-of .ensures .1)
 
 pub enter-spec : {M : Type 1} → statement M
 enter-spec =
