@@ -17,7 +17,7 @@ use Rattle.lines.specs.declared.Call.{Call}
 use Rattle.lines.specs.declared.Call.the-variants.{Bad, Make, Put, Cancel, Show, Span, Seek, Blocks}
 use Rattle.skiplist.specs.Image.{image}
 use Rattle.table.specs.Calls.{Make-says, Edit-says, Cancel-says}
-use Rattle.answers.specs.Answers.{answer-lines, mark-lines, make-number, make-lines, make-leaves, show-lines, span-lines, seek-lines, blocks-lines, leaves, prints, Step}
+use Rattle.answers.specs.Answers.{answer-lines, mark-lines, make-number, make-lines, make-leaves, leaves, prints, Step}
 use Rattle.answers.specs.Asked.{piece, sizes-asked, long-asked, Make-asked}
 use Rattle.answers.specs.Lent.{Lent, Front}
 use Rattle.answers.specs.Output.{Said}
@@ -89,46 +89,28 @@ module _ (c : Call) (p table out out′ : List ℕ) (room : ℕ) (d : Lengths) (
   abbrev x : List ℕ
   x = take (d .long) table
 
-  said-as : (lines : List (List ℕ)) → lines ≡ prints c p room x → Said out (d .used) lines out′ u → Said out (d .used) (prints c p room x) out′ u
-  said-as lines e s = subst (λ (ls : List (List ℕ)). Said out (d .used) ls out′ u) e s
-
-  step-kept : (lines : List (List ℕ)) → x ≡ leaves c p x → lines ≡ prints c p room x → Said out (d .used) lines out′ u → Step c p room d table out (lengths (d .long) u) table out′
-  step-kept lines a e s = record { left = a; behind = refl; lent = l; said = said-as lines e s }
+  -- a reading, or no call at all
+  pub step-kept : (b : Call) → c ≡ b → leaves b p x ≡ x → Said out (d .used) (prints b p room x) out′ u → Step c p room d table out (lengths (d .long) u) table out′
+  step-kept b e a s = record { left = rw e (sym a); behind = refl; lent = l; said = rw e s }
 
   -- an edit: its number is all that it prints
-  step-changed : (new : List ℕ) (n : ℕ) → length new ≡ length table → drop (d .long) new ≡ drop (d .long) table → take (d .long) new ≡ leaves c p x →
-      answer-lines n [] [] ≡ prints c p room x → Said out (d .used) (row n [] ∷ []) out′ u → Step c p room d table out (lengths (d .long) u) new out′
-  step-changed new n w b a e s = record { left = a; behind = b; lent = record { whole = w ∙ l .whole; within = l .within }; said = said-as _ (alone n ∙ e) s }
+  module _ (new : List ℕ) (n : ℕ) (s : Said out (d .used) (row n [] ∷ []) out′ u) where
+    step-changed : length new ≡ length table → drop (d .long) new ≡ drop (d .long) table → take (d .long) new ≡ leaves c p x → answer-lines n [] [] ≡ prints c p room x →
+        Step c p room d table out (lengths (d .long) u) new out′
+    step-changed w b a e = record {
+      left = a;
+      behind = b;
+      lent = record { whole = w ∙ l .whole; within = l .within };
+      said = subst (λ (ls : List (List ℕ)). Said out (d .used) ls out′ u) (alone n ∙ e) s;
+    }
 
-  pub step-put : (new : List ℕ) (n : ℕ) → c ≡ Put → Front (d .long) table new (Put-does (piece p 1) (piece p 2) (piece p 3) n) → Said out (d .used) (row n [] ∷ []) out′ u
-      → Step c p room d table out (lengths (d .long) u) new out′
-  unfolding leaves prints Put-does
-  step-put new n e f s = step-changed new n (f .whole) (f .behind) (rw e (f .says .1)) (rw (e, f .says .0)) s
+    pub step-put : c ≡ Put → Front (d .long) table new (Put-does (piece p 1) (piece p 2) (piece p 3) n) → Step c p room d table out (lengths (d .long) u) new out′
+    unfolding leaves prints Put-does
+    step-put e f = step-changed (f .whole) (f .behind) (rw e (f .says .1)) (rw (e, f .says .0))
 
-  pub step-cancel : (new : List ℕ) (n : ℕ) → c ≡ Cancel → Front (d .long) table new (Cancel-says (piece p 1) n) → Said out (d .used) (row n [] ∷ []) out′ u
-      → Step c p room d table out (lengths (d .long) u) new out′
-  unfolding leaves prints Cancel-says Edit-says
-  step-cancel new n e f s = step-changed new n (f .whole) (f .behind) (rw e (f .says .1)) (rw (e, f .says .0)) s
-
-  pub step-show : c ≡ Show → Said out (d .used) (show-lines x (piece p 1)) out′ u → Step c p room d table out (lengths (d .long) u) table out′
-  unfolding leaves prints
-  step-show e s = step-kept _ (rw e) (rw e) s
-
-  pub step-span : c ≡ Span → Said out (d .used) (span-lines x (piece p 1) (piece p 2) room) out′ u → Step c p room d table out (lengths (d .long) u) table out′
-  unfolding leaves prints
-  step-span e s = step-kept _ (rw e) (rw e) s
-
-  pub step-seek : c ≡ Seek → Said out (d .used) (seek-lines x (piece p 1) (piece p 2) (piece p 3)) out′ u → Step c p room d table out (lengths (d .long) u) table out′
-  unfolding leaves prints
-  step-seek e s = step-kept _ (rw e) (rw e) s
-
-  pub step-blocks : c ≡ Blocks → Said out (d .used) (blocks-lines x) out′ u → Step c p room d table out (lengths (d .long) u) table out′
-  unfolding leaves prints
-  step-blocks e s = step-kept _ (rw e) (rw e) s
-
-  pub step-bad : c ≡ Bad → Said out (d .used) mark-lines out′ u → Step c p room d table out (lengths (d .long) u) table out′
-  unfolding leaves prints
-  step-bad e s = step-kept _ (rw e) (rw e) s
+    pub step-cancel : c ≡ Cancel → Front (d .long) table new (Cancel-says (piece p 1) n) → Step c p room d table out (lengths (d .long) u) new out′
+    unfolding leaves prints Cancel-says Edit-says
+    step-cancel e f = step-changed (f .whole) (f .behind) (rw e (f .says .1)) (rw (e, f .says .0))
 
 -- WHAT A MAKE LEAVES does not depend on the room for a span
 pub step-make : (c : Call) (p table out new out′ : List ℕ) (room : ℕ) (d e : Lengths) → c ≡ Make → Step Make p 0 d table out e new out′ → Step c p room d table out e new out′

@@ -12,7 +12,6 @@ use lib.Dec.{leb}
 use lib.ListN.{length}
 use Rattle.sizes.specs.Numbers.{big, field}
 use Rattle.sizes.specs.Sizes.{seed-good}
-use Rattle.sizes.specs.Hash.{level}
 use Rattle.sizes.specs.Header.{header, sizes-in, held-in}
 use Rattle.placement.specs.Place.{Shaped}
 use Rattle.sizes.specs.declared.Sizes.{Sizes}

@@ -20,7 +20,7 @@ use Rattle.skiplist.specs.Lists.{first-key, chunks}
 use Rattle.skiplist.specs.Image.{image, is-image, orders-in, fits}
 use Rattle.skiplist.specs.Questions.{first-no, asks-image, asks-order, asks-room, asks-enter, is-key, held, order, with-order}
 use Rattle.skiplist.specs.Book.{enter, asks, changed, book-refusal, refusal}
-use Rattle.skiplist.proofs.Laws.Parts.{Up, up-from, good-up}
+use Rattle.skiplist.proofs.Laws.Parts.{up-from, good-up}
 use Rattle.skiplist.proofs.Laws.Edits.{head-part, level-most}
 use Rattle.skiplist.proofs.Laws.Shapes.{with-new}
 use Rattle.skiplist.proofs.Laws.Kept.{fits-parts, fits-make, kept-enter}

@@ -21,7 +21,6 @@ use Rattle.skiplist.proofs.Laws.Nodes.{below-more}
 use Rattle.skiplist.proofs.Laws.Descent.{below-both, start-top, head-high, head-low}
 use Rattle.skiplist.proofs.Laws.Edits.{beta-least, level-least, head-part, tail-part, head-part-first, part-in, part-left, part-right, part-other}
 use Rattle.table.proofs.Laws.MaskedKeys.{head-most, tail-most}
-use Rattle.levels.specs.declared.Trail.{Trail}
 use Rattle.levels.specs.Edit.{Way, replaced}
 use Rattle.levels.specs.Ways.{Trek, trek, starting, down-in, way-down}
 use Rattle.levels.proofs.Laws.Leading.{Seated}

@@ -12,7 +12,7 @@ use Rattle.sizes.specs.Hash.{level}
 use Rattle.sizes.specs.Header.{header}
 use Rattle.sizes.specs.declared.Sizes.{Sizes}
 use Rattle.placement.specs.declared.Order.{Order}
-use Rattle.skiplist.specs.Lists.{masked, first-key, chunks}
+use Rattle.skiplist.specs.Lists.{masked, first-key}
 use Rattle.skiplist.specs.Image.{image}
 use Rattle.skiplist.proofs.Laws.Parts.{Up, part}
 use Rattle.skiplist.proofs.Laws.Masks.{masked-one}

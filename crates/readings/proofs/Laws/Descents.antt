@@ -19,7 +19,7 @@ use Rattle.placement.specs.declared.Order.{Order}
 use Rattle.sizes.proofs.Laws.Sizes.{and-parts}
 use Rattle.skiplist.specs.Lists.{front}
 use Rattle.skiplist.specs.Image.{orders-in}
-use Rattle.skiplist.specs.Questions.{between, reserve}
+use Rattle.skiplist.specs.Questions.{between}
 use Rattle.skiplist.specs.Paths.{descent-path, path-bytes}
 use Rattle.skiplist.proofs.Laws.Parts.{Up, up-from, up-front, below, below-here}
 use Rattle.skiplist.proofs.Laws.Shapes.{Place, there, absent, place, up-behind}

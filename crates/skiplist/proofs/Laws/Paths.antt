@@ -22,7 +22,7 @@ use Rattle.placement.proofs.Laws.Maps.{lawful}
 use Rattle.placement.proofs.Laws.Kinds.{one-place}
 use Rattle.placement.proofs.Laws.Tables.{found-there}
 use Rattle.sizes.proofs.Laws.Sizes.{some-blocks}
-use Rattle.skiplist.specs.Lists.{front, at-least, list-at, first-key, last-from, pieces, chunks, blocks}
+use Rattle.skiplist.specs.Lists.{front, at-least, list-at, first-key, last-from, pieces, blocks}
 use Rattle.skiplist.specs.Questions.{between}
 use Rattle.skiplist.specs.Paths.{greatest, nodes-upto, labels-from, path-labels, stands-in}
 use Rattle.skiplist.proofs.Laws.Parts.{Up, up-from, up-front, and-left, and-right, at-least-append, at-least-up, below, below-here}

@@ -10,15 +10,18 @@ use Rattle.skiplist.specs.Image.{is-image, orders-in}
 use Rattle.skiplist.specs.Questions.{first-no, between}
 use Rattle.skiplist.specs.Book.{Call, enter, amend, cancel, lookup, descent, span, seek, check, refusal}
 use Rattle.table.specs.Calls.{Make-says, Edit-says, Enter-says, Amend-says, Cancel-says, Look-says, Look-as, asks-first, Descent-as, Descent-says, Span-says, Span-as, Seek-says, Seek-as}
-use Rattle.table.specs.Promise.{Does, Runs, Answer, alone, whole, lent, answer, answers, decided, Replies-fixed, Make-fixed, Runs-fixed}
+use Rattle.table.specs.Promise.{Does, Runs, alone, whole, lent, answer, answers, decided, Replies-fixed, Make-fixed, Runs-fixed}
 use Rattle.table.specs.declared.Reply.{Reply}
 use Rattle.table.proofs.Laws.Runs.{does-done, runs-after, stays-image}
 
 -- TWO ANSWERS to one span, and to one descent
+both : {r q p : Reply} {y z x : List ℕ} → (r ≡ p) × (y ≡ x) → (q ≡ p) × (z ≡ x) → lent r y ≡ lent q z
+both v w = λ i. lent ((v .0 ∙ sym (w .0)) i) ((v .1 ∙ sym (w .1)) i)
+
 span-fixed : (n : ℕ) (os : List Order) (r q : Reply) (o y z : List ℕ) → Span-as n os r o y → Span-as n os q o z → lent r y ≡ lent q z
 unfolding Span-as
-span-fixed zero os r q o y z v w = λ i. lent ((v .0 ∙ sym (w .0)) i) ((v .1 ∙ sym (w .1)) i)
-span-fixed (suc n) os r q o y z v w = λ i. lent ((v .0 ∙ sym (w .0)) i) ((v .1 ∙ sym (w .1)) i)
+span-fixed zero os r q o y z v w = both v w
+span-fixed (suc n) os r q o y z v w = both v w
 
 descent-fixed : (x : List ℕ) (k : ℕ) (r q : Reply) (o y z : List ℕ) → Descent-says x k r o y → Descent-says x k q o z →
     (is-image x || not (eqb (first-no (asks-first x k)) 0)) ≡ true → lent r y ≡ lent q z
@@ -26,15 +29,8 @@ unfolding Descent-as Look-as
 descent-fixed x k r q o y z v w h = go (is-image x) refl (eqb (first-no (asks-first x k)) 0) refl h
   where
     go : (a : Bool) → is-image x ≡ a → (b : Bool) → eqb (first-no (asks-first x k)) 0 ≡ b → (a || not b) ≡ true → lent r y ≡ lent q z
-    go true e b f h =
-        let s = v .on-image e in
-        let t = w .on-image e in
-        λ i. lent ((s .0 ∙ sym (t .0)) i) ((s .1 ∙ sym (t .1)) i)
-    go false e false f h =
-        let n = eqb-false (first-no (asks-first x k)) 0 f in
-        let s = v .turned-down n in
-        let t = w .turned-down n in
-        λ i. lent ((s .0 ∙ sym (t .0)) i) ((s .1 ∙ sym (t .1)) i)
+    go true e b f h = both (v .on-image e) (w .on-image e)
+    go false e false f h = let n = eqb-false (first-no (asks-first x k)) 0 f in both (v .turned-down n) (w .turned-down n)
     go false e true f h = absurd (false≢true h)
 
 pub replies-fixed : Replies-fixed

@@ -1,6 +1,6 @@
 -- What a seek gives has the smallest key of all orders in lo..hi that have the reserve.
-use mathlib.Core.Path.{_≡_, refl, sym, ap, _∙_, subst}
-use mathlib.Core.Logic.{_⊎_, inl, inr}
+use mathlib.Core.Path.{_≡_, refl, sym, ap, _∙_}
+use mathlib.Core.Logic.{inl, inr}
 use mathlib.Core.Bool.{Bool, true, false, _&&_, cond, false≢true}
 use mathlib.Core.List.{List, [], _∷_}
 use Prim.Native.Nat.{ℕ, suc, _≤_}
@@ -10,15 +10,14 @@ use lib.Dec.{leb}
 use Rattle.sizes.proofs.Laws.Sizes.{and-parts}
 use Rattle.placement.specs.Blocks.{Among}
 use Rattle.placement.specs.declared.Order.{Order}
-use Rattle.skiplist.specs.Image.{is-image, orders-in}
-use Rattle.skiplist.specs.Questions.{first-no, is-key, between, reserve, enough, any-order, lowest, order, asks-range, asks-seek}
+use Rattle.skiplist.specs.Image.{orders-in}
+use Rattle.skiplist.specs.Questions.{first-no, is-key, between, reserve, enough, any-order, lowest, asks-range, asks-seek}
 use Rattle.skiplist.specs.Book.{seek, asks, book-refusal, refusal}
 use Rattle.skiplist.proofs.Laws.Questions.{passes}
-use Rattle.skiplist.proofs.Laws.Parts.{Up, up-from, good-up}
+use Rattle.skiplist.proofs.Laws.Parts.{Up, good-up}
 use Rattle.skiplist.proofs.Laws.Third.{image-parts, taken}
 use Rattle.table.specs.Calls.{gives, Seek-says, Seek-as}
 use Rattle.table.specs.Promise.{Lowest, Seek-lowest}
-use Rattle.table.specs.declared.Reply.{Reply}
 use Rattle.table.proofs.Laws.Descents.{number-is}
 
 -- what passes both tests

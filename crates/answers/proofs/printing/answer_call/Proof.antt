@@ -1,29 +1,36 @@
 -- `answers::printing::answer_call` meets its contract.
 use borrow.Author.Needs.{needs}
-use Rattle.answers.proofs.Laws.Steps.{step-put, step-cancel, step-show, step-span, step-seek, step-blocks, step-bad, bad-left}
+use mathlib.Core.Path.{refl}
+use Rattle.answers.proofs.Laws.Steps.{step-put, step-cancel, step-kept, bad-left}
+use Rattle.answers.specs.Answers.{leaves, prints}
 use Rattle.answers.proofs.printing.answer_call.Statement.{statement}
 use Rattle.answers.proofs.printing.answer_call.Tie as tie
 
 returns : tie.Need-returns
-returns c = step-put _ _ _ _ _ _ _ _ (c .before .before .before .before .before .before .before .before .before .before .before .before .before .pre .1) _ _ (c .before .before .before .before .before .before .before .before .enum-told .given .1) (c .before .before .before .before .before .before .put .ensures) (c .before .before .say-number .ensures)
+returns c = step-put _ _ _ _ _ _ _ _ (c .before .before .before .before .before .before .before .before .before .before .before .before .before .pre .1) _ _ (c .before .before .say-number .ensures) (c .before .before .before .before .before .before .before .before .enum-told .given .1) (c .before .before .before .before .before .before .put .ensures)
 
 returns-2 : tie.Need-returns-2
-returns-2 c = step-cancel _ _ _ _ _ _ _ _ (c .before .before .before .before .before .before .before .before .before .before .before .before .before .pre .1) _ _ (c .before .before .before .before .before .before .before .before .enum-told2 .given .1) (c .before .before .before .before .before .before .cancel .ensures) (c .before .before .say-number2 .ensures)
+returns-2 c = step-cancel _ _ _ _ _ _ _ _ (c .before .before .before .before .before .before .before .before .before .before .before .before .before .pre .1) _ _ (c .before .before .say-number2 .ensures) (c .before .before .before .before .before .before .before .before .enum-told2 .given .1) (c .before .before .before .before .before .before .cancel .ensures)
 
 returns-3 : tie.Need-returns-3
-returns-3 c = step-show _ _ _ _ _ _ _ _ (c .before .before .before .before .before .before .before .before .before .before .pre .1) (c .before .before .before .before .before .enum-told3 .given .1) (c .before .before .answer-show .ensures)
+unfolding leaves prints
+returns-3 c = step-kept _ _ _ _ _ _ _ _ (c .before .before .before .before .before .before .before .before .before .before .pre .1) _ (c .before .before .before .before .before .enum-told3 .given .1) refl (c .before .before .answer-show .ensures)
 
 returns-4 : tie.Need-returns-4
-returns-4 c = step-span _ _ _ _ _ _ _ _ (c .before .before .before .before .before .before .before .before .before .before .before .before .before .pre .1) (c .before .before .before .before .before .before .before .before .enum-told4 .given .1) (c .before .before .before .before .answer-span .ensures)
+unfolding leaves prints
+returns-4 c = step-kept _ _ _ _ _ _ _ _ (c .before .before .before .before .before .before .before .before .before .before .before .before .before .pre .1) _ (c .before .before .before .before .before .before .before .before .enum-told4 .given .1) refl (c .before .before .before .before .answer-span .ensures)
 
 returns-5 : tie.Need-returns-5
-returns-5 c = step-seek _ _ _ _ _ _ _ _ (c .before .before .before .before .before .before .before .before .before .before .pre .1) (c .before .before .before .before .before .enum-told5 .given .1) (c .before .before .answer-seek .ensures)
+unfolding leaves prints
+returns-5 c = step-kept _ _ _ _ _ _ _ _ (c .before .before .before .before .before .before .before .before .before .before .pre .1) _ (c .before .before .before .before .before .enum-told5 .given .1) refl (c .before .before .answer-seek .ensures)
 
 returns-6 : tie.Need-returns-6
-returns-6 c = step-blocks _ _ _ _ _ _ _ _ (c .before .before .before .before .before .before .before .before .before .before .pre .1) (c .before .before .before .before .before .enum-told6 .given .1) (c .before .before .answer-blocks .ensures)
+unfolding leaves prints
+returns-6 c = step-kept _ _ _ _ _ _ _ _ (c .before .before .before .before .before .before .before .before .before .before .pre .1) _ (c .before .before .before .before .before .enum-told6 .given .1) refl (c .before .before .answer-blocks .ensures)
 
 returns-7 : tie.Need-returns-7
-returns-7 c = step-bad _ _ _ _ _ _ _ _ (c .before .before .before .before .before .before .before .before .pre .1) (bad-left _ (c .before .before .before .before .match .keys7) (c .before .before .before .before .before .before .before .before .pre .2)) (c .before .before .say-unknown .ensures)
+unfolding leaves prints
+returns-7 c = step-kept _ _ _ _ _ _ _ _ (c .before .before .before .before .before .before .before .before .pre .1) _ (bad-left _ (c .before .before .before .before .match .keys7) (c .before .before .before .before .before .before .before .before .pre .2)) refl (c .before .before .say-unknown .ensures)
 
 pub answer-call-spec : {M : Type 1} → statement M
 answer-call-spec =
