@@ -1,19 +1,19 @@
 -- All that is promised of images, of single calls and of whole lists of calls, proved. That the program keeps the contracts which these statements cite is proved with its functions.
 use Rattle.skiplist.proofs.Promise.{Proved, proved}
-use Rattle.table.specs.Promise.{Demand-3, Demand-3-check, Runs-exist, Replies-fixed, Make-fixed, Runs-fixed, Make-reaches, Make-only, Demand-2-rules, Demand-2-lookup, Demand-2-descent, Descent-looks-up, Demand-2-span, Demand-2-seek, Seek-lowest, Demand-1-edits}
+use Rattle.table.specs.Promise.{Demand-3, Demand-3-check, Runs-exist, Replies-fixed, Make-fixed, Runs-fixed, Make-reaches, Make-only, Demand-2-rules, Demand-2-lookup, Demand-2-descent, Descent-looks-up, Demand-2-span, Demand-2-seek, Seek-lowest, Demand-1}
 use Rattle.table.proofs.Laws.Makes.{make-only, make-reaches}
 use Rattle.table.proofs.Laws.Fixed.{replies-fixed, make-fixed, runs-fixed}
 use Rattle.table.proofs.Laws.Descents.{descent-looks-up}
 use Rattle.table.proofs.Laws.Sought.{seek-lowest}
 use Rattle.table.proofs.Laws.Meeting.{runs-exist}
 use Rattle.table.proofs.Laws.Reached.{demand-3-check}
-use Rattle.table.proofs.Laws.Demands.{demand-3, demand-2-rules, demand-2-lookup, demand-2-descent, demand-2-span, demand-2-seek, demand-1-edits}
+use Rattle.table.proofs.Laws.Demands.{demand-3, demand-2-rules, demand-2-lookup, demand-2-descent, demand-2-span, demand-2-seek, demand-1}
 
 pub record Kept-promise : Type 0 where
   -- images, their rules and the definitions: all that the crate below promises
   pub images : Proved
-  -- DEMAND 1: after any list, an enter, amend or cancel answers what the plain book answers
-  pub edits : Demand-1-edits
+  -- DEMAND 1: after any list, each call answers the number that the plain book has for it
+  pub numbers : Demand-1
   -- DEMAND 2: after any list, the published rules, and the orders read back by number, by descent, by span, by seek; a descent's quantities are a lookup's, a seek's key the smallest
   pub rules : Demand-2-rules
   pub lookups : Demand-2-lookup
@@ -36,7 +36,7 @@ pub record Kept-promise : Type 0 where
 pub kept-promise : Kept-promise
 kept-promise = record {
   images = proved;
-  edits = demand-1-edits;
+  numbers = demand-1;
   rules = demand-2-rules;
   lookups = demand-2-lookup;
   descents = demand-2-descent;

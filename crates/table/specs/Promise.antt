@@ -102,6 +102,11 @@ pub data Answer : Type 0 where
   whole : Reply → Answer
   lent : Reply → (output-now : List ℕ) → Answer
 
+unfoldable pub number-in : Answer → ℕ
+number-in (alone n) = n
+number-in (whole r) = r .number
+number-in (lent r o) = r .number
+
 unfoldable pub answer : (c : Call) (table table-now : List ℕ) → Does c table table-now → Answer
 unfolding Does
 answer (enter k t d) x z w = alone (w .0)
@@ -193,11 +198,6 @@ Seek-lowest =
 unfoldable pub Demand-2-seek : Type 0
 Demand-2-seek = After-any (λ s os z. (lo hi l : ℕ) (r : Reply) → Seek-says z lo hi l r → Seek-as (book-refusal s (seek lo hi l) os) os lo hi l r)
 
--- DEMAND 1 after any list: no call meets 4, and an enter, amend or cancel answers what the plain book answers
-unfoldable pub Demand-1-edits : Type 0
-Demand-1-edits =
-    After-any
-    (λ s os z.
-    ((k t d r : ℕ) (y : List ℕ) → Enter-says k t d r z y → r ≡ book-refusal s (enter k t d) os)
-    × ((k t d r : ℕ) (y : List ℕ) → Amend-says k t d r z y → r ≡ book-refusal s (amend k t d) os)
-    × ((k r : ℕ) (y : List ℕ) → Cancel-says k r z y → r ≡ book-refusal s (cancel k) os))
+-- DEMAND 1 after any list: no call meets 4, and each answers the number that the plain book has for it
+unfoldable pub Demand-1 : Type 0
+Demand-1 = After-any (λ s os z. (c : Call) (y : List ℕ) (w : Does c z y) → number-in (answer c z y w) ≡ book-refusal s c os)

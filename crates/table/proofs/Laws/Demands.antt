@@ -8,15 +8,16 @@ use Rattle.sizes.specs.declared.Sizes.{Sizes}
 use Rattle.placement.specs.declared.Order.{Order}
 use Rattle.skiplist.specs.Image.{image, orders-in}
 use Rattle.skiplist.specs.Questions.{first-no, asks-image, sizes, between}
-use Rattle.skiplist.specs.Book.{Call, enter, amend, cancel, lookup, descent, span, seek, asks, book-refusal, book, refusal}
+use Rattle.skiplist.specs.Book.{Call, lookup, descent, span, seek, asks, book-refusal, book, refusal}
 use Rattle.skiplist.specs.Paths.{descent-path}
 use Rattle.skiplist.specs.Rules.{Rules}
 use Rattle.skiplist.proofs.Laws.Parts.{good-up}
 use Rattle.skiplist.proofs.Laws.Rules.{image-rules}
-use Rattle.table.specs.Calls.{Edit-says, Enter-says, Amend-says, Cancel-says, Look-says, Look-as, Descent-as, Span-says, Span-as, Seek-says, Seek-as}
-use Rattle.table.specs.Promise.{Demand-3, Demand-2-rules, Demand-2-lookup, Demand-2-descent, Demand-2-span, Demand-2-seek, Demand-1-edits}
+use Rattle.table.specs.Calls.{Look-says, Look-as, Descent-as, Span-says, Span-as, Seek-says, Seek-as}
+use Rattle.table.specs.Promise.{Demand-3, Demand-2-rules, Demand-2-lookup, Demand-2-descent, Demand-2-span, Demand-2-seek, Demand-1}
 use Rattle.table.proofs.Laws.Runs.{Holds, run-holds}
 use Rattle.table.proofs.Laws.Alike.{same-equal, equal-same}
+use Rattle.table.proofs.Laws.Fixed.{number-told}
 
 -- DEMAND 3
 pub demand-3 : Demand-3
@@ -70,12 +71,7 @@ pub demand-2-seek : Demand-2-seek
 unfolding Demand-2-seek Seek-says
 demand-2-seek q x z cs mx rx lo hi l r h = told (seek lo hi l) (λ i v t. Seek-as i t lo hi l r) _ _ z (run-holds q x z cs mx rx) h
 
--- DEMAND 1: enters, amends and cancels
-pub demand-1-edits : Demand-1-edits
-unfolding Demand-1-edits Enter-says Amend-says Cancel-says Edit-says
-demand-1-edits q x z cs mx rx =
-    let w = run-holds q x z cs mx rx in (
-      λ k t d r y h. h .0 ∙ asked (enter k t d) _ _ z w,
-      λ k t d r y h. h .0 ∙ asked (amend k t d) _ _ z w,
-      λ k r y h. h .0 ∙ asked (cancel k) _ _ z w,
-    )
+-- DEMAND 1
+pub demand-1 : Demand-1
+unfolding Demand-1
+demand-1 q x z cs mx rx c y h = let w = run-holds q x z cs mx rx in number-told c z y h (w .good) ∙ asked c _ _ z w

@@ -1,4 +1,4 @@
--- The contracts leave nothing open: equal tables and arguments give equal answers, call by call and over whole runs.
+-- The number of every answer; and the contracts leave nothing open: equal tables and arguments give equal answers, call by call and over whole runs.
 use mathlib.Core.Path.{_≡_, refl, sym, ap, _∙_, subst}
 use mathlib.Core.Bool.{Bool, true, false, not, _||_, false≢true}
 use mathlib.Core.List.{List, [], _∷_}
@@ -9,10 +9,28 @@ use Rattle.placement.specs.declared.Order.{Order}
 use Rattle.skiplist.specs.Image.{is-image, orders-in}
 use Rattle.skiplist.specs.Questions.{first-no, between}
 use Rattle.skiplist.specs.Book.{Call, enter, amend, cancel, lookup, descent, span, seek, check, refusal}
-use Rattle.table.specs.Calls.{Make-says, Edit-says, Enter-says, Amend-says, Cancel-says, Look-says, Look-as, asks-first, Descent-as, Descent-says, Span-says, Span-as, Seek-says, Seek-as}
-use Rattle.table.specs.Promise.{Does, Runs, alone, whole, lent, answer, answers, decided, Replies-fixed, Make-fixed, Runs-fixed}
+use Rattle.table.specs.Calls.{Make-says, check-number, Edit-says, Enter-says, Amend-says, Cancel-says, Look-says, Look-as, asks-first, Descent-as, Descent-says, Span-says, Span-as, Seek-says, Seek-as}
+use Rattle.table.specs.Promise.{Does, Runs, alone, whole, lent, number-in, answer, answers, decided, Replies-fixed, Make-fixed, Runs-fixed}
 use Rattle.table.specs.declared.Reply.{Reply}
 use Rattle.table.proofs.Laws.Runs.{does-done, runs-after, stays-image}
+use Rattle.table.proofs.Laws.Descents.{number-is}
+
+-- THE NUMBER of an answer
+pub span-number : (n : ℕ) (os : List Order) (r : Reply) (o z : List ℕ) → Span-as n os r o z → r .number ≡ n
+unfolding Span-as
+span-number zero os r o z w = rw (w .0)
+span-number (suc n) os r o z w = rw (w .0)
+
+pub number-told : (c : Call) (x z : List ℕ) (w : Does c x z) → is-image x ≡ true → number-in (answer c x z w) ≡ refusal c x
+unfolding Does answer number-in Enter-says Amend-says Cancel-says Edit-says check-number Look-says Look-as Descent-as Span-says Seek-says Seek-as
+number-told (enter k t d) x z w i = w .1 .0
+number-told (amend k t d) x z w i = w .1 .0
+number-told (cancel k) x z w i = w .1 .0
+number-told (lookup k) x z w i = number-is (refusal (lookup k) x) 0 _ (w .0) (w .1)
+number-told (descent k o) x z w i = number-is (refusal (descent k o) x) _ _ (w .0) (w .2 .on-image i .0)
+number-told (span lo hi o) x z w i = span-number (refusal (span lo hi o) x) _ (w .0) o (w .1) (w .2)
+number-told (seek lo hi l) x z w i = number-is (refusal (seek lo hi l) x) 0 _ (w .0) (w .1)
+number-told check x z w i = w .1
 
 -- TWO ANSWERS to one span, and to one descent
 both : {r q p : Reply} {y z x : List ℕ} → (r ≡ p) × (y ≡ x) → (q ≡ p) × (z ≡ x) → lent r y ≡ lent q z

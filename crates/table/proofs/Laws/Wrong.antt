@@ -28,11 +28,12 @@ use Rattle.skiplist.proofs.Laws.Questions.{passes, zero-finds-all, apart, never
 use Rattle.skiplist.proofs.Laws.Parts.{or-left, or-right, good-up}
 use Rattle.skiplist.proofs.Laws.Kept.{held-without, kept-none}
 use Rattle.skiplist.proofs.Laws.Third.{image-parts, taken}
-use Rattle.table.specs.Calls.{reply, gives, Edit-says, Enter-says, Amend-says, Cancel-says, check-number, Look-says, Look-as, shown, Descent-as, Descent-says, Span-says, Span-as, Seek-says, Seek-as}
-use Rattle.table.specs.Promise.{Seek-lowest}
+use Rattle.table.specs.Calls.{reply, gives, Edit-says, Enter-says, Amend-says, Cancel-says, Look-as, shown, Descent-as, Descent-says, Span-says, Span-as, Seek-says, Seek-as}
+use Rattle.table.specs.Promise.{Does, number-in, answer, Seek-lowest}
 use Rattle.table.specs.declared.Reply.{Reply}
 use Rattle.table.proofs.Laws.Runs.{Holds, holds-image, done-holds}
 use Rattle.table.proofs.Laws.Descents.{number-is, count-is}
+use Rattle.table.proofs.Laws.Fixed.{span-number, number-told}
 use Rattle.table.proofs.Laws.Sought.{seek-lowest}
 use Rattle.table.proofs.Laws.Alike.{Tells, here, there, none-held}
 
@@ -95,11 +96,6 @@ always-empty k t d x s m w =
     false≢true (sym (none-held k) ∙ ap (held k) (sym e) ∙ enter-tells k t d x (image s []) w .0)
 
 -- ---- THE CLAUSES ON THE ANSWER
-span-number : (n : ℕ) (os : List Order) (r : Reply) (o z : List ℕ) → Span-as n os r o z → r .number ≡ n
-unfolding Span-as
-span-number zero os r o z w = rw (w .0)
-span-number (suc n) os r o z w = rw (w .0)
-
 look-number : (n c k : ℕ) (os : List Order) (r : Reply) → Look-as n c k os r → r .number ≡ n
 unfolding Look-as
 look-number n c k os r w = number-is n c _ r w
@@ -198,7 +194,7 @@ pub hidden-given : (x : List ℕ) (lo hi l : ℕ) (r : Reply) → Seek-says x lo
 unfolding Seek-lowest reserve
 hidden-given x lo hi l r w h n e = omega (arith, rw (eq-eqb (r .displayed) 0 e) at (seek-lowest x lo hi l r w n .has))
 
--- a call that gives 4 to all: 4 is given only of bytes that are no image
+-- a call that gives 4 to all: on an image none does
 no-other-4 : (s : Sizes) (c : Call) (os : List Order) → apart 4 (asks s c os) ≡ true
 unfolding asks asks-enter asks-amend asks-order asks-room asks-key asks-descent asks-range asks-span asks-seek apart
 no-other-4 s (enter k t d) os = refl
@@ -214,41 +210,8 @@ blind-4 : (c : Call) (x : List ℕ) → refusal c x ≡ 4 → is-image x ≡ fal
 unfolding refusal asks-image
 blind-4 c x e = own-question 4 [] (asks (sizes-in x) c (orders-in x)) _ (no-other-4 (sizes-in x) c (orders-in x)) e
 
-pub enter-4 : (k t d : ℕ) (x z : List ℕ) → Enter-says k t d 4 x z → is-image x ≡ false
-unfolding Enter-says Edit-says
-enter-4 k t d x z w = blind-4 (enter k t d) x (sym (w .0))
-
-pub amend-4 : (k t d : ℕ) (x z : List ℕ) → Amend-says k t d 4 x z → is-image x ≡ false
-unfolding Amend-says Edit-says
-amend-4 k t d x z w = blind-4 (amend k t d) x (sym (w .0))
-
-pub cancel-4 : (k : ℕ) (x z : List ℕ) → Cancel-says k 4 x z → is-image x ≡ false
-unfolding Cancel-says Edit-says
-cancel-4 k x z w = blind-4 (cancel k) x (sym (w .0))
-
-pub look-4 : (x : List ℕ) (k : ℕ) (r : Reply) → Look-says x k r → r .number ≡ 4 → is-image x ≡ false
-unfolding Look-says
-look-4 x k r w e = blind-4 (lookup k) x (sym (look-number _ 0 k (orders-in x) r w) ∙ e)
-
-pub descent-4 : (x : List ℕ) (k : ℕ) (r : Reply) (o z : List ℕ) → Descent-says x k r o z → r .number ≡ 4 → is-image x ≡ false
-unfolding Descent-as
-descent-4 x k r o z w e = go (is-image x) refl
-  where
-    go : (t : Bool) → is-image x ≡ t → is-image x ≡ false
-    go true i = blind-4 (descent k o) x (sym (look-number _ _ k (orders-in x) r (w .on-image i .0)) ∙ e)
-    go false i = i
-
-pub span-4 : (x : List ℕ) (lo hi : ℕ) (r : Reply) (o z : List ℕ) → Span-says x lo hi r o z → r .number ≡ 4 → is-image x ≡ false
-unfolding Span-says
-span-4 x lo hi r o z w e = blind-4 (span lo hi o) x (sym (span-number _ (between lo hi (orders-in x)) r o z w) ∙ e)
-
-pub seek-4 : (x : List ℕ) (lo hi l : ℕ) (r : Reply) → Seek-says x lo hi l r → r .number ≡ 4 → is-image x ≡ false
-unfolding Seek-says
-seek-4 x lo hi l r w e = blind-4 (seek lo hi l) x (sym (seek-number _ (orders-in x) lo hi l r w) ∙ e)
-
-pub check-4 : (x : List ℕ) → check-number x ≡ 4 → is-image x ≡ false
-unfolding check-number
-check-4 x e = blind-4 check x e
+pub never-4 : (c : Call) (x z : List ℕ) (w : Does c x z) → is-image x ≡ true → number-in (answer c x z w) ≡ 4 → ⊥
+never-4 c x z w i e = false≢true (sym (blind-4 c x (sym (number-told c x z w i) ∙ e)) ∙ i)
 
 -- ---- ON TABLES OF THE RUN, where no question turns these calls down
 unfoldable pub with-6 : List ℕ
