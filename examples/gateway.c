@@ -1,4 +1,4 @@
-/* A small order gateway: a day's orders go into a table, the table into a file, and the open orders are read back from it, all and one by one.
+/* A small order gateway: a day's orders go into a table, the table into a file, and the open orders are read back from it: all, one by one, and by reserve.
  *
  *     cc gateway.c $(pkg-config --cflags --libs balluchaw) -o gateway
  *     ./gateway orders.table
@@ -26,6 +26,8 @@ static const char *const answers[] = {
 enum kind { ENTER, AMEND, PULL };
 static const char *const kinds[] = {"enter", "amend", "pull"};
 
+enum { LAST = 2147483646 }; /* the largest number that an order can have */
+
 static const struct { enum kind kind; uint32_t order, total, displayed; } day[] = {
     {ENTER, 4711, 500, 100},
     {ENTER, 4715, 90, 90},
@@ -39,6 +41,7 @@ static const struct { enum kind kind; uint32_t order, total, displayed; } day[] 
     {AMEND, 4712, 300, 50},   /* too late: it was pulled */
     {PULL, 4712, 0, 0},       /* and so is this */
     {PULL, 4715, 0, 0},
+    {ENTER, LAST, 900, 100},  /* before 4716, whose number is lower */
     {ENTER, 4716, 1200, 200},
 };
 
@@ -127,14 +130,22 @@ static void print_order(uint32_t order) {
     else printf("%s\n", answers[found.number]);
 }
 
-/* What can still be offered behind what the market sees. A wholly hidden order shows nothing, so it has no reserve, however large it is: of this day's
- * orders 4713 has the most, and is not found. */
+/* What can still be offered behind what the market sees: the orders with so much in reserve, the lowest number first, whichever came first. A seek gives
+ * the lowest from a number on, so the next one is sought from that + 1. Behind the last number there is none: a seek from there would be turned down, and
+ * the loop ends before it. A wholly hidden order shows nothing, so it has no reserve, however large it is: of this day's orders 4713 has the most, and is
+ * not found. */
 static void print_reserve(uint32_t least) {
-    balluchaw_reply found = balluchaw_seek(table, sizeof table, 1, 2147483646, least);
-    must(found.number == 0 || found.number == 12, answers[found.number]);
-    printf("%u or more in reserve: ", (unsigned)least);
-    if (found.number == 0) printf("order %u\n", (unsigned)found.key);
-    else printf("%s\n", answers[found.number]);
+    uint32_t from = 1;
+    printf("%u or more in reserve:", (unsigned)least);
+    while (from <= LAST) {
+        balluchaw_reply found = balluchaw_seek(table, sizeof table, from, LAST, least);
+        if (found.number == 12) break; /* no more */
+        must(found.number == 0, answers[found.number]);
+        printf(" %u", (unsigned)found.key);
+        from = found.key + 1;
+    }
+    if (from == 1) printf(" %s", answers[12]);
+    printf("\n");
 }
 
 int main(int count, char **words) {
@@ -146,6 +157,7 @@ int main(int count, char **words) {
     print_span(4700, 4799);
     print_order(4716);
     print_order(4712);
+    print_reserve(500);
     print_reserve(1000);
     print_reserve(1500);
     return 0;

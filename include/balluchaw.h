@@ -9,6 +9,8 @@
  * slow: M blocks are then looked at up to about M * M times, which is seconds for 65,535. balluchaw(3), NOTES, says what a receiver can do.
  * A descent reads the header and the way down to one key. It is fast, and does not find out that a table was damaged.
  *
+ * Equal tables and arguments give equal answers and outputs. Only what a descent finds in bytes that are no image is left open.
+ *
  * Each call answers the number of the first question that turns it down, or 0. On a refusal no lent byte changes and all other parts of the
  * answer are 0. There is one exception: a descent that answers 9 has written its path, and says how many blocks that has.
  *
@@ -97,8 +99,22 @@ balluchaw_reply balluchaw_descent(const uint8_t *table, size_t length, uint32_t 
  * their number in count. Bytes of the output beyond them keep their values. Asks 4, 5, 10, 11. */
 balluchaw_reply balluchaw_span(const uint8_t *table, size_t length, uint32_t lo, uint32_t hi, uint8_t *output, size_t output_length);
 
-/* Some order in lo..hi that has at least the reserve. With a reserve of 0 every order does, wholly hidden ones too; with 1 or more no wholly
- * hidden order does. Asks 4, 5, 10, 12. */
+/* The order with the smallest key in lo..hi that has at least the reserve. Orders that lack it are passed over. Asked twice, the same table gives
+ * the same order. With a reserve of 0 every order will do, wholly hidden ones too; with 1 or more no wholly hidden order does. Asks 4, 5, 10, 12.
+ *
+ * To go on to the next one, seek again from key + 1, as long as that is not above hi; 12 says that there are no more. So this loop goes through
+ * all orders in lo..hi that have the reserve, by rising key:
+ *
+ *     while (lo <= hi) {
+ *         balluchaw_reply found = balluchaw_seek(table, length, lo, hi, reserve);
+ *         if (found.number != 0) break;
+ *         ..
+ *         lo = found.key + 1;
+ *     }
+ *
+ * After an order under hi itself the loop ends without another call, which 10 would turn down, or 5 where hi is the largest key. The order found
+ * may be amended or cancelled before the next seek. Each seek reads the whole table. Where many orders have the reserve, one span is faster:
+ * what each has in reserve follows from its row. */
 balluchaw_reply balluchaw_seek(const uint8_t *table, size_t length, uint32_t lo, uint32_t hi, uint32_t reserve);
 
 #ifdef __cplusplus

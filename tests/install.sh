@@ -44,12 +44,12 @@ ssize_t getrandom(void *bytes, size_t length, unsigned flags) {
 C
 cp examples/gateway.c "$kit/"
 sed -n '/^```c$/,/^```$/p' README.md | sed '/^```/d' >"$kit/readme.c"
-sed -n '/^\.EX/,/^\.EE/p' man/balluchaw.3 | sed '/^\.E[XE]/d; s/\\e/\\/g' >"$kit/manual.c"
+sed -n '/^\.EX/,/^\.EE/p' man/balluchaw.3 | sed '/^\.E[XE]/d; s/\\e/\\/g; s/\\-/-/g' >"$kit/manual.c"
 for chance in '' "$kit/chance"; do
     for name in gateway readme manual; do compile "$kit/$name" ${chance:+"$chance"}; done
     timeout 20 "$kit/gateway" "$kit/orders.table" | diff examples/gateway.out -
     timeout 20 "$kit/readme" | diff <(echo "4711: 100 of 500 displayed") -
-    timeout 20 "$kit/manual" | diff <(echo "100 of 500 displayed") -
+    timeout 20 "$kit/manual" | diff <(printf '%s\n' "100 of 500 displayed" "4711: 400 in reserve" "4720: 600 in reserve") -
 done
 
 # The ways down that the kit's descents write, beside those of the reader in Python, which searches by docs/format.md: in the gateway's file, and in a

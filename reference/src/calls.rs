@@ -1,13 +1,14 @@
 //! The calls on byte buffers ("Calls and their questions"), the descent of
-//! document 02's request A.1, a seek by the reserve of its request A.2, and enter
-//! and amend, which its request A.4 has in place of put.
+//! document 02's request A.1, seek by the reserve of its request A.2 and with the
+//! lowest order by its request A.5, and enter and amend, which its request A.4 has
+//! in place of put.
 //!
 //! "Questions run in this order; the first "no" ends the call with its number.
 //! All other parts of that answer are 0 and no lent byte changes. Success is 0."
 //! Only a descent's 9 writes and gives a count.
 
 use crate::image::{held, image, is_image, obeys_rule_1};
-use crate::lists::{Orders, Quantities};
+use crate::lists::{lowest_with, Orders, Quantities};
 use crate::paths::{path, NUMBER};
 use crate::sizes::{are_quantities, is_key, Made, Seed, Sizes, NODE};
 
@@ -241,9 +242,11 @@ pub fn span(table: &[u8], lo: u32, hi: u32, output: &mut [u8]) -> Reply {
     Reply::count(count)
 }
 
-/// Seek: 4, 5, 10, 12. "It gives some such order": here the one with the lowest
-/// key. By request A.2 "Seek and its 12 use that definition" of the reserve, and
-/// "With r = 0 hidden orders are still found": 0 is a reserve of at least 0.
+/// Seek: 4, 5, 10, 12. By request A.5 "It must give the order with the smallest
+/// key in lo..hi that has the reserve. So its answer, too, is now read off a
+/// definition", here `lowest_with`, and the same seek twice gives the same order.
+/// By request A.2 "Seek and its 12 use that definition" of the reserve, and "With
+/// r = 0 hidden orders are still found": 0 is a reserve of at least 0.
 pub fn seek(table: &[u8], lo: u32, hi: u32, r: u32) -> Reply {
     let orders = match held(table) {
         Some((_, orders)) => orders,
@@ -255,11 +258,8 @@ pub fn seek(table: &[u8], lo: u32, hi: u32, r: u32) -> Reply {
     if lo > hi {
         return Reply::refused(10);
     }
-    match orders
-        .range(lo..=hi)
-        .find(|(_, order)| order.reserve() >= r)
-    {
-        Some((&key, order)) => Reply::order(key, order),
+    match lowest_with(&orders, lo, hi, r) {
+        Some((key, order)) => Reply::order(key, &order),
         None => Reply::refused(12),
     }
 }

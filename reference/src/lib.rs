@@ -14,4 +14,5 @@ pub mod lists;
 pub mod paths;
 pub mod program;
 pub mod samples;
+pub mod seeks;
 pub mod sizes;

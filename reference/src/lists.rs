@@ -31,6 +31,18 @@ impl Quantities {
 /// A set of orders, by key.
 pub type Orders = BTreeMap<u32, Quantities>;
 
+/// What a seek gives, by request A.5: "the order with the smallest key in lo..hi
+/// that has the reserve", which is one of r or more. None where no order there has
+/// it.
+pub fn lowest_with(orders: &Orders, lo: u32, hi: u32, r: u32) -> Option<(u32, Quantities)> {
+    orders
+        .iter()
+        .map(|(&key, &order)| (key, order))
+        .filter(|&(key, _)| lo <= key && key <= hi)
+        .filter(|(_, order)| order.reserve() >= r)
+        .min_by_key(|&(key, _)| key)
+}
+
 /// An element of a list: the front or a held key. The front's quantities are 0.
 #[derive(Clone, Copy, Debug, PartialEq, Eq)]
 pub struct Element {

@@ -144,68 +144,6 @@ pub fn some_quantities(generator: &mut Xorshift) -> (u32, u32) {
     (total, displayed)
 }
 
-/// Where a seek looks and what for, as lo, hi and r: in the given range or, half
-/// of the time, in one with one to three orders, so that it is often a hidden
-/// order that decides the answer.
-pub fn some_seek(generator: &mut Xorshift, orders: &Orders, range: (u32, u32)) -> (u32, u32, u32) {
-    let (lo, hi) = if generator.one_in(2) {
-        few_orders(generator, orders).unwrap_or(range)
-    } else {
-        range
-    };
-    let inside: Vec<Quantities> = orders
-        .iter()
-        .filter(|(&key, _)| lo <= key && key <= hi)
-        .map(|(_, &order)| order)
-        .collect();
-    let r = if inside.is_empty() || generator.one_in(4) {
-        any_reserve(generator)
-    } else {
-        let order = generator.pick(&inside);
-        reserve_near(generator, &order)
-    };
-    (lo, hi, r)
-}
-
-/// From the key of a held order to its own or one of the next two.
-fn few_orders(generator: &mut Xorshift, orders: &Orders) -> Option<(u32, u32)> {
-    let keys: Vec<u32> = orders.keys().copied().collect();
-    let last = keys.len().checked_sub(1)?;
-    let first = generator.below(keys.len() as u32) as usize;
-    let behind = first + generator.below(3) as usize;
-    Some((keys[first], keys[behind.min(last)]))
-}
-
-/// Any r, the edges often.
-fn any_reserve(generator: &mut Xorshift) -> u32 {
-    let any = generator.draw();
-    generator.pick(&[
-        0,
-        1,
-        50,
-        1_000_000_000,
-        4_000_000_000,
-        u32::MAX - 1,
-        u32::MAX,
-        any,
-    ])
-}
-
-/// An r at and just beyond what an order has in reserve, and what it has in all.
-fn reserve_near(generator: &mut Xorshift, order: &Quantities) -> u32 {
-    let (reserve, total) = (order.reserve(), order.total);
-    let up_to_total = generator.within(1, total);
-    generator.pick(&[
-        0,
-        1,
-        reserve,
-        reserve + 1,
-        up_to_total,
-        total,
-        total.saturating_add(1),
-    ])
-}
-
 /// The seed of a made-up table.
 #[derive(Clone, Copy, Debug, PartialEq, Eq)]
 pub enum Shape {

@@ -4,9 +4,9 @@ mod common;
 
 use common::is_full;
 use reference::calls::{self, Reply};
-use reference::image::held;
 use reference::program::program;
 use reference::samples::fnv_1a;
+use reference::seeks::{Sought, SEEKS};
 use std::collections::{BTreeMap, BTreeSet};
 use std::io::Write;
 use std::process::{Command, Stdio};
@@ -87,12 +87,11 @@ struct Reader {
     undecided: u32,
     full: u32,
     odd_seeds: u32,
-    /// Seeks by r in a range whose orders are all hidden: r = 0, r = 1, r of 2 to
-    /// just below the greatest total there, that total, more.
-    hidden: [u32; 5],
-    /// Seeks that gave an order by its whole reserve, not 0.
-    exact: u32,
     tickets: [u32; TICKETS.len()],
+    /// Seeks of each kind, and those that the line before asked too.
+    seeks: [u32; SEEKS.len()],
+    asked_again: u32,
+    last: String,
 }
 
 /// Enters and amends where a later question has a "no" too, or a table is full.
@@ -135,6 +134,7 @@ impl Reader {
             }
             _ => self.call(line),
         }
+        self.last = line.to_string();
     }
 
     fn call(&mut self, line: &str) {
@@ -143,13 +143,7 @@ impl Reader {
         let before = self.store.clone();
         let (reply, output) = self.ask(&asked);
         let store = fnv_1a(&self.store);
-        let Reply {
-            number,
-            key,
-            total,
-            displayed,
-            count,
-        } = match reply {
+        let reply = match reply {
             Some(reply) => reply,
             None => {
                 assert_eq!(answer, format!("? {store:016x}"), "{line}");
@@ -157,6 +151,13 @@ impl Reader {
                 return;
             }
         };
+        let Reply {
+            number,
+            key,
+            total,
+            displayed,
+            count,
+        } = reply;
         let mut found = format!("{number} {key} {total} {displayed} {count} {store:016x}");
         if ["span", "descent"].contains(&asked[0]) {
             found += &format!(" {:016x}", fnv_1a(&output));
@@ -169,8 +170,10 @@ impl Reader {
             self.full += u32::from(number == 0 && is_full(&self.store[..place(asked[1])]).1);
             self.count_ticket(&asked, number, &before);
         }
-        if asked[0] == "seek" && [0, 12].contains(&number) {
-            self.count_seek(&asked, total - displayed);
+        if asked[0] == "seek" && line == self.last {
+            self.asked_again += 1;
+        } else if asked[0] == "seek" {
+            self.count_seek(&asked, reply);
         }
     }
 
@@ -192,22 +195,13 @@ impl Reader {
         }
     }
 
-    /// `left` is what the order given does not display; 0 where none is given.
-    fn count_seek(&mut self, asked: &[&str], left: u32) {
+    fn count_seek(&mut self, asked: &[&str], reply: Reply) {
+        let table = &self.store[..place(asked[1])];
         let [lo, hi, r] = [2, 3, 4].map(|field| number(asked[field]));
-        self.exact += u32::from(r > 0 && r == left);
-        let (_, orders) = held(&self.store[..place(asked[1])]).expect("an image");
-        let inside = || orders.range(lo..=hi).map(|(_, order)| order);
-        let greatest = inside().map(|order| order.total).max();
-        if let (Some(total), true) = (greatest, inside().all(|order| order.displayed == 0)) {
-            let kind = match r {
-                0 => 0,
-                1 => 1,
-                _ if r < total => 2,
-                _ if r == total => 3,
-                _ => 4,
-            };
-            self.hidden[kind] += 1;
+        if let Some(sought) = Sought::new(table, (lo, hi, r), reply) {
+            for (count, met) in self.seeks.iter_mut().zip(sought.kinds()) {
+                *count += u32::from(met);
+            }
         }
     }
 
@@ -265,7 +259,8 @@ const CALLS: [(&str, &[u32]); 9] = [
     ("seek", &[0, 4, 5, 10, 12]),
 ];
 
-/// Reads a run and sees that every call gave all its numbers.
+/// Reads a run and sees that every call gave all its numbers, and that every kind of
+/// seek is there.
 fn read(text: &str) -> Reader {
     let mut reader = Reader::default();
     text.lines().for_each(|line| reader.line(line));
@@ -275,12 +270,16 @@ fn read(text: &str) -> Reader {
             assert!(times.is_some(), "{call} never answered {number}");
         }
     }
+    for ((kind, _), times) in SEEKS.iter().zip(reader.seeks) {
+        assert!(times >= 5, "{kind}: {times}");
+    }
+    assert!(reader.asked_again >= 50, "{}", reader.asked_again);
     reader
 }
 
 /// As many lines as are read again with each buffer watched.
 #[test]
-fn a_short_run_has_every_number() {
+fn a_short_run_has_every_number_and_kind() {
     read(&vectors(1500));
 }
 
@@ -300,9 +299,6 @@ fn vectors_can_be_read() {
     assert!(reader.undecided >= 50, "{} undecided", reader.undecided);
     assert!(reader.full >= 50, "{} full tables", reader.full);
     assert!(reader.odd_seeds >= 5);
-    let hidden = reader.hidden;
-    assert!(hidden.iter().all(|&times| times >= 5), "{hidden:?}");
-    assert!(reader.exact >= 20, "{} whole reserves", reader.exact);
     for (kind, times) in TICKETS.iter().zip(reader.tickets) {
         assert!(times >= 5, "{kind}: {times}");
     }

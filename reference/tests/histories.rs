@@ -11,7 +11,8 @@ use reference::calls::{self, Reply};
 use reference::image::{image, is_image, is_image_by_rebuilding};
 use reference::lists::{Orders, Quantities};
 use reference::program::{program, put};
-use reference::samples::{random_seed, some_quantities, some_seek, Xorshift, EDGE_KEYS};
+use reference::samples::{random_seed, some_quantities, Xorshift, EDGE_KEYS};
+use reference::seeks::some_seek;
 use reference::sizes::{Made, P};
 
 #[derive(Clone, Copy, Debug)]
@@ -207,11 +208,12 @@ fn expected_seek(book: &Book, lo: u32, hi: u32, r: u32) -> Reply {
         return Reply::refused(10);
     }
     // Of a hidden order nothing is reserve; in another r more can be displayed.
-    let fits = |&(_, total, displayed): &(u32, u32, u32)| match displayed {
+    let has = |&(_, total, displayed): &(u32, u32, u32)| match displayed {
         0 => r == 0,
         _ => displayed.checked_add(r).map_or(false, |sum| sum <= total),
     };
-    match in_range(book, lo, hi).into_iter().find(fits) {
+    // The key stands first, and no two orders have one, so this is the smallest key.
+    match in_range(book, lo, hi).into_iter().filter(has).min() {
         Some((key, total, displayed)) => Reply {
             key,
             total,

@@ -95,8 +95,7 @@ static void equals_sign(void) {
     if (strcmp(field(), "=") != 0) exit(2);
 }
 
-/* The rest of an answer, behind its number. A seek may answer any order that fits; the lowest is what the recorder wrote down, and what this
- * library gives. */
+/* The rest of an answer, behind its number: every part of the reply, of a seek too, since a definition says which order it gives. */
 static void expect_rest(const char *call, balluchaw_reply got, uint32_t want_number) {
     uint32_t key = number(), total = number(), displayed = number(), count = number();
     same(got.number == want_number && got.key == key && got.total == total && got.displayed == displayed && got.count == count, call);

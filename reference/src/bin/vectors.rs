@@ -29,8 +29,7 @@
 //!
 //! ANSWER is NUMBER KEY TOTAL DISPLAYED COUNT STORE: the expected reply and the
 //! hash of the whole store after the call. A lookup or descent that succeeds
-//! repeats the key. Seek's order here is the one with the lowest key; another
-//! that fits is as good.
+//! repeats the key.
 //!
 //! OUTPUT is the length of the output lent to span or descent, byte i of which is
 //! i mod 251 before the call. WRITTEN is the hash of the whole output after it.
@@ -44,9 +43,10 @@ use reference::image::held;
 use reference::lists::{chunks, lists, Orders, Quantities};
 use reference::paths::path;
 use reference::samples::{
-    constant_seed, fnv_1a, identity_seed, random_seed, some_quantities, some_seed, some_seek,
-    zero_seed, Xorshift, EDGE_KEYS,
+    constant_seed, fnv_1a, identity_seed, random_seed, some_quantities, some_seed, zero_seed,
+    Xorshift, EDGE_KEYS,
 };
+use reference::seeks::some_seek;
 use reference::sizes::{Made, Sizes, HEADER, P};
 use std::io::{self, BufWriter, Write};
 
@@ -210,11 +210,13 @@ fn hex(bytes: &[u8]) -> String {
 
 // ---- what is recorded ------------------------------------------------------
 
-/// The examples of the document, refusals of make, then histories: small ones
-/// for each γ and B, two long ones, and random ones until there are enough.
+/// The examples of the document, seeks among more orders, refusals of make, then
+/// histories: small ones for each γ and B, two long ones, and random ones until
+/// there are enough.
 fn record_all(recorder: &mut Recorder) {
     let mut generator = Xorshift::new(1);
     examples(recorder);
+    lowest_orders(recorder);
     refused_makes(recorder);
     for (gamma, nodes) in pairs() {
         let orders = generator.pick(&[1, 2, 5, 12, 40]);
@@ -324,6 +326,61 @@ fn seeks(recorder: &mut Recorder, length: usize) {
         for r in [0, 1, u32::MAX - 1, u32::MAX] {
             recorder.seek(length, 1, 5, r);
         }
+    }
+}
+
+/// Key, total and displayed of orders in five chunks of level 1: 3, then 5 and 7,
+/// then 9 and 11, all in the front's partition, then 12 and 13, then 15 in that of
+/// 12. In reserve they have 0 (3 is hidden), 9, 12, 0, 10, 30, 0 (13 is hidden), 31.
+const LOWEST: [(u32, u32, u32); 8] = [
+    (3, 50, 0),
+    (5, 50, 41),
+    (7, 50, 38),
+    (9, 50, 50),
+    (11, 60, 50),
+    (12, 50, 20),
+    (13, 90, 0),
+    (15, 50, 19),
+];
+
+/// Which order is given where several have the reserve, the lowest has not, or one
+/// outside lo..hi has (document 02, A.5). Each seek is asked twice. Then seeks that
+/// 4, 5 and 10 turn down.
+fn lowest_orders(recorder: &mut Recorder) {
+    let sizes = Sizes {
+        gamma: 2,
+        nodes: 2,
+        orders: 8,
+        blocks: 16,
+    };
+    let length = sizes.length();
+    recorder.room(length, 0x5a);
+    recorder.make(&sizes, &identity_seed().bytes(), length);
+    for (key, total, displayed) in LOWEST {
+        recorder.enter(length, key, total, displayed);
+    }
+    for (lo, hi) in [
+        (1, P - 1),
+        (3, 15),
+        (3, 7),
+        (4, 8),
+        (5, 11),
+        (6, 14),
+        (8, 14),
+        (9, 12),
+        (11, 15),
+        (12, 15),
+        (7, 7),
+        (13, 13),
+    ] {
+        for r in [0, 1, 9, 10, 11, 13, 30, 31, 32] {
+            recorder.seek(length, lo, hi, r);
+            recorder.seek(length, lo, hi, r);
+        }
+    }
+    recorder.seek(length - 1, 0, 15, 0);
+    for (lo, hi) in [(0, 15), (P, 3), (3, P), (15, 3)] {
+        recorder.seek(length, lo, hi, 0);
     }
 }
 

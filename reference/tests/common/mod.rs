@@ -30,6 +30,16 @@ pub fn order(total: u32, displayed: u32) -> Quantities {
     Quantities { total, displayed }
 }
 
+/// The answer that gives this order.
+pub fn found(key: u32, total: u32, displayed: u32) -> Reply {
+    Reply {
+        key,
+        total,
+        displayed,
+        ..Reply::done()
+    }
+}
+
 /// A table made by the call.
 pub fn made_table(made: &Made) -> Vec<u8> {
     let Sizes {

@@ -1,6 +1,7 @@
 //! Faults planted in the archive's answers: whoever compares must find each.
 
 use crate::archive::{Archive, Calls};
+use crate::seeks::{self, Other, Wrong, WRONG};
 use crate::slips::{self, Slip, SLIPS};
 use crate::tickets::{Found, Kind, Ticket};
 use reference::calls::Reply;
@@ -58,7 +59,8 @@ pub enum Fault {
     PartsOnRefusal,
     KeyNotRepeated,
     QuantitiesExchanged,
-    SeekBelow,
+    SeekTouches,
+    AnotherAgain,
     LastKeyRefused,
     ExactOutputRefused,
     LastByteKept,
@@ -79,18 +81,13 @@ pub enum Fault {
     DescentTouches,
     AstrayBehind,
     AstrayCount,
-    OldReserve,
-    HiddenLeftOut,
-    HiddenAtOne,
-    HiddenAtTotal,
-    HiddenEndsSeek,
-    ExactReserveRefused,
     KeyBeyondUnseen,
+    Seeks(Wrong),
     EnterSlips(Slip),
     CheckSlips(Slip),
 }
 
-/// Each with its name: those that enter and amend can both have, others, the slips.
+/// Each with its name: those that enter and amend can both have, others, wrong seeks, the slips.
 pub fn faults() -> Vec<(String, Fault)> {
     let tickets = TICKET_FAULTS.into_iter().flat_map(|(name, fault)| {
         [
@@ -107,7 +104,10 @@ pub fn faults() -> Vec<(String, Fault)> {
     let others = FAULTS
         .into_iter()
         .map(|(name, fault)| (name.to_string(), fault));
-    tickets.chain(others).chain(slips).collect()
+    let seeks = WRONG
+        .into_iter()
+        .map(|(name, wrong)| (format!("a seek that {name}"), Fault::Seeks(wrong)));
+    tickets.chain(others).chain(seeks).chain(slips).collect()
 }
 
 const TICKET_FAULTS: [(&str, fn(Kind) -> Fault); 5] = [
@@ -118,7 +118,7 @@ const TICKET_FAULTS: [(&str, fn(Kind) -> Fault); 5] = [
     ("turns down the greatest total", Fault::GreatestTotalRefused),
 ];
 
-const FAULTS: [(&str, Fault); 66] = [
+const FAULTS: [(&str, Fault); 61] = [
     (
         "an enter that overwrites a held key",
         Fault::EnterOverwrites,
@@ -223,7 +223,14 @@ const FAULTS: [(&str, Fault); 66] = [
         "a lookup with the two quantities exchanged",
         Fault::QuantitiesExchanged,
     ),
-    ("a seek that gives an order below lo", Fault::SeekBelow),
+    (
+        "a seek that changes a byte of the table",
+        Fault::SeekTouches,
+    ),
+    (
+        "a seek that gives the next order when it is asked again",
+        Fault::AnotherAgain,
+    ),
     (
         "a cancel that turns down the highest key",
         Fault::LastKeyRefused,
@@ -293,30 +300,6 @@ const FAULTS: [(&str, Fault); 66] = [
         Fault::AstrayCount,
     ),
     (
-        "a seek that takes a hidden order's total for its reserve",
-        Fault::OldReserve,
-    ),
-    (
-        "a seek that leaves hidden orders out with r = 0",
-        Fault::HiddenLeftOut,
-    ),
-    (
-        "a seek that finds a hidden order with r = 1",
-        Fault::HiddenAtOne,
-    ),
-    (
-        "a seek that finds a hidden order by its exact total",
-        Fault::HiddenAtTotal,
-    ),
-    (
-        "a seek that ends with 12 at a hidden order",
-        Fault::HiddenEndsSeek,
-    ),
-    (
-        "a seek that turns down a reserve of exactly r",
-        Fault::ExactReserveRefused,
-    ),
-    (
         "a check that accepts a key of p or more",
         Fault::KeyBeyondUnseen,
     ),
@@ -326,9 +309,10 @@ const FAULTS: [(&str, Fault); 66] = [
 pub struct Faulty {
     archive: Archive,
     fault: Fault,
-    /// Since the history started: how many enters or amends were done, and which keys were cancelled.
+    /// Since the history started: how many enters or amends were done, which keys were cancelled, and what the last seek asked.
     done: u32,
     cancelled: BTreeSet<u32>,
+    sought: Option<(u32, u32, u32)>,
 }
 
 impl Faulty {
@@ -338,6 +322,7 @@ impl Faulty {
             fault,
             done: 0,
             cancelled: BTreeSet::new(),
+            sought: None,
         }
     }
 
@@ -350,6 +335,7 @@ impl Calls for Faulty {
     fn restart(&mut self) {
         self.done = 0;
         self.cancelled.clear();
+        self.sought = None;
     }
 
     fn make(&mut self, table: &mut [u8], sizes: &Sizes, seed: &mut [u8]) -> Reply {
@@ -523,15 +509,20 @@ impl Calls for Faulty {
 
     fn seek(&mut self, table: &mut [u8], lo: u32, hi: u32, r: u32) -> Reply {
         let reply = self.archive.seek(table, lo, hi, r);
-        match (self.fault, reply.number) {
-            (Fault::TwelveUnlooked, 0) if r > 4_000_000_000 => Reply::refused(12),
-            (Fault::SeekBelow, 0) => match self.archive.seek(table, 1, hi, r) {
-                found if found.number == 0 => found,
-                _ => reply,
-            },
-            (_, 0 | 12) => self.by_another_reserve(table, (lo, hi, r), reply),
-            _ => reply,
-        }
+        let asked = (lo, hi, r);
+        let again = self.sought.replace(asked) == Some(asked);
+        let wrong = match (self.fault, reply.number) {
+            (Fault::TwelveUnlooked, 0) if r > 4_000_000_000 => return Reply::refused(12),
+            (Fault::SeekTouches, 0 | 12) => {
+                table[HEADER] ^= 1;
+                return reply;
+            }
+            (Fault::AnotherAgain, 0) if again => Wrong::Order(Other::Second),
+            (Fault::Seeks(wrong), 0 | 12) => wrong,
+            _ => return reply,
+        };
+        let found = Found::in_table(table).expect("no 4");
+        seeks::answer(wrong, &found, asked, reply)
     }
 }
 
@@ -659,33 +650,6 @@ impl Faulty {
         }
     }
 
-    /// The answer of a seek that has another notion of what an order has in reserve.
-    fn by_another_reserve(
-        &self,
-        table: &[u8],
-        (lo, hi, r): (u32, u32, u32),
-        reply: Reply,
-    ) -> Reply {
-        let fits = |order: &Quantities| order.reserve() >= r;
-        let first = |suits: &dyn Fn(&Quantities) -> bool| first_order(table, lo, hi, suits);
-        match self.fault {
-            Fault::OldReserve => first(&|order| order.total - order.displayed >= r),
-            Fault::HiddenLeftOut => first(&|order| fits(order) && !order.is_hidden()),
-            Fault::HiddenAtOne => first(&|order| fits(order) || r == 1 && order.is_hidden()),
-            Fault::HiddenAtTotal => {
-                first(&|order| fits(order) || order.is_hidden() && order.total == r)
-            }
-            Fault::HiddenEndsSeek if r > 0 => {
-                match first(&|order| fits(order) || order.is_hidden()) {
-                    hidden if hidden.displayed == 0 => Reply::refused(12),
-                    found => found,
-                }
-            }
-            Fault::ExactReserveRefused if r > 0 => first(&|order| order.reserve() > r),
-            _ => reply,
-        }
-    }
-
     /// The answer of a descent that takes other blocks for its path.
     fn along_another_path(
         &mut self,
@@ -732,16 +696,6 @@ fn enter_slips(slip: Slip, table: &mut [u8], before: &[u8], orders: &Orders) -> 
             table.copy_from_slice(before);
             Reply::refused(8)
         }
-    }
-}
-
-/// A seek's answer with the lowest order in the range that suits.
-fn first_order(table: &[u8], lo: u32, hi: u32, suits: &dyn Fn(&Quantities) -> bool) -> Reply {
-    let (_, orders) = held(table).expect("a seek went past 4");
-    let mut inside = orders.range(lo..=hi);
-    match inside.find(|(_, order)| suits(order)) {
-        Some((&key, order)) => Reply::order(key, order),
-        None => Reply::refused(12),
     }
 }
 

@@ -9,6 +9,7 @@
 mod archive;
 mod faults;
 mod rounds;
+mod seeks;
 mod slips;
 mod steps;
 mod tickets;
@@ -20,8 +21,7 @@ use std::fmt::Display;
 use std::process::exit;
 use std::time::{Duration, Instant};
 use steps::{
-    differs, most_levels, script, shorten, Mismatch, Pair, Tally, GAMMAS, HASHES, NUMBERS, SEEKS,
-    WAYS,
+    differs, most_levels, script, shorten, Mismatch, Pair, Tally, GAMMAS, HASHES, NUMBERS, WAYS,
 };
 use tickets::TICKETS;
 
@@ -89,7 +89,7 @@ fn compare(seed: u64, amount: Amount) {
         exit(1);
     }
     let rarest_ticket = often_enough(seed, met.tally.rarest_ticket(), amount.0);
-    let rarest = often_enough(seed, met.tally.rarest_seek(), amount.0);
+    let rarest_seek = often_enough(seed, met.tally.rarest_seek(), amount.0);
     let rarest_hash = often_enough(seed, met.tally.rarest_hash(), amount.of_hashes());
     if std::env::var_os("TELL").is_some() {
         tell_kinds(&met.tally);
@@ -97,8 +97,8 @@ fn compare(seed: u64, amount: Amount) {
     println!(
         "differential: seed {seed}: {} calls of the archive answered and left what the reference did; every call met all its numbers; \
          of changed tables {} were none and {} still some; {} descents on what is no table kept within their outputs; \
-         of enters and amends that tell their questions apart each kind came {rarest_ticket} times or more, of seeks that tell reserves apart \
-         {rarest} times, of orders each level by each of {} γ and each kind of hash \
+         of enters and amends that tell their questions apart each kind came {rarest_ticket} times or more, of seeks that tell reserves \
+         and orders apart {rarest_seek} times, of orders each level by each of {} γ and each kind of hash \
          {rarest_hash} times; {:.0} s",
         met.tally.calls(),
         met.no_images,
@@ -123,7 +123,7 @@ fn tell_kinds(tally: &Tally) {
     for (kind, times) in TICKETS.iter().zip(tally.tickets) {
         println!("{kind}: {times}");
     }
-    for (kind, times) in SEEKS.iter().zip(tally.seeks) {
+    for (times, kind) in tally.seek_kinds() {
         println!("seeks, {kind}: {times}");
     }
     for (way, levels) in WAYS.iter().zip(tally.levels) {

@@ -1,4 +1,5 @@
-//! What is tried: edges of make, histories, damaged bytes, blocks in other places, chunks of other lists, hashes and levels, long tables.
+//! What is tried: edges of make, histories, every edit and every seek in small tables, damaged bytes, blocks in other places, chunks of other
+//! lists, hashes and levels, long tables.
 
 use crate::steps::{most_levels, Mismatch, Outcome, Pair, Step, GAMMAS, MOST_ORDERS};
 use crate::tickets::{Kind, Ticket, BOTH};
@@ -10,8 +11,9 @@ use reference::lists::{
 use reference::paths::{path, NUMBER};
 use reference::samples::{
     constant_seed, identity_seed, largest_seed, power_seed, random_seed, seed_with,
-    some_quantities, some_seek, zero_seed, Xorshift, EDGE_KEYS,
+    some_quantities, zero_seed, Xorshift, EDGE_KEYS,
 };
+use reference::seeks::some_seek;
 use reference::sizes::{is_key, Made, Seed, Sizes, BLOCK_HEAD, HEADER, NODE, P};
 use std::collections::BTreeMap;
 
@@ -55,6 +57,10 @@ impl<'p, 'a> Rounds<'p, 'a> {
         for round in 0..amount.0 {
             self.histories(33)?;
             self.every_edit()?;
+            for _ in 0..4 {
+                let (made, orders) = self.small_image(900);
+                self.every_seek(&made, orders)?;
+            }
             if round % Amount::BETWEEN_HASHES == 0 {
                 self.hashes()?;
             }
@@ -428,7 +434,7 @@ impl Rounds<'_, '_> {
         }
     }
 
-    /// One lookup, descent, span or seek.
+    /// One lookup, descent or span, or a seek asked twice.
     fn reading(&mut self, length: usize, keys: &[u32]) -> Outcome {
         let (one, two) = (self.key(keys), self.key(keys));
         let (lo, hi) = match self.generator.below(12) {
@@ -440,7 +446,11 @@ impl Rounds<'_, '_> {
             0 => Step::Lookup { length, key: one },
             1 | 2 => self.descent(length, one),
             3 => self.span(length, lo, hi),
-            _ => self.seek(length, lo, hi),
+            _ => {
+                let seek = self.seek(length, lo, hi);
+                self.pair.take(seek.clone())?;
+                seek
+            }
         };
         self.pair.take(step)?;
         Ok(())
@@ -595,6 +605,35 @@ impl Rounds<'_, '_> {
         }
         if self.pair.take(Step::Cancel { length, key })?.number == 0 {
             self.pair.set(0, bytes);
+        }
+        Ok(())
+    }
+}
+
+// ---- every seek in small tables ------------------------------------------------
+
+/// Total and displayed of orders whose reserves are equal or differ by one: hidden, displayed whole, and with 1, 1, 2, 3 behind what they display.
+const CLOSE_QUANTITIES: [(u32, u32); 6] = [(2, 0), (7, 7), (7, 6), (2, 1), (7, 5), (7, 4)];
+
+impl Rounds<'_, '_> {
+    /// The orders with such quantities: every seek from one of their keys to another, and from just behind the one to just before the other, for
+    /// every r that one of them can have and one more. Each is asked twice.
+    fn every_seek(&mut self, made: &Made, mut orders: Orders) -> Outcome {
+        for order in orders.values_mut() {
+            let (total, displayed) = self.generator.pick(&CLOSE_QUANTITIES);
+            *order = Quantities { total, displayed };
+        }
+        let length = made.sizes.length();
+        self.stand(made, &orders);
+        for &lo in orders.keys() {
+            for (&hi, _) in orders.range(lo..) {
+                for (lo, hi) in [(lo, hi), (lo + 1, hi - 1)] {
+                    for r in 0..=4 {
+                        self.pair.take(Step::Seek { length, lo, hi, r })?;
+                        self.pair.take(Step::Seek { length, lo, hi, r })?;
+                    }
+                }
+            }
         }
         Ok(())
     }

@@ -3,15 +3,14 @@
 use crate::archive::Calls;
 use crate::tickets::{self, Found, Kind, Ticket, TICKETS};
 use reference::calls::{self, stays_within, Reply};
-use reference::image::held;
-use reference::lists::Orders;
 use reference::samples::{fnv_1a, largest_seed, power_seed};
+use reference::seeks::{Sought, SEEKS};
 use reference::sizes::{Made, Sizes};
 use std::fmt::Write;
 use std::time::{Duration, Instant};
 
 /// A step on a store of bytes, as the reference's `vectors` describes them. A call is lent the first `length` bytes.
-#[derive(Clone, Debug)]
+#[derive(Clone, Debug, PartialEq, Eq)]
 pub enum Step {
     Room {
         size: usize,
@@ -87,14 +86,15 @@ pub const NUMBERS: [&[usize]; 9] = [
 ];
 
 /// How often each call answered each number, how many descents there were whose answer no definition decides, how often each kind of enter and
-/// amend came, and of seek that tells one reserve from another, and how many orders of each level and with each kind of hash were entered into
-/// tables made for that.
+/// amend came, and of seek, how many seeks were the call before again, and how many orders of each level and with each kind of hash were
+/// entered into tables made for that.
 #[derive(Clone, Default)]
 pub struct Tally {
     answered: [[u64; 14]; 9],
     pub undecided: u64,
     pub tickets: [u64; TICKETS.len()],
     pub seeks: [u64; SEEKS.len()],
+    pub asked_again: u64,
     pub levels: [[[u64; 19]; GAMMAS.len()]; WAYS.len()],
     pub hashes: [u64; HASHES.len()],
 }
@@ -151,38 +151,8 @@ pub fn most_levels(gamma: u32) -> u32 {
     sizes.beta()
 }
 
-/// Seeks at the edges of what counts as reserve: whoever leaves a hidden order out, takes its total for its reserve, or is off by one, answers
-/// some of them otherwise.
-pub const SEEKS: [&str; 8] = [
-    "r = 0 where all orders are hidden",
-    "12 to r = 1 beside a hidden order",
-    "12 to r below a hidden order's total",
-    "12 to r = a hidden order's total",
-    "12 to r one above a hidden order's total",
-    "an order behind a hidden one whose total is r or more",
-    "r = the reserve of the order given",
-    "12 to r one above a reserve",
-];
-
-/// Which of these kinds a seek is, by the orders in its range and the right answer.
-fn kinds(orders: &Orders, (lo, hi, r): (u32, u32, u32), reply: &Reply) -> [bool; SEEKS.len()] {
-    let inside = || orders.range(lo..=hi);
-    let given = orders.get(&reply.key).filter(|_| r > 0);
-    let twelve = reply.number == 12;
-    let hidden = |suits: &dyn Fn(u32, u32) -> bool| {
-        inside().any(|(&key, order)| order.is_hidden() && suits(key, order.total))
-    };
-    [
-        r == 0 && !twelve && inside().all(|(_, order)| order.is_hidden()),
-        twelve && r == 1 && hidden(&|_, _| true),
-        twelve && r > 1 && hidden(&|_, total| r < total),
-        twelve && r > 1 && hidden(&|_, total| r == total),
-        twelve && hidden(&|_, total| total.checked_add(1) == Some(r)),
-        given.is_some() && hidden(&|key, total| key < reply.key && r <= total),
-        given.map_or(false, |order| order.reserve() == r),
-        twelve && inside().any(|(_, order)| !order.is_hidden() && order.reserve() + 1 == r),
-    ]
-}
+/// How the tally calls a seek that is the call before again.
+pub const ASKED_AGAIN: &str = "a seek that was just asked, asked again";
 
 impl Tally {
     pub fn calls(&self) -> u64 {
@@ -206,8 +176,8 @@ impl Tally {
         }
     }
 
-    fn count_seek(&mut self, orders: &Orders, asked: (u32, u32, u32), reply: &Reply) {
-        for (count, met) in self.seeks.iter_mut().zip(kinds(orders, asked, reply)) {
+    fn count_seek(&mut self, sought: &Sought) {
+        for (count, met) in self.seeks.iter_mut().zip(sought.kinds()) {
             *count += u64::from(met);
         }
     }
@@ -247,10 +217,16 @@ impl Tally {
         kinds.min().expect("there are kinds")
     }
 
-    /// The kind of seek that came least often, and how often.
+    /// Each kind of seek, and how often it came.
+    pub fn seek_kinds(&self) -> impl Iterator<Item = (u64, &'static str)> + '_ {
+        let names = SEEKS.iter().map(|&(kind, _)| kind);
+        let kinds = self.seeks.iter().copied().zip(names);
+        kinds.chain([(self.asked_again, ASKED_AGAIN)])
+    }
+
+    /// The one that came least often.
     pub fn rarest_seek(&self) -> (u64, &'static str) {
-        let kinds = self.seeks.iter().copied().zip(SEEKS);
-        kinds.min().expect("there are kinds")
+        self.seek_kinds().min().expect("there are kinds")
     }
 }
 
@@ -365,13 +341,15 @@ impl<'a> Pair<'a> {
         let (wanted, expected_output) = on_reference(&mut self.expected, step);
         let name = CALLS[call];
         match wanted {
-            Some(wanted) => {
-                self.judge_answer(step, &found, &wanted)
-                    .map_err(|what| format!("{name} {what}"))?;
+            Some(wanted) if found != wanted => {
+                return Err(format!("{name} answered {found:?}, not {wanted:?}"));
+            }
+            Some(_) => {
                 self.tally.answered[call][found.number as usize] += 1;
                 if let Some((ticket, before)) = ticket {
                     self.tally.count_ticket(&ticket, &before, found.number);
                 }
+                self.count_seek(step, found);
             }
             None => self.tally.undecided += 1,
         }
@@ -468,22 +446,14 @@ impl<'a> Pair<'a> {
         Ok(found)
     }
 
-    fn judge_answer(&mut self, step: &Step, found: &Reply, wanted: &Reply) -> Result<(), String> {
-        let right = match *step {
-            Step::Seek { length, lo, hi, r } if [0, 12].contains(&wanted.number) => {
-                let (_, orders) = held(&self.expected[..length]).expect("no 4");
-                self.tally.count_seek(&orders, (lo, hi, r), wanted);
-                match wanted.number {
-                    0 => fits(&orders, (lo, hi, r), found),
-                    _ => found == wanted,
-                }
+    /// Counts a seek by its kinds; one that is the step before again, as that alone.
+    fn count_seek(&mut self, step: &Step, reply: Reply) {
+        if let Step::Seek { length, lo, hi, r } = *step {
+            if self.steps.iter().rev().nth(1) == Some(step) {
+                self.tally.asked_again += 1;
+            } else if let Some(sought) = Sought::new(&self.expected[..length], (lo, hi, r), reply) {
+                self.tally.count_seek(&sought);
             }
-            _ => found == wanted,
-        };
-        if right {
-            Ok(())
-        } else {
-            Err(format!("answered {found:?}, not {wanted:?}"))
         }
     }
 }
@@ -521,18 +491,6 @@ fn first_difference(one: &[u8], two: &[u8]) -> Option<usize> {
 /// An output before the call.
 fn before(room: usize) -> Vec<u8> {
     (0..room).map(|i| (i % 251) as u8).collect()
-}
-
-/// Whether a seek's answer is one that documents 01 and 02 allow: "some such order", with its own quantities.
-fn fits(orders: &Orders, (lo, hi, r): (u32, u32, u32), found: &Reply) -> bool {
-    match orders.get(&found.key) {
-        Some(order) => {
-            *found == Reply::order(found.key, order)
-                && (lo..=hi).contains(&found.key)
-                && order.reserve() >= r
-        }
-        None => false,
-    }
 }
 
 /// The reference's answer, and the whole output of a span or descent. No answer where no definition decides; the output is then as before.

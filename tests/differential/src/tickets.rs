@@ -14,7 +14,7 @@ pub enum Kind {
 pub const BOTH: [Kind; 2] = [Kind::Enter, Kind::Amend];
 
 /// One enter or amend.
-#[derive(Clone, Copy, Debug)]
+#[derive(Clone, Copy, Debug, PartialEq, Eq)]
 pub struct Ticket {
     pub kind: Kind,
     pub key: u32,
@@ -36,7 +36,7 @@ impl Ticket {
     }
 }
 
-/// The table as a ticket finds it.
+/// The table as a ticket or seek finds it.
 pub struct Found {
     pub made: Made,
     pub orders: Orders,
