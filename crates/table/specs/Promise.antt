@@ -123,7 +123,8 @@ unfolding Runs
 answers [] x z w = []
 answers (c ∷ cs) x z w = answer c x (w .0) (w .1) ∷ answers cs (w .0) z (w .2)
 
--- Document 01, "Contracts": "what none decides is named there". On an image a definition decides every answer; on other bytes all but a descent's that passes its 4 and 5
+-- Document 01, "Contracts": "what none decides is named there". On an image definitions decide every answer; on other bytes, too, all but those of a descent
+-- that its 4 and 5 let pass
 unfoldable pub decided : Call → (table : List ℕ) → Bool
 decided (enter k t d) x = true
 decided (amend k t d) x = true
