@@ -4,8 +4,6 @@
 #include "peers/descent.h"
 #include "variants.h"
 
-enum { RESERVE = 2000000000 };
-
 int archive_check(void *p) {
     const scene *s = p;
     return balluchaw_check(s->table, s->length) != 0;
@@ -53,11 +51,20 @@ int archive_span(void *p) {
     return r.number != 0 || r.count != s->of.held;
 }
 
-/* From the picked order on, one with a large reserve; near the end there may be none. A wholly hidden order has none. */
+static int is_another(balluchaw_reply r, const order *o) {
+    return r.number != (o->key ? 0 : 12) || r.key != o->key || r.total != o->total || r.displayed != o->displayed || r.count != 0;
+}
+
+/* From the picked order on, the first with a large reserve; near the end there may be none. */
 int archive_seek(void *p) {
     const scene *s = p;
-    balluchaw_reply r = balluchaw_seek(s->table, s->length, s->picked.key, P31 - 1, RESERVE);
-    return r.number != 12 && (r.number != 0 || r.key < s->picked.key || r.displayed == 0 || r.total - r.displayed < RESERVE);
+    return is_another(balluchaw_seek(s->table, s->length, s->picked.key, P31 - 1, RESERVE), &s->sought);
+}
+
+/* From the picked order to one near it, more than any order has. */
+int archive_seek_short(void *p) {
+    const scene *s = p;
+    return is_another(balluchaw_seek(s->table, s->length, s->picked.key, s->hi, UINT32_MAX), &s->sought);
 }
 
 /* An order that archive_away took out. */

@@ -56,7 +56,7 @@ static const variant other_checks[] = {
 static const variant calls[] = {
     {"check", "balluchaw", archive_check, archive_pick, 0, 1, FEW, {0}},
     {"lookup", "balluchaw", archive_lookup, archive_pick, 0, 1, FEW, {0}},
-    {"seek", "balluchaw", archive_seek, archive_pick, 0, 1, FEW, {0}},
+    {"seek", "balluchaw", archive_seek, aim_any, 0, 1, FEW, {0}},
     {"span of all", "balluchaw", archive_span, 0, 0, 1, FEW, {0}},
     {"cancel", "balluchaw", archive_cancel, archive_pick, archive_back, 1, FEW, {0}},
     {"enter", "balluchaw", archive_enter, archive_away, archive_kept, 1, FEW, {0}},

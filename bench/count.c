@@ -39,10 +39,14 @@ static void count_all(configuration of) {
         count(&s, "descent, not held", archive_descent, ask_free, NULL);
         count(&s, "the same in C", descent_in_fast_c, ask_free, NULL);
         count(&s, "lookup", archive_lookup, archive_pick, NULL);
-        count(&s, "seek", archive_seek, archive_pick, NULL);
+        count(&s, "seek", archive_seek, aim_any, NULL);
         count(&s, "cancel", archive_cancel, archive_pick, archive_back);
         count(&s, "enter", archive_enter, archive_away, NULL);
         count(&s, "amend", archive_amend, archive_pick, archive_back);
+    }
+    for (int i = 0; i < KEYS; i++) {
+        count(&s, "seek far", archive_seek, aim_far, NULL);
+        count(&s, "seek short", archive_seek_short, aim_short, NULL);
     }
     same_bytes(&s);
     scene_close(&s);

@@ -6,7 +6,7 @@ import re
 import statistics
 import sys
 
-CALLS = ["lookup", "seek", "span of all", "cancel", "enter", "amend"]
+CALLS = ["lookup", "seek", "seek far", "seek short", "span of all", "cancel", "enter", "amend"]
 UNCHECKED = ["descent", "descent in C", "descent, not held", "the same in C"]
 
 

@@ -36,10 +36,23 @@ static void make_near_p(scene *s) {
         if (balluchaw_enter(t, s->length, 1000 * i, i + 1, i) != 0) fail("enter: refused");
 }
 
+/* The same orders with other quantities, written where they stand: the nodes of level 1, of which the front has none. */
+static void leave_one_reserve(scene *s) {
+    u8 *last = NULL;
+    for (u8 *b = s->table + 53; b < s->table + s->length; b += 8 + 12 * (size_t)s->of.nodes)
+        for (u8 *node = b + 8; b[0] == 1 && node < b + 8 + 12 * b[1]; node += 12) {
+            memcpy(node + 8, node + 4, 4);
+            if (!last || be32(node) > be32(last)) last = node;
+        }
+    if (balluchaw_amend(s->table, s->length, be32(last), RESERVE + 1, 1) != 0) fail("amend: refused");
+}
+
 void scene_open(scene *s, configuration of, int strict) {
+    const u32 shape = of.shape < NEAR_P ? of.shape : of.shape == NEAR_P ? FLAT : RANDOM;
     *s = (scene){.of = of, .random = 7, .strict = strict, .key_random = 11};
-    s->table = sample_new(of.gamma, of.nodes, of.held, of.held, of.percent, of.shape == NEAR_P ? FLAT : of.shape, &s->length);
+    s->table = sample_new(of.gamma, of.nodes, of.held, of.held, of.percent, shape, &s->length);
     if (of.shape == NEAR_P) make_near_p(s);
+    if (of.shape == ONE_RESERVE) leave_one_reserve(s);
     s->first_bytes = room_for(s->length);
     memcpy(s->first_bytes, s->table, s->length);
     s->blocks = be16(s->table + 9);
@@ -67,6 +80,34 @@ void scene_close(scene *s) {
 }
 
 void pick(scene *s) { s->picked = s->orders[rng(&s->random) % s->of.held]; }
+
+static int has_reserve(const order *o) { return o->displayed > 0 && o->total - o->displayed >= RESERVE; }
+
+/* From this place among the orders on. */
+static void aim(scene *s, u32 i) {
+    s->picked = s->orders[i];
+    while (i < s->of.held && !has_reserve(&s->orders[i])) i++;
+    s->sought = i < s->of.held ? s->orders[i] : (order){0, 0, 0};
+}
+
+void aim_any(void *p) {
+    scene *s = p;
+    aim(s, s->of.shape == ONE_RESERVE ? 0 : rng(&s->random) % s->of.held);
+}
+
+void aim_far(void *p) {
+    scene *s = p;
+    aim(s, s->of.held - 1 - rng(&s->random) % (s->of.held / 10));
+    if (s->sought.key) s->picked = s->sought;
+}
+
+void aim_short(void *p) {
+    scene *s = p;
+    const order *first = s->orders + rng(&s->random) % (s->of.held / 10);
+    s->picked = *first;
+    s->hi = first[7].key;
+    s->sought = (order){0, 0, 0};
+}
 
 static int is_held(const scene *s, u32 key) { return bsearch(&key, s->orders, s->of.held, sizeof *s->orders, cmp_u32) != NULL; }
 

@@ -5,8 +5,9 @@
 #include <stddef.h>
 #include <stdint.h>
 
-/* What a table is made of; `shape` as in rust/peers.h, or NEAR_P: one partition has every order, and the places of its chunks go past p. */
-enum { NEAR_P = 100 };
+/* What a table is made of; `shape` as in rust/peers.h, or NEAR_P: one partition has every order, and the places of its chunks go past p; or ONE_RESERVE: as
+ * RANDOM, but all orders but the last are wholly displayed. */
+enum { NEAR_P = 100, ONE_RESERVE };
 
 typedef struct {
     const char *title;
@@ -20,6 +21,9 @@ typedef struct {
 } order;
 
 enum { ASKED = 2000 };
+
+/* What seeks ask for. An archive.c of before asks for the same. */
+enum { RESERVE = 2000000000 };
 
 /* An archive.c of before reads this too (make bench-turns), so what is new stands at the end. */
 typedef struct {
@@ -38,6 +42,8 @@ typedef struct {
     const order *asked;           /* what is asked for next */
     uint8_t *path;                /* room for any path */
     size_t path_room;
+    order sought; /* what the seek of the present turn has to give; key 0: there is none */
+    uint32_t hi;  /* where a seek in a short range ends */
 } scene;
 
 void scene_open(scene *s, configuration of, int strict);
@@ -45,6 +51,10 @@ void scene_close(scene *s);
 
 /* Picks the next order, at random. */
 void pick(scene *s);
+
+/* Pick where the next seek begins, at random, and what it has to give. Any: anywhere; in a table of one reserve at the first order, so that every seek goes all
+ * the way. Far: in the last tenth, at an order that has the reserve, if one comes there. Short: eight orders in the first tenth, none of which has enough. */
+void aim_any(void *p), aim_far(void *p), aim_short(void *p);
 
 /* Chooses other keys for the descents, at random; all variants of a round ask for the same. */
 void choose_keys(void *p);

@@ -3,7 +3,10 @@
  *     turns [ROUNDS]      prints, for each table, the median over the rounds of now's time for each ns of before's
  *
  * Each side is bench/archive.c of its own folder with the archive of that folder, so a call may have another shape before than now: a put of a free key where
- * now there is enter, and of a held one where there is amend. What the archive before does not have is left out. */
+ * now there is enter, and of a held one where there is amend. What the archive before does not have is left out.
+ *
+ * "seek" begins anywhere and soon finds an order; in the tables of one reserve it goes from the first order to the last. "seek far" begins in the last tenth and
+ * finds its first order, "seek short" finds none of eight in the first tenth: a seek that looks beyond its range, below or above, is slow there. */
 #include "rust/peers.h"
 #include "timing.h"
 #include "variants.h"
@@ -13,12 +16,14 @@
 
 #define SIDE(side)                                                                                                                                     \
     int side##_check(void *p), side##_lookup(void *p), side##_seek(void *p), side##_span(void *p), side##_cancel(void *p), side##_enter(void *p);      \
-    int side##_amend(void *p), side##_descent(void *p) __attribute__((weak));                                                                          \
+    int side##_amend(void *p), side##_descent(void *p) __attribute__((weak)), side##_seek_short(void *p) __attribute__((weak));                        \
     void side##_pick(void *p), side##_away(void *p), side##_back(void *p), side##_kept(void *p);                                                       \
     static const variant side##_calls[] = {                                                                                                            \
         {"check", #side, side##_check, 0, 0, 1, 1, {0}},                                                                                               \
         {"lookup", #side, side##_lookup, side##_pick, 0, 1, 1, {0}},                                                                                   \
-        {"seek", #side, side##_seek, side##_pick, 0, 1, 1, {0}},                                                                                       \
+        {"seek", #side, side##_seek, aim_any, 0, 1, 1, {0}},                                                                                           \
+        {"seek far", #side, side##_seek, aim_far, 0, 1, 1, {0}},                                                                                       \
+        {"seek short", #side, side##_seek_short, aim_short, 0, 1, 1, {0}},                                                                             \
         {"span of all", #side, side##_span, 0, 0, 1, 1, {0}},                                                                                          \
         {"cancel", #side, side##_cancel, side##_pick, side##_back, 1, 1, {0}},                                                                         \
         {"enter", #side, side##_enter, side##_away, side##_kept, 1, 1, {0}},                                                                           \
@@ -37,7 +42,7 @@ static const configuration configurations[] = {
     {"load 0.80", 16, 16, 1000, 80, RANDOM, 0, 0},    {"load 0.80", 16, 16, 10000, 80, RANDOM, 0, 0},    {"load 0.80", 16, 16, 60000, 80, RANDOM, 0, 0},
     {"large blocks", 64, 32, 1000, 80, RANDOM, 0, 0}, {"large blocks", 64, 32, 10000, 80, RANDOM, 0, 0}, {"large blocks", 64, 32, 60000, 80, RANDOM, 0, 0},
     {"small blocks", 2, 2, 1000, 80, RANDOM, 0, 0},   {"small blocks", 2, 2, 10000, 80, RANDOM, 0, 0},   {"small blocks", 2, 2, 30000, 80, RANDOM, 0, 0},
-    {"one partition", 16, 16, 60000, 80, FLAT, 0, 0},
+    {"one partition", 16, 16, 60000, 80, FLAT, 0, 0}, {"one reserve", 16, 16, 10000, 80, ONE_RESERVE, 0, 0}, {"one reserve", 2, 2, 10000, 80, ONE_RESERVE, 0, 0},
 };
 
 static int on_both_sides(int call) { return now_calls[call].call && before_calls[call].call; }

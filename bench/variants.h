@@ -7,7 +7,8 @@
 /* archive.c: the archive's calls, and the checks and the descent in C beside them */
 int archive_check(void *p), check_in_plain_c(void *p), check_in_tuned_c(void *p), check_in_fast_c(void *p);
 int archive_descent(void *p), descent_in_fast_c(void *p);
-int archive_lookup(void *p), archive_span(void *p), archive_seek(void *p), archive_enter(void *p), archive_amend(void *p), archive_cancel(void *p);
+int archive_lookup(void *p), archive_span(void *p), archive_seek(void *p), archive_seek_short(void *p);
+int archive_enter(void *p), archive_amend(void *p), archive_cancel(void *p);
 void archive_away(void *p), archive_back(void *p), archive_kept(void *p), archive_pick(void *p);
 
 /* plain.c: the reference, and a BTreeMap that is written out whole */

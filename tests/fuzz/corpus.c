@@ -38,7 +38,20 @@ static size_t order_step(uint8_t *to, uint8_t kind) {
     return 5;
 }
 
-/* Sizes, a kind of seed, then calls: many enters of any keys, amends of held ones, a few enters of held keys and amends of any, then all kinds. */
+/* A seek for less than 100, often for 0 or 1, or for about what some order has; in a short range of the keys that other steps have, or in one to
+ * the last of them. */
+static size_t seek_step(uint8_t *to, uint8_t orders) {
+    uint32_t about = draw() % 2, lo = draw() % (2u * orders);
+    to[0] = 11;
+    to[1] = (uint8_t)(draw() & ~16u);
+    to[2] = (uint8_t)lo;
+    to[3] = (uint8_t)(draw() % 2 ? lo + draw() % 8 : 2u * orders + 7);
+    to[4] = (uint8_t)(about ? 124 + draw() % 132 : draw() % (draw() % 2 ? 100 : 2));
+    to[5] = (uint8_t)draw();
+    return about ? 6 : 5;
+}
+
+/* Sizes, a kind of seed, then calls: many enters of any keys, amends of held ones, a few enters of held keys and amends of any, seeks, then any. */
 static void calls(uint8_t gamma, uint8_t nodes, uint8_t orders, uint8_t more, uint8_t seed) {
     enum { ENTER_HELD = 0, ENTER_ANY = 16, AMEND_ANY = 4, AMEND_HELD = 20 };
     static const uint8_t seed_bytes[] = {0, 0, 8, 36, 40, 4, 4, 4}; /* what each kind of seed reads */
@@ -55,11 +68,12 @@ static void calls(uint8_t gamma, uint8_t nodes, uint8_t orders, uint8_t more, ui
     for (int i = 0; i < orders + 4; i++) n += order_step(bytes + n, ENTER_ANY);
     for (int i = 0; i < orders / 2 + 2; i++) n += order_step(bytes + n, AMEND_HELD);
     for (int i = 0; i < 4; i++) n += order_step(bytes + n, i % 2 ? ENTER_HELD : AMEND_ANY);
+    for (int i = 0; i < 24; i++) n += seek_step(bytes + n, orders);
     while (n < sizeof bytes) bytes[n++] = (uint8_t)draw();
     save(bytes, n);
 }
 
-/* A table with some orders, as it is, asking for a header that fits, and asking for other blocks. */
+/* A table with some orders, as it is, asking for a header that fits, and asking for other blocks; and with a last block of too many nodes. */
 static void image(uint32_t gamma, uint32_t nodes, uint32_t orders, uint32_t blocks, uint32_t held) {
     size_t length = BALLUCHAW_LENGTH(nodes, blocks);
     uint8_t *bytes = malloc(1 + length), seed[40];
@@ -77,6 +91,11 @@ static void image(uint32_t gamma, uint32_t nodes, uint32_t orders, uint32_t bloc
         bytes[0] = first;
         save(bytes, 1 + length);
     }
+    uint8_t *last = bytes + 1 + length - (8 + 12 * nodes);
+    bytes[0] = 192;
+    last[0] = 1;
+    last[1] = 255;
+    save(bytes, 1 + length);
     free(bytes);
 }
 
@@ -95,6 +114,7 @@ int main(int count, char **words) {
     image(16, 8, 40, 14, 40);
     image(64, 32, 100, 6, 60);
     image(2, 3, 1, 2, 0);
+    image(64, 24, 64, 5, 64); /* more orders than lists of calls lead to, and no more bytes than an input has */
     printf("corpus: %u first inputs\n", files);
     return 0;
 }

@@ -4,6 +4,7 @@
  * somebody made. Input that ends early reads as zeros. What must hold stands in the functions named after the calls:
  *   - a call answers the number that a plain model of documents 01 and 02 gives, and all parts of its answer;
  *   - a refused call and a reading change no byte of the table, a refused span none of its output;
+ *   - a seek gives the lowest order of its range that has the reserve, asked again too;
  *   - after an edit the check answers 0, and lookup and span give what the model holds;
  *   - the same orders entered into a new table in another order, some of them amended later, give the same bytes;
  *   - bytes that the check accepts are those that make and enters of their own orders give; on others every call but descent answers 4;
@@ -436,8 +437,11 @@ static void span(const model *m, table *t, uint32_t lo, uint32_t hi, size_t room
     give_back(OUTPUT, output, room, how / 8);
 }
 
-static int has_reserve(const order *o, uint32_t lo, uint32_t hi, uint32_t reserve) {
-    return o->key >= lo && o->key <= hi && reserve_of(o) >= reserve;
+/* The order with the smallest key in lo..hi that has the reserve; NULL where there is none. */
+static const order *lowest(const model *m, uint32_t lo, uint32_t hi, uint32_t reserve) {
+    uint32_t i = place_of(m, lo);
+    while (i < m->n && reserve_of(&m->held[i]) < reserve) i++;
+    return i < m->n && m->held[i].key <= hi ? &m->held[i] : NULL;
 }
 
 /* Tells how what is sought stands to what an order of the range has in reserve and in all, for hidden orders and others apart. */
@@ -447,19 +451,34 @@ static void sought(const order *o, uint32_t reserve, uint32_t number) {
     feature(3000 + edges * 4 + (o->displayed == 0) * 2 + (number == 0));
 }
 
+/* Tells where the lowest stands: how many of the range come before it, how many of the range have the reserve, and whether some outside have. */
+static void stands(const model *m, uint32_t lo, uint32_t hi, uint32_t reserve) {
+    uint32_t passed = 0, fit = 0, below = 0, above = 0;
+    for (uint32_t i = 0; i < m->n; i++) {
+        const order *o = &m->held[i];
+        uint32_t fits = reserve_of(o) >= reserve;
+        if (o->key < lo) below |= fits;
+        else if (o->key > hi) above |= fits;
+        else if (fits) fit++;
+        else passed += fit == 0;
+    }
+    feature(3400 + (passed < 7 ? passed : 7) * 16 + (fit < 3 ? fit : 3) * 4 + below * 2 + above);
+}
+
 static void seek(const model *m, table *t, uint32_t lo, uint32_t hi, uint32_t reserve, unsigned how) {
-    uint8_t *lent = lend(t, how);
-    balluchaw_reply r = balluchaw_seek(lent, t->length, lo, hi, reserve);
-    take_back(t, lent, how, 0);
-    feature(SEEK * 16 + r.number);
-    uint32_t number = !m ? 4 : !is_key(lo) || !is_key(hi) ? 5 : lo > hi ? 10 : 12;
-    for (uint32_t i = 0; number == 12 && i < m->n; i++)
-        if (has_reserve(&m->held[i], lo, hi, reserve)) number = 0;
-    const order *o = number == 0 ? find(m, r.key) : &none;
-    must(o && is_reply(r, number, *o, 0), "seek answers as the model, with an order that is held");
-    if (number == 0) must(has_reserve(o, lo, hi, reserve), "seek gives an order that fits");
-    for (uint32_t i = 0; (number == 0 || number == 12) && i < m->n; i++)
-        if (m->held[i].key >= lo && m->held[i].key <= hi) sought(&m->held[i], reserve, number);
+    const order *o = m ? lowest(m, lo, hi, reserve) : NULL;
+    uint32_t number = !m ? 4 : !is_key(lo) || !is_key(hi) ? 5 : lo > hi ? 10 : !o ? 12 : 0;
+    for (unsigned again = 0; again < 2; again++) {
+        uint8_t *lent = lend(t, how + again);
+        balluchaw_reply r = balluchaw_seek(lent, t->length, lo, hi, reserve);
+        take_back(t, lent, how + again, 0);
+        feature(SEEK * 16 + r.number % 16);
+        int right = is_reply(r, number, number == 0 ? *o : none, 0);
+        must(right, again ? "a seek asked again answers the same" : "seek answers as the model, with the lowest that fits");
+    }
+    if (number != 0 && number != 12) return;
+    stands(m, lo, hi, reserve);
+    for (uint32_t i = place_of(m, lo); i < m->n && m->held[i].key <= hi; i++) sought(&m->held[i], reserve, number);
 }
 
 /* An order of a table whose other orders are not known: it cannot be entered, and amended to what it is it leaves the bytes. */
@@ -473,13 +492,20 @@ static void held_in(table *t, order o, unsigned how) {
     free(before);
 }
 
-/* An order of a table whose other orders are not known: a seek finds it up to its reserve, and not for one more. */
-static void seek_to(table *t, order o, unsigned how) {
+static order order_at(const uint8_t *row) { return (order){number_at(row), number_at(row + 4), number_at(row + 8), 0}; }
+
+/* Rows of a table, none between them left out: a seek from the first to the last gives the first for its reserve, and for one more the next that
+ * has it. */
+static void seek_among(table *t, const uint8_t *rows, uint32_t count, unsigned how) {
+    order first = order_at(rows), last = order_at(rows + 12 * (size_t)(count - 1));
     for (uint32_t more = 0; more < 2; more++) {
+        order o = first;
+        uint32_t i = 0, reserve = reserve_of(&first) + more;
+        while (reserve_of(&o) < reserve && ++i < count) o = order_at(rows + 12 * (size_t)i);
         uint8_t *lent = lend(t, how + more);
-        balluchaw_reply r = balluchaw_seek(lent, t->length, o.key, o.key, reserve_of(&o) + more);
+        balluchaw_reply r = balluchaw_seek(lent, t->length, first.key, last.key, reserve);
         take_back(t, lent, how + more, 0);
-        must(is_reply(r, more ? 12 : 0, more ? none : o, 0), "a seek on a table finds its order up to its reserve");
+        must(is_reply(r, i < count ? 0 : 12, i < count ? o : none, 0), "a seek on a table gives the lowest of its orders that fits");
     }
 }
 
@@ -550,12 +576,13 @@ static void foreign(table *t, unsigned how) {
     must(make(&m, &second, how) == 0, "the sizes and seed of a table are ones that make allows");
     for (uint32_t i = 0; i < n; i++) {
         const uint8_t *row = rows + 12 * (size_t)(n - 1 - i);
-        order o = {number_at(row), number_at(row + 4), number_at(row + 8), 0};
+        order o = order_at(row);
         must(enter(&second, o, how) == 0, "the orders of a table fit into its sizes");
         if (i < 16) descent_to(t, o, how + i);
-        if (i < 4) seek_to(t, o, how + i);
+        if (i < 4) seek_among(t, row, 1, how + i);
         if (i < 4) held_in(t, o, how + i);
     }
+    for (uint32_t i = 0; i < 4 && i < n; i++) seek_among(t, rows + 12 * (size_t)(n * i / 4), 1 + (n - n * i / 4) / 2, how + i);
     must(memcmp(second.bytes, t->bytes, t->length) == 0, "a table that the check accepts is what its orders give");
     free(rows);
     free(second.bytes);

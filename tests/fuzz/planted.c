@@ -22,11 +22,10 @@ static int fault(int which) {
 
 static volatile uint8_t seen;
 
-/* Whether the last block is used; its last byte is free in any case while the block is not full. */
+/* Whether the last block is used; its last byte is free in any case while the block is not full. What is no table may have no such block. */
 static int last_byte_free(const uint8_t *table, size_t length) {
-    uint32_t nodes = table[6];
-    const uint8_t *block = table + length - (8 + 12 * nodes);
-    return block[1] < nodes;
+    uint32_t nodes = table[6], width = 8 + 12 * nodes;
+    return 53 + width <= length && table[length - width + 1] < nodes;
 }
 
 uint32_t __wrap_balluchaw_check(const uint8_t *table, size_t length) {
@@ -148,32 +147,88 @@ static int exact_refused(uint32_t total, uint32_t displayed, uint32_t reserve) {
     return reserve == 0 || (displayed > 0 && total - displayed > reserve);
 }
 
-/* Faults 17 to 21. They show in ranges of several keys alone: a seek for one order of a foreign table does not meet them. */
+/* Faults 17 to 21. They and 32 to 39 show only where lo is not held: a seek from one of a foreign table's orders does not meet them. */
 static takes *const other_reserves[] = {old_reserve, hidden_left_out, hidden_at_one, hidden_at_total, exact_refused};
 
 static uint32_t number_at(const uint8_t *p) { return (uint32_t)p[0] << 24 | (uint32_t)p[1] << 16 | (uint32_t)p[2] << 8 | p[3]; }
 
-/* The first order of the range that is taken, as a seek's answer. */
-static balluchaw_reply first_taken(takes *taken, const uint8_t *table, size_t length, uint32_t lo, uint32_t hi, uint32_t reserve) {
-    size_t room = 12 * ((size_t)table[11] << 8 | table[12]);
-    uint8_t *rows = malloc(room + 1);
-    if (!rows) abort();
-    uint32_t count = __real_balluchaw_span(table, length, lo, hi, rows, room).count;
-    balluchaw_reply reply = {12, 0, 0, 0, 0};
-    for (uint32_t i = 0; reply.number == 12 && i < count; i++) {
+static const balluchaw_reply twelve = {12, 0, 0, 0, 0};
+
+/* The orders of the range that are taken, rising, each as a seek's answer; a 12 behind them. How many they are goes to `fit`. */
+static balluchaw_reply *all_taken(takes *taken, const uint8_t *table, size_t length, uint32_t lo, uint32_t hi, uint32_t reserve, uint32_t *fit) {
+    size_t held = (size_t)table[11] << 8 | table[12];
+    uint8_t *rows = malloc(12 * held + 1);
+    balluchaw_reply *found = malloc((held + 1) * sizeof *found);
+    if (!rows || !found) abort();
+    uint32_t count = __real_balluchaw_span(table, length, lo, hi, rows, 12 * held).count;
+    *fit = 0;
+    for (uint32_t i = 0; i < count; i++) {
         const uint8_t *row = rows + 12 * (size_t)i;
         uint32_t total = number_at(row + 4), displayed = number_at(row + 8);
-        if (taken(total, displayed, reserve)) reply = (balluchaw_reply){0, number_at(row), total, displayed, 0};
+        if (taken(total, displayed, reserve)) found[(*fit)++] = (balluchaw_reply){0, number_at(row), total, displayed, 0};
     }
+    found[*fit] = twelve;
     free(rows);
+    return found;
+}
+
+static balluchaw_reply first_taken(takes *taken, const uint8_t *table, size_t length, uint32_t lo, uint32_t hi, uint32_t reserve) {
+    uint32_t fit;
+    balluchaw_reply *found = all_taken(taken, table, length, lo, hi, reserve, &fit), first = found[0];
+    free(found);
+    return first;
+}
+
+static uint32_t reserve_of(uint32_t total, uint32_t displayed) { return displayed == 0 ? 0 : total - displayed; }
+
+static int fits(uint32_t total, uint32_t displayed, uint32_t reserve) { return reserve_of(total, displayed) >= reserve; }
+
+static int is_order(uint32_t total, uint32_t displayed, uint32_t reserve) { return (void)displayed, (void)reserve, total > 0; }
+
+static uint32_t largest(const balluchaw_reply *found, uint32_t fit) {
+    uint32_t most = 0;
+    for (uint32_t i = 1; i < fit; i++)
+        if (reserve_of(found[i].total, found[i].displayed) > reserve_of(found[most].total, found[most].displayed)) most = i;
+    return most;
+}
+
+enum { LAST_KEY = 2147483646 };
+
+/* Faults 32 to 40: not the lowest that fits, or not its quantities. Only where hi is ignored is the number wrong too. */
+static balluchaw_reply faulty_seek(const uint8_t *table, size_t length, uint32_t lo, uint32_t hi, uint32_t reserve, int again) {
+    uint32_t fit;
+    balluchaw_reply *found = all_taken(fits, table, length, lo, hi, reserve, &fit), reply = found[0];
+    if ((fault(32) || fault(40)) && fit) reply = found[fit - 1]; /* the highest */
+    if (fault(33) && fit) reply = first_taken(is_order, table, length, lo, hi, reserve); /* the lowest, has it the reserve or not */
+    if (fault(34) && fit) reply = first_taken(fits, table, length, 1, LAST_KEY, reserve); /* the lowest of the whole table */
+    if (fault(35)) reply = first_taken(fits, table, length, lo, LAST_KEY, reserve); /* hi is ignored */
+    if (fault(36) && fit > 1) reply = found[1]; /* the second */
+    if (fault(37)) reply = found[largest(found, fit)]; /* the one with the largest reserve */
+    if (fault(38) && fit) reply.total = found[fit - 1].total, reply.displayed = found[fit - 1].displayed; /* another order's quantities */
+    if (fault(39) && fit > 1 && again) reply = found[1]; /* goes on to the next when asked the same again */
+    free(found);
     return reply;
+}
+
+/* Whether the same was asked just before. */
+static int asked_again(uint32_t lo, uint32_t hi, uint32_t reserve) {
+    static uint32_t last[3];
+    uint32_t now[3] = {lo, hi, reserve};
+    int same = memcmp(last, now, sizeof now) == 0;
+    memcpy(last, now, sizeof now);
+    return same;
 }
 
 balluchaw_reply __wrap_balluchaw_seek(const uint8_t *table, size_t length, uint32_t lo, uint32_t hi, uint32_t reserve) {
     balluchaw_reply reply = __real_balluchaw_seek(table, length, lo, hi, reserve);
-    if (fault(10) && reply.number == 0 && reserve > 100) return (balluchaw_reply){12, 0, 0, 0, 0};
-    if (lo >= hi || (reply.number != 0 && reply.number != 12)) return reply;
+    if (fault(10) && reply.number == 0 && reserve > 100) return twelve;
+    int again = asked_again(lo, hi, reserve);
+    if (reply.number != 0 && reply.number != 12) return reply;
+    if (fault(40) && table[12] > 48) return faulty_seek(table, length, lo, hi, reserve, again); /* in tables of more orders than the model's */
+    if (is_held(table, length, lo)) return reply;
     for (size_t i = 0; i < sizeof other_reserves / sizeof *other_reserves; i++)
         if (fault(17 + (int)i)) return first_taken(other_reserves[i], table, length, lo, hi, reserve);
+    for (int i = 32; i <= 39; i++)
+        if (fault(i)) return faulty_seek(table, length, lo, hi, reserve, again);
     return reply;
 }

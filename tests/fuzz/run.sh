@@ -10,6 +10,7 @@ watched=(-fsanitize=address,undefined -fno-sanitize-recover=undefined)
 wraps=()
 for call in check enter amend cancel lookup descent span seek; do wraps+=("-Wl,--wrap=balluchaw_$call"); done
 
+rm -rf build/corpus-first
 mkdir -p build/corpus build/corpus-first
 clang "${strict[@]}" "${watched[@]}" -fsanitize=fuzzer tests/fuzz/fuzz.c "$archive" -o build/fuzz
 clang "${strict[@]}" "${watched[@]}" -fsanitize=fuzzer tests/fuzz/fuzz.c -c -o build/fuzz.o
@@ -20,7 +21,7 @@ build/corpus.bin build/corpus-first >build/fuzz.log
 
 settings=(-seed=1 -max_len=1600 -artifact_prefix=build/fuzz- -timeout=20)
 FAULT=0 build/fuzz-planted "${settings[@]}" -runs=100 build/corpus-first >>build/fuzz.log 2>&1 || { tail -20 build/fuzz.log; exit 1; }
-planted=31
+planted=40
 for fault in $(seq $planted); do
     if FAULT=$fault build/fuzz-planted "${settings[@]}" -artifact_prefix=build/planted- -max_total_time=20 build/corpus-first \
         >build/planted.log 2>&1; then
