@@ -14,4 +14,3 @@ pub mod EnterAnswers
 pub mod AmendAnswers
 pub mod CancelAnswers
 pub mod SweptImage
-pub mod Sightings

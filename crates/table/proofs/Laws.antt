@@ -22,7 +22,6 @@ pub mod Alike
 pub mod Descents
 pub mod Fixed
 pub mod Sought
-pub mod Meeting
 pub mod Reached
 pub mod Demands
 pub mod Wrong

@@ -3,7 +3,7 @@
 use mathlib.Core.Path.{_≡_}
 use mathlib.Core.Bool.{Bool, true, not, _&&_, _||_}
 use mathlib.Core.List.{List, [], _∷_}
-use Prim.Native.Nat.{ℕ, _≤_}
+use Prim.Native.Nat.{ℕ, suc, _≤_}
 use lib.Dec.{ltb, eqb}
 use lib.ListN.{length}
 use Rattle.sizes.specs.Sizes.{made}
@@ -11,8 +11,8 @@ use Rattle.sizes.specs.Header.{table-long}
 use Rattle.sizes.specs.declared.Sizes.{Sizes}
 use Rattle.placement.specs.Blocks.{Among}
 use Rattle.placement.specs.declared.Order.{Order}
-use Rattle.skiplist.specs.Image.{image, is-image, orders-in}
-use Rattle.skiplist.specs.Questions.{first-no, Parameters, sizes, held, between, reserve, order}
+use Rattle.skiplist.specs.Image.{image, is-image, orders-in, orders-good}
+use Rattle.skiplist.specs.Questions.{first-no, Parameters, sizes, held, between, reserve, enough, any-order, lowest, order}
 use Rattle.skiplist.specs.Paths.{descent-path}
 use Rattle.skiplist.specs.Book.{Call, enter, amend, cancel, lookup, descent, span, seek, check, make-refusal, book-refusal, book}
 use Rattle.skiplist.specs.Rules.{Rules}
@@ -195,6 +195,12 @@ pub record Lowest (os : List Order) (lo hi least : ℕ) (o : Order) : Type 0 whe
 unfoldable pub Seek-lowest : Type 0
 Seek-lowest =
     (x : List ℕ) (lo hi l : ℕ) (r : Reply) → Seek-says x lo hi l r → r .number ≡ 0 → Lowest (orders-in x) lo hi l (order (r .key) (r .total) (r .displayed))
+
+-- whoever seeks again from the key behind it on gets them all, by rising keys
+unfoldable pub Seek-next : Type 0
+Seek-next =
+    (os : List Order) (lo hi l : ℕ) → orders-good 1 os ≡ true → any-order (enough l (between lo hi os)) ≡ true →
+    enough l (between lo hi os) ≡ lowest (enough l (between lo hi os)) ∷ enough l (between (suc (lowest (enough l (between lo hi os)) .key)) hi os)
 
 unfoldable pub Demand-2-seek : Type 0
 Demand-2-seek = After-any (λ s os z. (lo hi l : ℕ) (r : Reply) → Seek-says z lo hi l r → Seek-as (book-refusal s (seek lo hi l) os) os lo hi l r)

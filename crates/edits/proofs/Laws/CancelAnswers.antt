@@ -1,6 +1,6 @@
--- A cancel's questions, 4, 5 and 9, and what it leaves.
+-- A cancel's questions, 4, 5 and 9, and what it leaves. The order that was found has the key that was asked for.
 use mathlib.Core.Path.{_≡_, sym, ap, _∙_, subst}
-use mathlib.Core.Bool.{true, false}
+use mathlib.Core.Bool.{Bool, true, false}
 use mathlib.Core.List.{List, _∷_, _++_}
 use Prim.Native.Nat.{ℕ, suc, _-_, _≤_}
 use native.Mathlib.Omega.{arith}
@@ -10,17 +10,32 @@ use Rattle.sizes.specs.Numbers.{big}
 use Rattle.sizes.specs.Hash.{level}
 use Rattle.sizes.specs.Header.{sizes-in, held-in}
 use Rattle.sizes.specs.declared.Sizes.{Sizes}
+use Rattle.placement.specs.declared.Order.{Order}
 use Rattle.skiplist.specs.Image.{image, is-image, orders-in}
-use Rattle.skiplist.specs.Questions.{first-no, asks-image, asks-key, is-key, held, without}
+use Rattle.skiplist.specs.Questions.{first-no, asks-image, asks-key, is-key, held, between, without}
 use Rattle.skiplist.specs.Book.{cancel, asks, changed, refusal}
 use Rattle.skiplist.proofs.Laws.Parts.{Up, good-up, without-here}
 use Rattle.skiplist.proofs.Laws.Edits.{level-most}
 use Rattle.table.specs.Calls.{Cancel-says}
 use Rattle.levels.specs.Edit.{Leads}
+use Rattle.readings.specs.Visit.{first-of}
+use Rattle.readings.specs.declared.calls.Sought.{Sought}
+use Rattle.readings.specs.declared.calls.Sought.the-variants.{Is}
 use Rattle.readings.proofs.Laws.Answers.{known-image, known-at}
+use Rattle.readings.proofs.Laws.Replies.{sought-there, sought-key}
 use Rattle.edits.specs.Change.{Setting, Cancel-held}
 use Rattle.edits.proofs.Laws.Settings.{held-way}
 use Rattle.edits.proofs.Laws.EditAnswers.{refused, accepted, image-held, Held-at, held-at}
+
+module _ (k : ℕ) (os : List Order) (q : Sought) (e : q ≡ first-of (between k k os)) (o : Order) (z : q ≡ Is o) where
+  pub seen-held : held (o .key) os ≡ true
+  seen-held = ap (λ (i : ℕ). held i os) (sought-key k os q e o z) ∙ sought-there k os q e o z .0
+
+  pub seen-is-key : (b : Bool) → b ≡ is-key k → b ≡ true → is-key (o .key) ≡ true
+  seen-is-key b eb h = ap is-key (sought-key k os q e o z) ∙ sym eb ∙ h
+
+  pub seen-cancels : (bs bs′ : List ℕ) → Cancel-says (o .key) 0 bs bs′ → Cancel-says k 0 bs bs′
+  seen-cancels bs bs′ h = subst (λ (i : ℕ). Cancel-says i 0 bs bs′) (sought-key k os q e o z) h
 
 module _ (bs : List ℕ) (k : ℕ) where
   pub cancel-no-4 : is-image bs ≡ false → Cancel-says k 4 bs bs

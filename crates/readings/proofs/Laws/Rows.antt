@@ -77,9 +77,6 @@ row-tail s os l n ns r =
     }
 
 -- AN ORDER of a list, and of those of a list from some level on
-spot-here : (o : Order) (os : List Order) → Spot o (o ∷ os)
-spot-here o os = record { before = []; behind = os; is = refl }
-
 spot-more : (o x : Order) (xs : List Order) → Spot o xs → Spot o (x ∷ xs)
 spot-more o x xs w = record { before = x ∷ w .before; behind = w .behind; is = ap (λ (z : List Order). x ∷ z) (w .is) }
 
@@ -92,7 +89,7 @@ spot-from s k y B (x ∷ xs) A e = go (spot-from s k y B xs) (leb k (level s (x 
         (A : List Order) → cond t (x ∷ at-least s k xs) (at-least s k xs) ≡ A ++ y ∷ B → Spot y (x ∷ xs) × (leb k (level s (y .key)) ≡ true)
     go ih true q [] h =
         let w : x ≡ y = cc in
-        subst (λ (o : Order). Spot o (x ∷ xs) × (leb k (level s (o .key)) ≡ true)) w (spot-here x xs, q)
+        subst (λ (o : Order). Spot o (x ∷ xs) × (leb k (level s (o .key)) ≡ true)) w (record { before = []; behind = xs; is = refl }, q)
     go ih true q (a ∷ A) h = let w = ih A (cc) in (spot-more y x xs (w .0), w .1)
     go ih false q A h = let w = ih A h in (spot-more y x xs (w .0), w .1)
 

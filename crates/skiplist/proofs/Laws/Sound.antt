@@ -16,11 +16,10 @@ use Rattle.placement.specs.Labels.{label}
 use Rattle.placement.specs.Maps.{map-of, Fines, Holdable, Sound}
 use Rattle.sizes.specs.declared.Sizes.{Sizes}
 use Rattle.placement.specs.declared.Order.{Order}
-use Rattle.sizes.proofs.Laws.Sizes.{some-blocks}
+use Rattle.sizes.proofs.Laws.Sizes.{and-parts, limits, some-blocks}
 use Rattle.placement.proofs.Laws.Kinds.{map-only}
 use Rattle.placement.proofs.Laws.Maps.{lawful}
 use Rattle.placement.proofs.Laws.Cells.{cond-valid}
-use Rattle.sizes.proofs.Laws.Sizes.{and-parts}
 use Rattle.skiplist.specs.Lists.{front, at-least, list-at, partitions, first-key, masked, chunks}
 use Rattle.skiplist.specs.Image.{quantities-good, orders-good, fits}
 use Rattle.skiplist.specs.Rules.{Piece}
@@ -30,7 +29,6 @@ use Rattle.skiplist.proofs.Laws.Nodes.{nodes-list}
 use Rattle.skiplist.proofs.Laws.Kept.{fits-parts}
 use Rattle.skiplist.proofs.Laws.Pieces.{piece-of, piece-filled}
 use Rattle.placement.specs.Blocks.{Among}
-use Rattle.sizes.proofs.Laws.Sizes.{limits}
 
 -- ---- nodes of numbers of four bytes
 

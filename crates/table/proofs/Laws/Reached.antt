@@ -22,7 +22,7 @@ use Rattle.table.specs.Calls.{check-number}
 use Rattle.table.specs.Promise.{Runs, Made-by, in-range, all-in-range, Given, Demand-3-check, Runs-exist, Make-reaches}
 use Rattle.table.proofs.Laws.Makes.{is-word, make-reaches, make-writes}
 use Rattle.table.proofs.Laws.Runs.{run-holds}
-use Rattle.table.proofs.Laws.Meeting.{runs-exist}
+use Rattle.table.proofs.Laws.Fixed.{runs-exist}
 
 enters-in-range : (a : ℕ) (os : List Order) → orders-good a os ≡ true → all-in-range (enters os) ≡ true
 unfolding all-in-range in-range enters quantities-good

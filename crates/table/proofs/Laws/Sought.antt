@@ -1,11 +1,11 @@
--- What a seek gives has the smallest key of all orders in lo..hi that have the reserve.
+-- What a seek gives has the smallest key of all orders in lo..hi that have the reserve, and a seek from the next key on gives the next.
 use mathlib.Core.Path.{_≡_, refl, sym, ap, _∙_}
 use mathlib.Core.Logic.{inl, inr}
 use mathlib.Core.Bool.{Bool, true, false, _&&_, cond, false≢true}
 use mathlib.Core.List.{List, [], _∷_}
-use Prim.Native.Nat.{ℕ, suc, _≤_}
+use Prim.Native.Nat.{ℕ, suc, _≤_, _<_}
 use native.Mathlib.Omega.{arith}
-use borrow.Author.Tests.{leb-true, le-leb}
+use borrow.Author.Tests.{leb-true, le-leb, lt-leb}
 use lib.Dec.{leb}
 use Rattle.sizes.proofs.Laws.Sizes.{and-parts}
 use Rattle.placement.specs.Blocks.{Among}
@@ -17,7 +17,7 @@ use Rattle.skiplist.proofs.Laws.Questions.{passes}
 use Rattle.skiplist.proofs.Laws.Parts.{Up, good-up}
 use Rattle.skiplist.proofs.Laws.Third.{image-parts, taken}
 use Rattle.table.specs.Calls.{gives, Seek-says, Seek-as}
-use Rattle.table.specs.Promise.{Lowest, Seek-lowest}
+use Rattle.table.specs.Promise.{Lowest, Seek-lowest, Seek-next}
 use Rattle.table.proofs.Laws.Descents.{number-is}
 
 -- what passes both tests
@@ -63,6 +63,41 @@ lowest-of lo hi l a (x ∷ xs) u e = rw (fitting-more lo hi l x xs) (go (fit lo 
     go false f ih e =
         let w = ih e in
         record { held = inr (w .held); inside = w .inside; has = w .has; smallest = λ q b y z h. later f w q y z h b }
+
+-- .. and those behind it are what passes from the next key on
+same-between : (lo hi a : ℕ) (os : List Order) → lo ≤ a → Up a os → between lo hi os ≡ between a hi os
+unfolding between
+same-between lo hi a [] h u = refl
+same-between lo hi a (x ∷ xs) h u =
+    let e = same-between lo hi (suc (x .key)) xs (omega (arith, u .0)) (u .1) ∙ sym (same-between a hi (suc (x .key)) xs (omega (arith, u .0)) (u .1)) in
+    rw (le-leb lo (x .key) (omega (arith, u .0)), le-leb a (x .key) (u .0), e)
+
+behind : (lo hi l : ℕ) (x : Order) (xs : List Order) → x .key < lo → fitting lo hi l (x ∷ xs) ≡ fitting lo hi l xs
+unfolding between
+behind lo hi l x xs h = rw (lt-leb lo (x .key) h)
+
+next-of : (lo hi l a : ℕ) (os : List Order) → Up a os → any-order (fitting lo hi l os) ≡ true →
+    fitting lo hi l os ≡ lowest (fitting lo hi l os) ∷ fitting (suc (lowest (fitting lo hi l os) .key)) hi l os
+unfolding between enough any-order lowest
+next-of lo hi l a [] u e = absurd (false≢true e)
+next-of lo hi l a (x ∷ xs) u e = rw (fitting-more lo hi l x xs) (go (fit lo hi l x) refl (next-of lo hi l (suc (x .key)) xs (u .1)) (rw (fitting-more lo hi l x xs) at e))
+  where
+    rest : (k : ℕ) → x .key ≤ k → fitting (suc k) hi l xs ≡ fitting (suc k) hi l (x ∷ xs)
+    rest k h = sym (behind (suc k) hi l x xs (omega arith))
+
+    go : (t : Bool) → fit lo hi l x ≡ t → (any-order (fitting lo hi l xs) ≡ true → fitting lo hi l xs ≡ lowest (fitting lo hi l xs) ∷ fitting (suc (lowest (fitting lo hi l xs) .key)) hi l xs) →
+        any-order (cond t (x ∷ fitting lo hi l xs) (fitting lo hi l xs)) ≡ true → cond t (x ∷ fitting lo hi l xs) (fitting lo hi l xs)
+        ≡ lowest (cond t (x ∷ fitting lo hi l xs) (fitting lo hi l xs)) ∷ fitting (suc (lowest (cond t (x ∷ fitting lo hi l xs) (fitting lo hi l xs)) .key)) hi l (x ∷ xs)
+    go true f ih e =
+        let w = and-parts (leb lo (x .key)) (leb (x .key) hi) (and-parts (leb lo (x .key) && leb (x .key) hi) (leb l (reserve x)) f .0) in
+        ap (λ ys. x ∷ ys) (ap (enough l) (same-between lo hi (suc (x .key)) xs (omega (arith, leb-true lo (x .key) (w .0))) (u .1)) ∙ rest (x .key) (omega arith))
+    go false f ih e =
+        let o = lowest (fitting lo hi l xs) in
+        ih e ∙ ap (λ ys. o ∷ ys) (rest (o .key) (omega (arith, from (suc (x .key)) xs (u .1) o (lowest-of lo hi l (suc (x .key)) xs (u .1) e .held))))
+
+pub seek-next : Seek-next
+unfolding Seek-next
+seek-next os lo hi l g e = next-of lo hi l 1 os (good-up 1 os g) e
 
 -- A SEEK
 any-there : (x : List ℕ) (lo hi l : ℕ) → refusal (seek lo hi l) x ≡ 0 → any-order (enough l (between lo hi (orders-in x))) ≡ true

@@ -96,14 +96,6 @@ always-empty k t d x s m w =
     false≢true (sym (none-held k) ∙ ap (held k) (sym e) ∙ enter-tells k t d x (image s []) w .0)
 
 -- ---- THE CLAUSES ON THE ANSWER
-look-number : (n c k : ℕ) (os : List Order) (r : Reply) → Look-as n c k os r → r .number ≡ n
-unfolding Look-as
-look-number n c k os r w = number-is n c _ r w
-
-seek-number : (n : ℕ) (os : List Order) (lo hi l : ℕ) (r : Reply) → Seek-as n os lo hi l r → r .number ≡ n
-unfolding Seek-as
-seek-number n os lo hi l r w = number-is n 0 _ r w
-
 -- a span whose count is invented: it is the number of orders in lo..hi
 counted : (n : ℕ) (os : List Order) (r : Reply) (o z : List ℕ) → Span-as n os r o z → r .number ≡ 0 → r .count ≡ length os
 unfolding Span-as
@@ -122,18 +114,18 @@ unfolding Descent-as Look-as shown
 nine-shows x k r o z i w e =
     let path = descent-path (sizes-in x) (orders-in x) k in
     let v = w .on-image i in
-    let n = sym (look-number _ _ k (orders-in x) r (v .0)) ∙ e in
+    let n = sym (number-is _ _ _ r (v .0)) ∙ e in
     let u = subst (λ (j : ℕ). Descent-as j k (orders-in x) path r o z) n v in
     (count-is 9 (length path) _ r (u .0), u .1)
 
 -- one that gives 9 where the path has no room: 11 comes before
 pub early-9 : (x : List ℕ) (k : ℕ) (r : Reply) (o z : List ℕ) → is-image x ≡ true → Descent-says x k r o z → r .number ≡ 9 →
     2 * length (descent-path (sizes-in x) (orders-in x) k) ≤ length o
-unfolding Descent-as refusal asks asks-image asks-descent first-no
+unfolding Descent-as Look-as refusal asks asks-image asks-descent first-no
 early-9 x k r o z i w e =
     let path = descent-path (sizes-in x) (orders-in x) k in
     leb-true (2 * length path) (length o)
-    (go (is-key k) (leb (2 * length path) (length o)) (held k (orders-in x)) (rw i at (sym (look-number _ _ k (orders-in x) r (w .on-image i .0)) ∙ e)))
+    (go (is-key k) (leb (2 * length path) (length o)) (held k (orders-in x)) (rw i at (sym (number-is _ _ _ r (w .on-image i .0)) ∙ e)))
   where
     go : (a b c : Bool) → _≡_ {A = ℕ} (cond a (cond b (cond c 0 9) 11) 5) 9 → b ≡ true
     go a true c n = refl
@@ -181,8 +173,8 @@ module _ (k t d : ℕ) (x z : List ℕ) where
 
 -- a 12 given without looking
 pub blind-12 : (x : List ℕ) (lo hi l : ℕ) (r : Reply) → Seek-says x lo hi l r → r .number ≡ 12 → any-order (enough l (between lo hi (orders-in x))) ≡ false
-unfolding Seek-says refusal asks first-no asks-image asks-range asks-seek apart
-blind-12 x lo hi l r w e = own-question 12 (asks-image x ++ asks-range lo hi) [] _ refl (sym (seek-number _ (orders-in x) lo hi l r w) ∙ e)
+unfolding Seek-says Seek-as refusal asks first-no asks-image asks-range asks-seek apart
+blind-12 x lo hi l r w e = own-question 12 (asks-image x ++ asks-range lo hi) [] _ refl (sym (number-is _ _ _ r w) ∙ e)
 
 -- a seek that leaves hidden orders out at r = 0: there 12 says that no order lies in lo..hi
 pub zero-12 : (x : List ℕ) (lo hi : ℕ) (r : Reply) → Seek-says x lo hi 0 r → r .number ≡ 12 → any-order (between lo hi (orders-in x)) ≡ false
@@ -281,9 +273,9 @@ span-two r z w = span-counts with-both 1 9 r (replicate 24 7) z w (span-number _
 
 -- a 9 whose path is kept back, and a 9 before 11: the path to 4 has three blocks
 pub nine-counts : (r : Reply) (z : List ℕ) → Descent-says with-both 4 r (replicate 6 7) z → (r .number ≡ 9) × (r .count ≡ 3)
-unfolding Descent-as
+unfolding Descent-as Look-as
 nine-counts r z w =
-    let n = look-number _ _ 4 (orders-in with-both) r (w .on-image (computed .both) .0) ∙ computed .lacks in
+    let n = number-is _ _ _ r (w .on-image (computed .both) .0) ∙ computed .lacks in
     (n, nine-shows with-both 4 r (replicate 6 7) z (computed .both) w n .0 ∙ ap length (computed .goes))
 
 pub not-9 : (r : Reply) (z : List ℕ) → Descent-says with-both 4 r (replicate 5 7) z → r .number ≡ 9 → ⊥
@@ -312,17 +304,17 @@ unfolding Enter-says Edit-says enter-6
 not-4 z w = omega (arith, w .0, computed .six)
 
 pub not-12 : (r : Reply) → Seek-says with-both 1 9 80 r → r .number ≡ 12 → ⊥
-unfolding Seek-says
-not-12 r w e = omega (arith, seek-number _ (orders-in with-both) 1 9 80 r w, computed .seeks)
+unfolding Seek-says Seek-as
+not-12 r w e = omega (arith, number-is _ _ _ r w, computed .seeks)
 
 -- a hidden order left out at r = 0, or found at r = 1
 pub hidden-at-0 : (r : Reply) → Seek-says with-hidden 1 9 0 r → r .number ≡ 0
-unfolding Seek-says
-hidden-at-0 r w = seek-number _ (orders-in with-hidden) 1 9 0 r w ∙ computed .zero
+unfolding Seek-says Seek-as
+hidden-at-0 r w = number-is _ _ _ r w ∙ computed .zero
 
 pub hidden-at-1 : (r : Reply) → Seek-says with-hidden 1 9 1 r → r .number ≡ 12
-unfolding Seek-says
-hidden-at-1 r w = seek-number _ (orders-in with-hidden) 1 9 1 r w ∙ computed .one
+unfolding Seek-says Seek-as
+hidden-at-1 r w = number-is _ _ _ r w ∙ computed .one
 
 -- the smaller key of two; the smallest from lo on; the smallest that has the reserve
 pub smaller-given : (r : Reply) → Seek-says with-both 1 9 0 r → r ≡ reply 0 3 100 20 0

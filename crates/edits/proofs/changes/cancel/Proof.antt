@@ -4,8 +4,7 @@ use borrow.Author.Tests.{not-true, not-false}
 use Rattle.readings.proofs.Laws.Answers.{known-at}
 use Rattle.readings.proofs.Laws.Replies.{checked-yes, checked-no, key-least, sought-absent}
 use Rattle.edits.proofs.Laws.EditAnswers.{told}
-use Rattle.edits.proofs.Laws.CancelAnswers.{cancel-no-4, cancel-no-5, cancel-no-9}
-use Rattle.edits.proofs.Laws.Sightings.{seen-held, seen-is-key, seen-cancels}
+use Rattle.edits.proofs.Laws.CancelAnswers.{seen-held, seen-is-key, seen-cancels, cancel-no-4, cancel-no-5, cancel-no-9}
 use Rattle.edits.proofs.changes.cancel.Statement.{statement}
 use Rattle.edits.proofs.changes.cancel.Tie as tie
 
