@@ -47,9 +47,6 @@ unfoldable pub show-lines : (table : List ℕ) → (key : ℕ) → List (List �
 show-lines x k = answer-lines (refusal (lookup k) x) (order-of k (orders-in x) .total ∷ order-of k (orders-in x) .displayed ∷ []) []
 
 -- "`span` the number found; then `span` prints its orders, one line each": key, total, displayed
-abbrev pub parts : Order → List ℕ
-parts o = o .key ∷ o .total ∷ o .displayed ∷ []
-
 unfoldable pub order-line : Order → List ℕ
 order-line o = row (o .key) (o .total ∷ o .displayed ∷ [])
 
@@ -61,6 +58,9 @@ span-lines x lo hi room =
     (map order-line (between lo hi (orders-in x)))
 
 -- "`seek` the order (key, total, displayed)"
+abbrev pub parts : Order → List ℕ
+parts o = o .key ∷ o .total ∷ o .displayed ∷ []
+
 unfoldable pub seek-lines : (table : List ℕ) → (lo hi least : ℕ) → List (List ℕ)
 seek-lines x lo hi l = answer-lines (refusal (seek lo hi l) x) (parts (lowest (enough l (between lo hi (orders-in x))))) []
 

@@ -75,11 +75,12 @@ enough r (o ∷ os) = cond (leb r (reserve o)) (o ∷ enough r os) (enough r os)
 unfoldable pub Zero-finds-all : Type 0
 Zero-finds-all = (os : List Order) → enough 0 os ≡ os
 
--- is there an order? And the one with the smallest key: keys rise, so it is the first
+-- is there an order?
 unfoldable pub any-order : List Order → Bool
 any-order [] = false
 any-order (o ∷ os) = true
 
+-- "the order with the smallest key", document 02, A.5: keys rise, so it is the first. Where there is none, nobody is given this
 unfoldable pub lowest : List Order → Order
 lowest [] = order 0 0 0
 lowest (o ∷ os) = o

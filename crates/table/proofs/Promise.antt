@@ -1,8 +1,9 @@
 -- All that is promised of images, of single calls and of whole lists of calls, proved. That the program keeps the contracts which these statements cite is proved with its functions.
 use Rattle.skiplist.proofs.Promise.{Proved, proved}
-use Rattle.table.specs.Promise.{Demand-3, Demand-3-check, Runs-exist, Replies-fixed, Make-fixed, Runs-fixed, Make-reaches, Make-only, Demand-2-rules, Demand-2-lookup, Demand-2-descent, Descent-looks-up, Demand-2-span, Demand-2-seek, Seek-lowest, Seek-next, Demand-1}
+use Rattle.table.specs.Promise.{Demand-3, Demand-3-check, Runs-exist, Replies-fixed, Make-fixed, Runs-fixed, Make-reaches, Make-only, Demand-2-rules, Demand-2-lookup, Order-has-key, Demand-2-descent, Descent-looks-up, Demand-2-span, Demand-2-seek, Seek-lowest, Seek-next, Demand-1}
 use Rattle.table.proofs.Laws.Makes.{make-only, make-reaches}
 use Rattle.table.proofs.Laws.Fixed.{runs-exist, replies-fixed, make-fixed, runs-fixed}
+use Rattle.table.proofs.Laws.Alike.{order-has-key}
 use Rattle.table.proofs.Laws.Descents.{descent-looks-up}
 use Rattle.table.proofs.Laws.Sought.{seek-lowest, seek-next}
 use Rattle.table.proofs.Laws.Reached.{demand-3-check}
@@ -16,6 +17,7 @@ pub record Kept-promise : Type 0 where
   -- DEMAND 2: after any list, the published rules, and the orders read back by number, by descent, by span, by seek; a descent's quantities are a lookup's, a seek's key is the smallest, and the next seek gives the next
   pub rules : Demand-2-rules
   pub lookups : Demand-2-lookup
+  pub own-key : Order-has-key
   pub descents : Demand-2-descent
   pub looks-up : Descent-looks-up
   pub spans : Demand-2-span
@@ -39,6 +41,7 @@ kept-promise = record {
   numbers = demand-1;
   rules = demand-2-rules;
   lookups = demand-2-lookup;
+  own-key = order-has-key;
   descents = demand-2-descent;
   looks-up = descent-looks-up;
   spans = demand-2-span;

@@ -168,6 +168,10 @@ Demand-2-rules = After-any Rules
 unfoldable pub Demand-2-lookup : Type 0
 Demand-2-lookup = After-any (λ s os z. (k : ℕ) (r : Reply) → Look-says z k r → Look-as (book-refusal s (lookup k) os) 0 k os r)
 
+-- a lookup that succeeds repeats the key: the order with a key has it
+unfoldable pub Order-has-key : Type 0
+Order-has-key = (k : ℕ) (os : List Order) → held k os ≡ true → order-of k os .key ≡ k
+
 -- .. by descent, with its path
 unfoldable pub Demand-2-descent : Type 0
 Demand-2-descent =

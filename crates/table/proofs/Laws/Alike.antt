@@ -9,10 +9,10 @@ use lib.Dec.{ltb, eqb}
 use Rattle.placement.specs.declared.Order.{Order}
 use Rattle.skiplist.specs.Questions.{held, lowest}
 use Rattle.skiplist.proofs.Laws.Parts.{Up}
-use Rattle.skiplist.proofs.Laws.Segment.{between-above, between-own, between-other}
+use Rattle.skiplist.proofs.Laws.Segment.{between-above, between-own, between-other, held-between}
 use Rattle.skiplist.proofs.Laws.Kept.{held-past}
 use Rattle.table.specs.Calls.{order-of}
-use Rattle.table.specs.Promise.{Same-orders}
+use Rattle.table.specs.Promise.{Same-orders, Order-has-key}
 
 -- what orders tell of one that they have; and that two lists tell the same of a key
 abbrev pub Tells : Order → List Order → Type 0
@@ -37,6 +37,10 @@ past k a os h u = (held-past k a os h u, ap lowest (between-above k k a os h u))
 pub none-held : (k : ℕ) → held k [] ≡ false
 unfolding held
 none-held k = refl
+
+pub order-has-key : Order-has-key
+unfolding Order-has-key order-of
+order-has-key k os h = let w = held-between k os in w .1 (sym (w .0) ∙ h)
 
 -- the first of one list is not missing in the other
 missing : (a : ℕ) (o : Order) (os qs : List Order) → Up a qs → o .key < a → Same-orders (o ∷ os) qs → ⊥

@@ -3,7 +3,7 @@ use mathlib.Core.Path.{_≡_, refl, sym, ap, _∙_}
 use mathlib.Core.Logic.{inl, inr}
 use mathlib.Core.Bool.{Bool, true, false, _&&_, cond, false≢true}
 use mathlib.Core.List.{List, [], _∷_}
-use Prim.Native.Nat.{ℕ, suc, _≤_, _<_}
+use Prim.Native.Nat.{ℕ, suc, _≤_}
 use native.Mathlib.Omega.{arith}
 use borrow.Author.Tests.{leb-true, le-leb, lt-leb}
 use lib.Dec.{leb}
@@ -72,10 +72,6 @@ same-between lo hi a (x ∷ xs) h u =
     let e = same-between lo hi (suc (x .key)) xs (omega (arith, u .0)) (u .1) ∙ sym (same-between a hi (suc (x .key)) xs (omega (arith, u .0)) (u .1)) in
     rw (le-leb lo (x .key) (omega (arith, u .0)), le-leb a (x .key) (u .0), e)
 
-behind : (lo hi l : ℕ) (x : Order) (xs : List Order) → x .key < lo → fitting lo hi l (x ∷ xs) ≡ fitting lo hi l xs
-unfolding between
-behind lo hi l x xs h = rw (lt-leb lo (x .key) h)
-
 next-of : (lo hi l a : ℕ) (os : List Order) → Up a os → any-order (fitting lo hi l os) ≡ true →
     fitting lo hi l os ≡ lowest (fitting lo hi l os) ∷ fitting (suc (lowest (fitting lo hi l os) .key)) hi l os
 unfolding between enough any-order lowest
@@ -83,7 +79,7 @@ next-of lo hi l a [] u e = absurd (false≢true e)
 next-of lo hi l a (x ∷ xs) u e = rw (fitting-more lo hi l x xs) (go (fit lo hi l x) refl (next-of lo hi l (suc (x .key)) xs (u .1)) (rw (fitting-more lo hi l x xs) at e))
   where
     rest : (k : ℕ) → x .key ≤ k → fitting (suc k) hi l xs ≡ fitting (suc k) hi l (x ∷ xs)
-    rest k h = sym (behind (suc k) hi l x xs (omega arith))
+    rest k h = sym (rw (lt-leb (suc k) (x .key) (omega arith)))
 
     go : (t : Bool) → fit lo hi l x ≡ t → (any-order (fitting lo hi l xs) ≡ true → fitting lo hi l xs ≡ lowest (fitting lo hi l xs) ∷ fitting (suc (lowest (fitting lo hi l xs) .key)) hi l xs) →
         any-order (cond t (x ∷ fitting lo hi l xs) (fitting lo hi l xs)) ≡ true → cond t (x ∷ fitting lo hi l xs) (fitting lo hi l xs)
