@@ -1,20 +1,22 @@
 // The C interface: each call as documents 01 and 02 have it, on numbers and byte slices. include/balluchaw.h says the same in C.
 ghost use mathlib.Core.Path.{_≡_};
 ghost use Rattle.table.specs.Calls.{parameters, Make-says, check-number, Enter-says, Amend-says, Cancel-says, Look-says, Descent-says, Span-says, Seek-says};
+use placement::Order;
 use table::Reply;
 
 #[no_mangle]
 pub extern "C" fn balluchaw_make(
     table: &mut [u8],
+    version: u32,
     gamma: u32,
     nodes: u32,
     orders: u32,
     blocks: u32,
     seed: &[u8],
 ) -> u32
-    ensures { λ r. ⌜ Make-says (parameters gamma nodes orders blocks (now (seed .entry))) r (now (table .entry)) (now (table .exit)) × (now (seed .exit) ≡ now (seed .entry)) ⌝ }
+    ensures { λ r. ⌜ Make-says (parameters version gamma nodes orders blocks (now (seed .entry))) r (now (table .entry)) (now (table .exit)) × (now (seed .exit) ≡ now (seed .entry)) ⌝ }
 {
-    table::making::make(table, gamma, nodes, orders, blocks, seed)
+    table::making::make(table, version, gamma, nodes, orders, blocks, seed)
 }
 
 #[no_mangle]
@@ -25,17 +27,45 @@ pub extern "C" fn balluchaw_check(table: &[u8]) -> u32
 }
 
 #[no_mangle]
-pub extern "C" fn balluchaw_enter(table: &mut [u8], key: u32, total: u32, displayed: u32) -> u32
-    ensures { λ r. ⌜ Enter-says key total displayed r (now (table .entry)) (now (table .exit)) ⌝ }
+pub extern "C" fn balluchaw_enter(
+    table: &mut [u8],
+    key: u32,
+    total: u32,
+    displayed: u32,
+    price: u32,
+) -> u32
+    ensures { λ r. ⌜ Enter-says key total displayed price r (now (table .entry)) (now (table .exit)) ⌝ }
 {
-    edits::changes::enter(table, key, total, displayed)
+    edits::changes::enter(
+        table,
+        Order {
+            key: key,
+            total: total,
+            displayed: displayed,
+            price: price,
+        },
+    )
 }
 
 #[no_mangle]
-pub extern "C" fn balluchaw_amend(table: &mut [u8], key: u32, total: u32, displayed: u32) -> u32
-    ensures { λ r. ⌜ Amend-says key total displayed r (now (table .entry)) (now (table .exit)) ⌝ }
+pub extern "C" fn balluchaw_amend(
+    table: &mut [u8],
+    key: u32,
+    total: u32,
+    displayed: u32,
+    price: u32,
+) -> u32
+    ensures { λ r. ⌜ Amend-says key total displayed price r (now (table .entry)) (now (table .exit)) ⌝ }
 {
-    edits::changes::amend(table, key, total, displayed)
+    edits::changes::amend(
+        table,
+        Order {
+            key: key,
+            total: total,
+            displayed: displayed,
+            price: price,
+        },
+    )
 }
 
 #[no_mangle]

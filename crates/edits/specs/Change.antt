@@ -15,12 +15,12 @@ use Rattle.placement.specs.declared.Order.{Order}
 use Rattle.skiplist.specs.Lists.{first-key, chunks}
 use Rattle.skiplist.specs.Image.{image, orders-good, fits, is-image, orders-in, quantities-good}
 use Rattle.skiplist.specs.Parts.{head-part, counts}
-use Rattle.skiplist.specs.Questions.{is-key, held}
+use Rattle.skiplist.specs.Questions.{is-key, held, price-allowed}
 
 -- an order between others, and room for all of them
 pub record Setting (s : Sizes) (xs : List Order) (o : Order) (zs : List Order) : Type 0 where
   pub sizes : made s ≡ true
-  pub good : orders-good 1 (xs ++ o ∷ zs) ≡ true
+  pub good : orders-good s 1 (xs ++ o ∷ zs) ≡ true
   pub fit : fits s (xs ++ o ∷ zs) ≡ true
 
 -- the header is that of the old orders; levels above k are those of the new orders, and levels up to k those of the old ones
@@ -56,14 +56,15 @@ Cancel-held s f l y bs bs′ =
 
 -- ---- what is known on the way of an enter or amend, question by question
 
--- questions 4, 5 and 6 have a yes
-pub record Sure (bs : List ℕ) (k t d : ℕ) : Type 0 where
+-- questions 4, 14, 5 and 6 have a yes
+pub record Sure (bs : List ℕ) (s : Sizes) (o : Order) : Type 0 where
   pub image : is-image bs ≡ true
-  pub key : is-key k ≡ true
-  pub quantities : quantities-good t d ≡ true
+  pub sizes-are : s ≡ sizes-in bs
+  pub price : price-allowed s (o .price) ≡ true
+  pub key : is-key (o .key) ≡ true
+  pub quantities : quantities-good s (o .total) (o .displayed) (o .price) ≡ true
 
 -- .. and 13 and 7
 pub record Free (bs : List ℕ) (s : Sizes) (k : ℕ) : Type 0 where
-  pub sizes-are : s ≡ sizes-in bs
   pub absent-is : held k (orders-in bs) ≡ false
   pub more : held-in bs < s .orders

@@ -1,14 +1,13 @@
 // Enter, amend and cancel, each with its questions in the documents' order.
 ghost use mathlib.Core.Path.{_≡_};
 ghost use mathlib.Core.Bool.{true};
-ghost use mathlib.Core.List.{_∷_};
 ghost use Prim.Native.Nat.{_≤_, _<_};
 ghost use lib.ListN.{length};
 ghost use Rattle.sizes.specs.Geometry.{Reckoned};
 ghost use Rattle.sizes.specs.Header.{held-in, sizes-in};
 ghost use Rattle.skiplist.specs.Lists.{chunks};
 ghost use Rattle.skiplist.specs.Image.{is-image, orders-in};
-ghost use Rattle.skiplist.specs.Questions.{ask, first-no, is-key, held, asks-order};
+ghost use Rattle.skiplist.specs.Questions.{first-no, is-key, held, price-allowed, asks-order};
 ghost use Rattle.placement.specs.Place.{Shaped};
 ghost use Rattle.table.specs.Calls.{Enter-says, Amend-says, Cancel-says};
 ghost use Rattle.edits.specs.Change.{Enter-turn, Enter-new, Cancel-turn, Cancel-held, Sure, Free};
@@ -16,24 +15,26 @@ use levels::edit::cancel_below;
 use levels::edit::cancel_in;
 use levels::edit::enter_below;
 use levels::edit::enter_in;
-use levels::edit::replace;
 use levels::growth::growth;
 use levels::growth::lead;
 use levels::spots::scan;
 use levels::ways::way_down;
 use placement::Order;
+use placement::rows::write_node;
 use readings::calls::Sought;
 use readings::calls::is_key;
 use readings::descent::geometry_of;
 use readings::descent::order_at;
 use readings::descent::order_of;
 use sizes::Geometry;
+use sizes::Sizes;
 use sizes::hash::level_of;
 use sizes::header::Header;
 use sizes::header::field;
 use sizes::numbers::put2;
 use table::checking::check;
 use table::checking::examine;
+use table::walk::priced;
 
 // One level of an enter, the key's own or one below it; the first key of the partition one level down.
 fn enter_level(table: &mut [u8], q: Geometry, level: u32, l: u32, first: u32, o: Order) -> u32
@@ -64,8 +65,8 @@ fn enter_new(table: &mut [u8], q: Geometry, first: u32, l: u32, o: Order)
 
 // A key that is not held comes in, while there are fewer orders than N: 8 is counted before any change. `full` blocks are not empty.
 fn enter_free(table: &mut [u8], q: Geometry, held: u32, full: u32, o: Order) -> u32
-    requires { ⌜ Sure (now table) (o .key) (o .total) (o .displayed) × Free (now table) (q .sizes) (o .key) × (held ≡ held-in (now table)) × (full ≡ length (chunks (q .sizes) (orders-in (now table)))) × Reckoned q ⌝ }
-    ensures { λ r. ⌜ Enter-says (o .key) (o .total) (o .displayed) r (now (table .entry)) (now (table .exit)) ⌝ }
+    requires { ⌜ Sure (now table) (q .sizes) o × Free (now table) (q .sizes) (o .key) × (held ≡ held-in (now table)) × (full ≡ length (chunks (q .sizes) (orders-in (now table)))) × Reckoned q ⌝ }
+    ensures { λ r. ⌜ Enter-says (o .key) (o .total) (o .displayed) (o .price) r (now (table .entry)) (now (table .exit)) ⌝ }
 {
     let l = level_of(q.sizes, q.top, o.key);
     let first = lead(table, q, l, o.key);
@@ -78,77 +79,78 @@ fn enter_free(table: &mut [u8], q: Geometry, held: u32, full: u32, o: Order) -> 
     0
 }
 
-// The questions that enter and amend share, where `clean` says whether the table is an image: 4, 5, 6.
-fn asked(clean: bool, key: u32, total: u32, displayed: u32) -> u32
-    ensures { λ r. ⌜ r ≡ first-no (ask 4 clean ∷ asks-order key total displayed) ⌝ }
+// The question of 14: has the table a place for the price?
+fn price_allowed(s: Sizes, price: u32) -> bool
+    ensures { λ r. ⌜ r ≡ price-allowed s price ⌝ }
 {
-    if !clean {
-        return 4;
+    if s.version == 1 {
+        return price == 0;
     }
-    if !is_key(key) {
+    true
+}
+
+// The questions of an image that enter and amend share: 14, 5, 6.
+fn asked(s: Sizes, o: Order) -> u32
+    ensures { λ r. ⌜ r ≡ first-no (asks-order s (o .key) (o .total) (o .displayed) (o .price)) ⌝ }
+{
+    if !price_allowed(s, o.price) {
+        return 14;
+    }
+    if !is_key(o.key) {
         return 5;
     }
-    if total == 0 {
+    if o.total == 0 {
         return 6;
     }
-    if total < displayed {
+    if o.total < o.displayed {
+        return 6;
+    }
+    if !priced(s, 1, o) {
         return 6;
     }
     0
 }
 
-// Enter: 4, 5, 6, 13, 7, 8.
-pub fn enter(table: &mut [u8], key: u32, total: u32, displayed: u32) -> u32
-    ensures { λ r. ⌜ Enter-says key total displayed r (now (table .entry)) (now (table .exit)) ⌝ }
+// Enter: 4, 14, 5, 6, 13, 7, 8.
+pub fn enter(table: &mut [u8], o: Order) -> u32
+    ensures { λ r. ⌜ Enter-says (o .key) (o .total) (o .displayed) (o .price) r (now (table .entry)) (now (table .exit)) ⌝ }
 {
     let t = examine(table);
-    let n = asked(t.clean, key, total, displayed);
+    if !t.clean {
+        return 4;
+    }
+    let q = geometry_of(table);
+    let n = asked(q.sizes, o);
     if n != 0 {
         return n;
     }
-    let q = geometry_of(table);
-    let Sought::Nothing = order_of(table, q, key) else {
+    let Sought::Nothing = order_of(table, q, o.key) else {
         return 13;
     };
     let held = field(table, Header::HELD_FIELD);
     if q.sizes.orders <= held {
         return 7;
     }
-    enter_free(
-        table,
-        q,
-        held,
-        t.full,
-        Order {
-            key: key,
-            total: total,
-            displayed: displayed,
-        },
-    )
+    enter_free(table, q, held, t.full, o)
 }
 
-// Amend: 4, 5, 6, 9. Both quantities are replaced where the way down to the key has ended.
-pub fn amend(table: &mut [u8], key: u32, total: u32, displayed: u32) -> u32
-    ensures { λ r. ⌜ Amend-says key total displayed r (now (table .entry)) (now (table .exit)) ⌝ }
+// Amend: 4, 14, 5, 6, 9. Quantities and price are replaced where the way down to the key has ended.
+pub fn amend(table: &mut [u8], o: Order) -> u32
+    ensures { λ r. ⌜ Amend-says (o .key) (o .total) (o .displayed) (o .price) r (now (table .entry)) (now (table .exit)) ⌝ }
 {
-    let t = examine(table);
-    let n = asked(t.clean, key, total, displayed);
+    if check(table) != 0 {
+        return 4;
+    }
+    let q = geometry_of(table);
+    let n = asked(q.sizes, o);
     if n != 0 {
         return n;
     }
-    let w = way_down(table, geometry_of(table), 0, key);
-    let Sought::Is(was) = order_at(table, w.at, key) else {
+    let w = way_down(table, q, 0, o.key);
+    let Sought::Is(was) = order_at(table, q.sizes, w.at, o.key) else {
         return 9;
     };
-    replace(
-        table,
-        w.at,
-        Order {
-            key: key,
-            total: total,
-            displayed: displayed,
-        },
-    );
+    write_node(table, q.sizes, w.at, o);
     0
 }
 

@@ -2,12 +2,12 @@
 use mathlib.Core.Path.{_≡_}
 use mathlib.Core.Bool.{true}
 use mathlib.Core.List.{List, [], _∷_, _++_}
-use Prim.Native.Nat.{ℕ, suc, _+_, _*_, _≤_, _<_}
+use Prim.Native.Nat.{ℕ, suc, _+_, _*_, _-_, _≤_, _<_}
 use lib.ListN.{length, take, drop}
 use lib.Seq.{sets}
-use Rattle.sizes.specs.Numbers.{big}
-use Rattle.sizes.specs.Sizes.{beta, made}
+use Rattle.sizes.specs.Sizes.{beta, row, made}
 use Rattle.sizes.specs.Hash.{level}
+use Rattle.placement.specs.Chunks.{node-bytes}
 use Rattle.placement.specs.Maps.{Map, Table, Fine}
 use Rattle.sizes.specs.declared.Sizes.{Sizes}
 use Rattle.placement.specs.declared.Order.{Order}
@@ -46,7 +46,7 @@ Scans s bs k f y r =
 pub record Room (s : Sizes) (k f : ℕ) (ps qs : List Order) (x : Spot) (o : Order) : Type 0 where
   pub level : 0 < k
   pub first : f < 4294967296
-  pub fine : Fine o
+  pub fine : Fine (row s) o
   pub few : length (ps ++ qs) ≤ most-listed
   pub below : x .below ≡ length ps
   pub size : x .size ≡ length (ps ++ qs)
@@ -97,14 +97,18 @@ Cancels-below s k f g m w bs bs′ =
     Pieces F (s .nodes) k f 0 ps → Pieces F (s .nodes) k g 0 (y ∷ qs) →
     Splits s F n hd bs′ k f g (ps ++ qs) [] (pieces (s .nodes) (length ps) + pieces (s .nodes) (suc (length qs)))
 
--- BOTH QUANTITIES of the node at a place, others in their place
-unfoldable pub replaced : List ℕ → (at : ℕ) → Order → List ℕ
-replaced bs a o = sets (sets bs (a + 4) (big 4 (o .total))) (a + 8) (big 4 (o .displayed))
+-- THE NODE AT A PLACE, of w bytes, with another in its place
+abbrev pub replaced : (w : ℕ) → List ℕ → (at : ℕ) → Order → List ℕ
+replaced w bs a o = sets bs a (node-bytes w o)
+
+-- NODES a TO n of a row, behind the k nodes of another
+unfoldable pub followed : (w k a n : ℕ) → (cs ch : List ℕ) → List ℕ
+followed w k a n cs ch = sets cs (w * k) (take (w * (n - a)) (drop (w * a) ch))
 
 -- THE WAY DOWN to a key y in the image of xs, below it, and zs, not below it
 pub record Way (s : Sizes) (bs : List ℕ) (y : ℕ) (xs zs : List Order) : Type 0 where
   pub good : made s ≡ true
-  pub orders : orders-good 1 (xs ++ zs) ≡ true
+  pub orders : orders-good s 1 (xs ++ zs) ≡ true
   pub fit : fits s (xs ++ zs) ≡ true
   pub is : bs ≡ image s (xs ++ zs)
   pub low : below y xs ≡ true

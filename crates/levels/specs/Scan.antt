@@ -12,10 +12,10 @@ use Rattle.levels.specs.declared.Spot.{Spot}
 unfoldable pub passed : (key y : ℕ) → Spot → Spot
 passed k y x = record { below = cond (ltb k y) (x .below + 1) (x .below); last = cond (ltb k y) k (x .last); size = x .size + 1 }
 
--- so many nodes in bytes, from a place on
-unfoldable pub passes : List ℕ → (left at y : ℕ) → Spot → Spot
-passes bs zero a y x = x
-passes bs (suc j) a y x = passes bs j (a + 12) y (passed (field a 4 bs) y x)
+-- so many nodes in bytes, of w bytes each, from a place on
+unfoldable pub passes : (w : ℕ) → List ℕ → (left at y : ℕ) → Spot → Spot
+passes w bs zero a y x = x
+passes w bs (suc j) a y x = passes w bs j (a + w) y (passed (field a 4 bs) y x)
 
 -- HOW MANY CHUNKS MORE level k has once a key of level l, not below k, is there, where x says how the key comes
 pub record Grown (b k l : ℕ) (x : Spot) (r : ℕ) : Type 0 where

@@ -6,6 +6,7 @@ use lib.Dec.{ltb, leb, eqb}
 use lib.ListN.{length, getD}
 use lib.Seq.{sets}
 use Rattle.sizes.specs.Numbers.{big, field}
+use Rattle.sizes.specs.Sizes.{row}
 use Rattle.sizes.specs.Header.{block-long}
 use Rattle.placement.specs.Labels.{label}
 use Rattle.placement.specs.Place.{search-in}
@@ -33,15 +34,15 @@ starting = coming 0 0
 unfoldable pub number-in : (path : List ℕ) → (c i : ℕ) → List ℕ
 number-in o c i = cond (leb (2 * c + 2) (length o)) (sets o (2 * c) (big 2 i)) o
 
--- how many nodes at the front of a chunk are not above y
-unfoldable pub upto-in : List ℕ → (left at y : ℕ) → ℕ
-upto-in bs zero a y = 0
-upto-in bs (suc j) a y = cond (ltb y (field a 4 bs)) 0 (suc (upto-in bs j (a + 12) y))
+-- how many nodes at the front of a chunk, of w bytes each, are not above y
+unfoldable pub upto-in : (w : ℕ) → List ℕ → (left at y : ℕ) → ℕ
+upto-in w bs zero a y = 0
+upto-in w bs (suc j) a y = cond (ltb y (field a 4 bs)) 0 (suc (upto-in w bs j (a + w) y))
 
 -- .. of the chunk in block i; none where the block says more nodes than fit
 unfoldable pub reached-in : Sizes → List ℕ → (i y : ℕ) → ℕ
 reached-in s bs i y =
-    cond (ltb (s .nodes) (getD bs (53 + i * block-long s + 1) 0)) 0 (upto-in bs (getD bs (53 + i * block-long s + 1) 0) (53 + i * block-long s + 8) y)
+    cond (ltb (s .nodes) (getD bs (53 + i * block-long s + 1) 0)) 0 (upto-in (row s) bs (getD bs (53 + i * block-long s + 1) 0) (53 + i * block-long s + 8) y)
 
 -- .. of the chunk that a search found, and its block
 unfoldable pub found-upto : Sizes → List ℕ → (y : ℕ) → Found → ℕ
@@ -54,7 +55,7 @@ found-block Nothing = 0
 
 -- node n of block i, counted from 1
 unfoldable pub node-place : Sizes → (i n : ℕ) → ℕ
-node-place s i n = 53 + i * block-long s + (8 + 12 * (n - 1))
+node-place s i n = 53 + i * block-long s + (8 + row s * (n - 1))
 
 -- A BLOCK COMES ON THE WAY, with n nodes that are not above the key
 unfoldable pub trod : Sizes → List ℕ → (i n : ℕ) → Trek → Trek

@@ -1,12 +1,13 @@
 // One level of an edit. A key comes into its partition at its own level and starts one at each level below; taken out, the same backwards.
 ghost use mathlib.Core.Path.{_≡_};
-ghost use Prim.Native.Nat.{_+_, _*_, _≤_, _<_};
+ghost use Prim.Native.Nat.{_+_, _*_, _-_, _≤_, _<_};
 ghost use lib.ListN.{length};
 ghost use lib.Seq.{sets};
+ghost use Rattle.sizes.specs.Sizes.{row};
 ghost use Rattle.placement.specs.Chunks.{node-bytes};
 ghost use Rattle.skiplist.specs.Lists.{masked};
 ghost use Rattle.placement.specs.Place.{Shaped};
-ghost use Rattle.levels.specs.Edit.{Enters-in, Enters-below, Cancels-in, Cancels-below, replaced};
+ghost use Rattle.levels.specs.Edit.{followed, Enters-in, Enters-below, Cancels-in, Cancels-below};
 use crate::Spot;
 use crate::pour::pour;
 use crate::pour::read;
@@ -16,32 +17,49 @@ use crate::shift::store;
 use crate::spots::later;
 use placement::Order;
 use sizes::Sizes;
+use sizes::header::row;
+use sizes::header::rows;
 use sizes::numbers::bring;
-use sizes::numbers::put4;
 
-// The bytes of 32 nodes, the most that a chunk has.
-const CHUNK: usize = 12 * 32;
+// The bytes of 32 nodes, the most that a chunk has, where a node has 16, the most.
+const CHUNK: usize = 16 * 32;
 
 // The bytes of the nodes that `pour` carries: two chunks at most.
 const POURED: usize = 2 * CHUNK;
 
 // The bytes of the nodes that `shift` carries: two chunks and a node at most.
-const SHIFTED: usize = 2 * CHUNK + 12;
+const SHIFTED: usize = 2 * CHUNK + 16;
 
-// A node of a level, as node i of a row of nodes; quantities 0 above level 1.
-fn write_node(row: &mut [u8], i: u32, level: u32, o: Order)
-    requires { ⌜ 12 * i + 12 ≤ length (now row) ⌝ }
-    ensures { λ r. ⌜ now (row .exit) ≡ sets (now (row .entry)) (12 * i) (node-bytes (masked level o)) ⌝ }
+// An order as a node of a level: quantities and price 0 above level 1.
+fn masked(level: u32, o: Order) -> Order
+    ensures { λ r. ⌜ r ≡ masked level o ⌝ }
 {
-    let at = 12 * (i as usize);
-    put4(row, at, o.key);
     if level == 1 {
-        put4(row, at + 4, o.total);
-        put4(row, at + 8, o.displayed);
-        return;
+        return o;
     }
-    put4(row, at + 4, 0);
-    put4(row, at + 8, 0);
+    Order {
+        key: o.key,
+        total: 0,
+        displayed: 0,
+        price: 0,
+    }
+}
+
+// A node of a level, as node i of a carry.
+fn write_node(carry: &mut [u8], s: Sizes, i: u32, level: u32, o: Order)
+    requires { ⌜ 16 * i + 16 ≤ length (now carry) ⌝ }
+    ensures { λ r. ⌜ now (carry .exit) ≡ sets (now (carry .entry)) (row s * i) (node-bytes (row s) (masked level o)) ⌝ }
+{
+    placement::rows::write_node(carry, s, rows(row(s), i), masked(level, o));
+}
+
+// Nodes a to n of a chunk, behind the k nodes of a carry.
+fn follow(carry: &mut [u8], s: Sizes, k: u32, chunk: &[u8], a: u32, n: u32)
+    requires { ⌜ (a ≤ n) × (16 * n ≤ length (now chunk)) × (16 * k + 16 * (n - a) ≤ length (now carry)) ⌝ }
+    ensures { λ r. ⌜ now (carry .exit) ≡ followed (row s) k a n (now (carry .entry)) (now (chunk .entry)) ⌝ }
+{
+    let w = row(s);
+    bring(carry, rows(w, k), chunk, rows(w, a), rows(w, n - a));
 }
 
 // The key comes into partition `first`, behind the nodes below it.
@@ -58,15 +76,9 @@ pub fn enter_in(table: &mut [u8], s: Sizes, level: u32, first: u32, x: Spot, o: 
     if n < kept {
         return;
     }
-    bring(&mut carry, 0, &chunk, 0, 12 * (kept as usize));
-    write_node(&mut carry, kept, level, o);
-    bring(
-        &mut carry,
-        12 * ((kept + 1) as usize),
-        &chunk,
-        12 * (kept as usize),
-        12 * ((n - kept) as usize),
-    );
+    follow(&mut carry, s, 0, &chunk, 0, kept);
+    write_node(&mut carry, s, kept, level, o);
+    follow(&mut carry, s, kept + 1, &chunk, kept, n);
     shift(table, s, level, first, number, count, &mut carry, n + 1);
 }
 
@@ -85,14 +97,8 @@ pub fn enter_below(table: &mut [u8], s: Sizes, level: u32, first: u32, x: Spot, 
         return;
     }
     store(table, s, level, first, number, kept, &chunk);
-    write_node(&mut carry, 0, level, o);
-    bring(
-        &mut carry,
-        12,
-        &chunk,
-        12 * (kept as usize),
-        12 * ((n - kept) as usize),
-    );
+    write_node(&mut carry, s, 0, level, o);
+    follow(&mut carry, s, 1, &chunk, kept, n);
     pour(
         table,
         s,
@@ -121,14 +127,8 @@ pub fn cancel_in(table: &mut [u8], s: Sizes, level: u32, first: u32, x: Spot)
     if n <= kept {
         return;
     }
-    bring(&mut carry, 0, &chunk, 0, 12 * (kept as usize));
-    bring(
-        &mut carry,
-        12 * (kept as usize),
-        &chunk,
-        12 * ((kept + 1) as usize),
-        12 * ((n - kept - 1) as usize),
-    );
+    follow(&mut carry, s, 0, &chunk, 0, kept);
+    follow(&mut carry, s, kept, &chunk, kept + 1, n);
     shift(table, s, level, first, number, count, &mut carry, n - 1);
 }
 
@@ -146,13 +146,7 @@ pub fn cancel_below(table: &mut [u8], s: Sizes, level: u32, first: u32, x: Spot,
     if n == 0 {
         return;
     }
-    bring(
-        &mut carry,
-        12 * (kept as usize),
-        &chunk,
-        12,
-        12 * ((n - 1) as usize),
-    );
+    follow(&mut carry, s, kept, &chunk, 1, n);
     pour(
         table,
         s,
@@ -165,13 +159,4 @@ pub fn cancel_below(table: &mut [u8], s: Sizes, level: u32, first: u32, x: Spot,
         &mut carry,
         kept + n - 1,
     );
-}
-
-// Both quantities of the order whose node of level 1 stands at a place.
-pub fn replace(table: &mut [u8], at: usize, o: Order)
-    requires { ⌜ at + 12 ≤ length (now table) ⌝ }
-    ensures { λ r. ⌜ now (table .exit) ≡ replaced (now (table .entry)) at o ⌝ }
-{
-    put4(table, at + 4, o.total);
-    put4(table, at + 8, o.displayed);
 }

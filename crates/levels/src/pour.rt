@@ -1,8 +1,10 @@
 // Nodes on the move to other labels: chunks are taken out of a partition into a carry, and written again as chunks of another.
 // Every chunk is taken out before one is put in, so a table that is exactly full afterwards is never overfull on the way.
 ghost use mathlib.Core.Path.{_≡_};
-ghost use Prim.Native.Nat.{_+_, _*_, _≤_, _<_};
-ghost use lib.ListN.{length};
+ghost use Prim.Native.Nat.{_+_, _*_, _-_, _≤_, _<_};
+ghost use lib.ListN.{length, take, drop};
+ghost use lib.Seq.{sets};
+ghost use Rattle.sizes.specs.Sizes.{row};
 ghost use Rattle.placement.specs.Labels.{label};
 ghost use Rattle.placement.specs.Place.{Shaped};
 ghost use Rattle.levels.specs.Pour.{poured, Kept, Reads, Takes, Flushes, Puts, Pours};
@@ -14,6 +16,9 @@ use placement::labels::offset;
 use placement::search::count_at;
 use placement::search::find;
 use sizes::Sizes;
+use sizes::header::row;
+use sizes::header::rows;
+use sizes::header::used;
 use sizes::numbers::bring;
 use sizes::numbers::copy;
 
@@ -27,7 +32,7 @@ pub fn read(
     carry: &mut [u8],
     n: u32,
 ) -> u32
-    requires { ⌜ Shaped s (now table) × (12 * (n + s .nodes) ≤ length (now carry)) × (length (now carry) ≤ 1024) ⌝ }
+    requires { ⌜ Shaped s (now table) × (16 * (n + s .nodes) ≤ length (now carry)) × (length (now carry) ≤ 1040) ⌝ }
     ensures { λ r. ⌜ (length (now (carry .exit)) ≡ length (now (carry .entry))) × (r ≤ n + s .nodes) × Reads s (label level first number) n (now (table .entry)) (now (carry .entry)) (now (carry .exit)) r ⌝ }
 {
     let Found::At(i) = find(
@@ -46,7 +51,7 @@ pub fn read(
         return n;
     }
     let start = offset(s, i) + 8;
-    bring(carry, 12 * (n as usize), table, start, 12 * (more as usize));
+    bring(carry, rows(row(s), n), table, start, used(s, more));
     n + more
 }
 
@@ -60,7 +65,7 @@ pub fn take(
     carry: &mut [u8],
     n: u32,
 ) -> u32
-    requires { ⌜ Shaped s (now table) × (12 * (n + s .nodes) ≤ length (now carry)) × (length (now carry) ≤ 1024) ⌝ }
+    requires { ⌜ Shaped s (now table) × (16 * (n + s .nodes) ≤ length (now carry)) × (length (now carry) ≤ 1040) ⌝ }
     ensures { λ r. ⌜ Kept s (now (table .exit)) (now (carry .entry)) (now (carry .exit)) × (r ≤ n + s .nodes) × Takes s (label level first number) n (now (table .entry)) (now (table .exit)) (now (carry .entry)) (now (carry .exit)) r ⌝ }
 {
     let now = read(table, s, level, first, number, carry, n);
@@ -76,7 +81,7 @@ pub fn take(
     now
 }
 
-// The first n nodes of a row, as a chunk that is not there yet, if there are any.
+// The first n of some nodes, as a chunk that is not there yet, if there are any.
 pub fn write_some(
     table: &mut [u8],
     s: Sizes,
@@ -84,10 +89,10 @@ pub fn write_some(
     first: u32,
     number: u32,
     n: u32,
-    row: &[u8],
+    nodes: &[u8],
 )
-    requires { ⌜ Shaped s (now table) × (level < 256) × (n ≤ s .nodes) × (12 * n ≤ length (now row)) ⌝ }
-    ensures { λ r. ⌜ Shaped s (now (table .exit)) × Puts s (label level first number) n (now (table .entry)) (now (table .exit)) (now (row .entry)) ⌝ }
+    requires { ⌜ Shaped s (now table) × (level < 256) × (n ≤ s .nodes) × (16 * n ≤ length (now nodes)) ⌝ }
+    ensures { λ r. ⌜ Shaped s (now (table .exit)) × Puts s (label level first number) n (now (table .entry)) (now (table .exit)) (now (nodes .entry)) ⌝ }
 {
     if 0 < n {
         insert(
@@ -99,10 +104,21 @@ pub fn write_some(
                 number: number,
             },
             n,
-            row,
+            nodes,
             0,
         );
     }
+}
+
+// Moves the nodes of a carry that come behind the first B to its front; how many they are.
+pub fn advance(s: Sizes, carry: &mut [u8], n: u32) -> u32
+    requires { ⌜ (s .nodes ≤ n) × (16 * n ≤ length (now carry)) ⌝ }
+    ensures { λ r. ⌜ (r ≡ n - s .nodes) × (now (carry .exit) ≡ sets (now (carry .entry)) 0 (take (row s * r) (drop (row s * s .nodes) (now (carry .entry))))) ⌝ }
+{
+    let w = row(s);
+    let left = n - s.nodes;
+    copy(carry, rows(w, s.nodes), 0, rows(w, left));
+    left
 }
 
 // Writes a chunk of the first B nodes of the carry, if there are so many, and moves the others to its front; how many are left.
@@ -115,16 +131,14 @@ fn flush(
     carry: &mut [u8],
     n: u32,
 ) -> u32
-    requires { ⌜ Shaped s (now table) × (level < 256) × (12 * n ≤ length (now carry)) ⌝ }
+    requires { ⌜ Shaped s (now table) × (level < 256) × (16 * n ≤ length (now carry)) ⌝ }
     ensures { λ r. ⌜ Kept s (now (table .exit)) (now (carry .entry)) (now (carry .exit)) × (n < 2 * s .nodes → r < s .nodes) × Flushes s (label level first number) n (now (table .entry)) (now (table .exit)) (now (carry .entry)) (now (carry .exit)) r ⌝ }
 {
     if n < s.nodes {
         return n;
     }
     write_some(table, s, level, first, number, s.nodes, carry);
-    let left = n - s.nodes;
-    copy(carry, 12 * (s.nodes as usize), 0, 12 * (left as usize));
-    left
+    advance(s, carry, n)
 }
 
 // `count` chunks of partition `from`, from number j on, follow the n nodes of the carry; all are written as chunks of partition `to`, from number q on.

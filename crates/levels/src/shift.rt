@@ -6,6 +6,7 @@ ghost use Rattle.placement.specs.Labels.{label};
 ghost use Rattle.placement.specs.Place.{Shaped};
 ghost use Rattle.levels.specs.Pour.{Kept};
 ghost use Rattle.levels.specs.Shift.{shifted, Stores, Renews, Shifts};
+use crate::pour::advance;
 use crate::pour::read;
 use crate::pour::write_some;
 use placement::Found;
@@ -14,12 +15,11 @@ use placement::edits::pull_back;
 use placement::edits::write_block;
 use placement::search::find;
 use sizes::Sizes;
-use sizes::numbers::copy;
 
-// The first n nodes of a row are a chunk: over the one that is there, or in its place among the others; none where n is 0.
-pub fn store(table: &mut [u8], s: Sizes, level: u32, first: u32, number: u32, n: u32, row: &[u8])
-    requires { ⌜ Shaped s (now table) × (level < 256) × (n ≤ s .nodes) × (12 * n ≤ length (now row)) ⌝ }
-    ensures { λ r. ⌜ Shaped s (now (table .exit)) × Stores s (label level first number) n (now (table .entry)) (now (table .exit)) (now (row .entry)) ⌝ }
+// The first n of some nodes are a chunk: over the one that is there, or in its place among the others; none where n is 0.
+pub fn store(table: &mut [u8], s: Sizes, level: u32, first: u32, number: u32, n: u32, nodes: &[u8])
+    requires { ⌜ Shaped s (now table) × (level < 256) × (n ≤ s .nodes) × (16 * n ≤ length (now nodes)) ⌝ }
+    ensures { λ r. ⌜ Shaped s (now (table .exit)) × Stores s (label level first number) n (now (table .entry)) (now (table .exit)) (now (nodes .entry)) ⌝ }
 {
     let label = Label {
         level: level,
@@ -27,14 +27,14 @@ pub fn store(table: &mut [u8], s: Sizes, level: u32, first: u32, number: u32, n:
         number: number,
     };
     let Found::At(i) = find(table, s, label) else {
-        write_some(table, s, level, first, number, n, row);
+        write_some(table, s, level, first, number, n, nodes);
         return;
     };
     if n == 0 {
         pull_back(table, s, i);
         return;
     }
-    write_block(table, s, i, label, n, row, 0);
+    write_block(table, s, i, label, n, nodes, 0);
 }
 
 // A chunk gets the first B nodes of the carry, or all if they are fewer; the others move to its front. How many are left.
@@ -47,7 +47,7 @@ fn renew(
     carry: &mut [u8],
     n: u32,
 ) -> u32
-    requires { ⌜ Shaped s (now table) × (level < 256) × (12 * n ≤ length (now carry)) × (length (now carry) ≤ 1024) ⌝ }
+    requires { ⌜ Shaped s (now table) × (level < 256) × (16 * n ≤ length (now carry)) ⌝ }
     ensures { λ r. ⌜ Kept s (now (table .exit)) (now (carry .entry)) (now (carry .exit)) × (r ≤ n - s .nodes) × Renews s (label level first number) n (now (table .entry)) (now (table .exit)) (now (carry .entry)) (now (carry .exit)) r ⌝ }
 {
     if n <= s.nodes {
@@ -55,9 +55,7 @@ fn renew(
         return 0;
     }
     store(table, s, level, first, number, s.nodes, carry);
-    let left = n - s.nodes;
-    copy(carry, 12 * (s.nodes as usize), 0, 12 * (left as usize));
-    left
+    advance(s, carry, n)
 }
 
 // The nodes of chunk q are to be the n nodes of the carry, and `count` chunks of the partition come after it: what does not fit goes on to the next.

@@ -10,6 +10,7 @@ ghost use Rattle.skiplist.specs.Parts.{pieces};
 ghost use Rattle.levels.specs.Edit.{most-nodes, Scans};
 ghost use Rattle.levels.specs.Scan.{passed, passes};
 use crate::Spot;
+use crate::ways::key_at;
 use placement::Found;
 use placement::Label;
 use placement::labels::offset;
@@ -17,7 +18,7 @@ use placement::search::count_at;
 use placement::search::find_high;
 use sizes::Geometry;
 use sizes::hash::hash;
-use sizes::numbers::be4;
+use sizes::header::row;
 
 // A node comes by: it is counted, and kept if it is below the key.
 fn pass_node(key: u32, y: u32, x: Spot) -> Spot
@@ -38,15 +39,15 @@ fn pass_node(key: u32, y: u32, x: Spot) -> Spot
     }
 }
 
-// The nodes of a chunk come by.
-fn pass_nodes(table: &[u8], at: usize, n: u32, y: u32, x: Spot) -> Spot
-    requires { ⌜ (at + 12 * n ≤ length (now table)) × (x .below ≤ x .size) × (x .size + n ≤ most-nodes) ⌝ }
-    ensures { λ r. ⌜ (r ≡ passes (now (table .entry)) n at y x) × (r .below ≤ r .size) × (r .size ≡ x .size + n) ⌝ }
+// The nodes of a chunk come by, of w bytes each.
+fn pass_nodes(table: &[u8], w: usize, at: usize, n: u32, y: u32, x: Spot) -> Spot
+    requires { ⌜ (12 ≤ w) × (w ≤ 16) × (at + w * n ≤ length (now table)) × (x .below ≤ x .size) × (x .size + n ≤ most-nodes) ⌝ }
+    ensures { λ r. ⌜ (r ≡ passes w (now (table .entry)) n at y x) × (r .below ≤ r .size) × (r .size ≡ x .size + n) ⌝ }
 {
     let mut spot = x;
     let mut i: u32 = 0;
     while i < n {
-        let key = be4(table, at + 12 * (i as usize));
+        let key = key_at(table, w, at, n, i);
         spot = pass_node(key, y, spot);
         i += 1;
     }
@@ -94,7 +95,7 @@ pub fn scan(table: &[u8], q: Geometry, level: u32, first: u32, y: u32) -> Spot
             return spot;
         }
         let at = offset(s, i) + 8;
-        spot = pass_nodes(table, at, n, y, spot);
+        spot = pass_nodes(table, row(s), at, n, y, spot);
         // A chunk comes only behind a full one.
         if n < s.nodes {
             return spot;

@@ -3,6 +3,8 @@
 ghost use mathlib.Core.Path.{_≡_};
 ghost use Prim.Native.Nat.{_+_, _*_, _-_, _≤_, _<_};
 ghost use lib.ListN.{length};
+ghost use Rattle.sizes.specs.Numbers.{field};
+ghost use Rattle.sizes.specs.Sizes.{row};
 ghost use Rattle.sizes.specs.Geometry.{Reckoned};
 ghost use Rattle.sizes.specs.Hash.{hash-from};
 ghost use Rattle.placement.specs.Place.{Shaped};
@@ -18,17 +20,28 @@ use placement::search::find_past;
 use sizes::Geometry;
 use sizes::Sizes;
 use sizes::hash::hash;
+use sizes::header::row;
+use sizes::header::rows;
+use sizes::header::used;
 use sizes::numbers::be4;
 use sizes::numbers::put2;
 
-// How many nodes at the front of a chunk are not above a key.
-pub fn upto(table: &[u8], at: usize, n: u32, y: u32) -> u32
-    requires { ⌜ at + 12 * n ≤ length (now table) ⌝ }
-    ensures { λ r. ⌜ (r ≡ upto-in (now (table .entry)) n at y) × (r ≤ n) ⌝ }
+// The key of node i of n, of w bytes each.
+pub fn key_at(table: &[u8], w: usize, at: usize, n: u32, i: u32) -> u32
+    requires { ⌜ (12 ≤ w) × (w ≤ 16) × (at + w * n ≤ length (now table)) × (i < n) ⌝ }
+    ensures { λ r. ⌜ r ≡ field (at + w * i) 4 (now (table .entry)) ⌝ }
+{
+    be4(table, at + rows(w, i))
+}
+
+// How many nodes at the front of a chunk, of w bytes each, are not above a key.
+pub fn upto(table: &[u8], w: usize, at: usize, n: u32, y: u32) -> u32
+    requires { ⌜ (12 ≤ w) × (w ≤ 16) × (at + w * n ≤ length (now table)) ⌝ }
+    ensures { λ r. ⌜ (r ≡ upto-in w (now (table .entry)) n at y) × (r ≤ n) ⌝ }
 {
     let mut i: u32 = 0;
     while i < n {
-        if y < be4(table, at + 12 * (i as usize)) {
+        if y < key_at(table, w, at, n, i) {
             return i;
         }
         i += 1;
@@ -45,7 +58,7 @@ fn reached(table: &[u8], s: Sizes, i: u32, y: u32) -> u32
     if s.nodes < n {
         return 0;
     }
-    upto(table, offset(s, i) + 8, n, y)
+    upto(table, row(s), offset(s, i) + 8, n, y)
 }
 
 // The number of a block comes to the path, where it has room.
@@ -61,9 +74,9 @@ fn write_number(path: &mut [u8], count: u32, i: u32)
 // A block comes on the way; n nodes of its chunk are not above the key.
 fn tread(table: &[u8], s: Sizes, i: u32, n: u32, t: Trail, path: &mut [u8]) -> Trail
     requires { ⌜ Shaped s (now table) × (i < s .blocks) × (0 < n) × (n ≤ s .nodes) × (t .count < 4294967295) ⌝ }
-    ensures { λ r. ⌜ (trek r (now (path .exit)) ≡ trod s (now (table .entry)) i n (trek t (now (path .entry)))) × (r .count ≡ t .count + 1) × (r .at + 12 ≤ length (now (table .entry))) ⌝ }
+    ensures { λ r. ⌜ (trek r (now (path .exit)) ≡ trod s (now (table .entry)) i n (trek t (now (path .entry)))) × (r .count ≡ t .count + 1) × (r .at + row s ≤ length (now (table .entry))) ⌝ }
 {
-    let at = offset(s, i) + (8 + 12 * ((n - 1) as usize));
+    let at = offset(s, i) + (8 + used(s, n - 1));
     write_number(path, t.count, i);
     Trail {
         count: t.count + 1,
@@ -76,7 +89,7 @@ fn tread(table: &[u8], s: Sizes, i: u32, n: u32, t: Trail, path: &mut [u8]) -> T
 // the way.
 fn along(table: &[u8], q: Geometry, g: u32, level: u32, y: u32, t: Trail, path: &mut [u8]) -> Trail
     requires { ⌜ Shaped (q .sizes) (now table) × Reckoned q × (g ≡ hash-from 5 5 (q .sizes .seed) (t .first)) × (0 < level) × (level ≤ q .top) × (t .count + 65535 ≤ 4294967295) ⌝ }
-    ensures { λ r. ⌜ (trek r (now (path .exit)) ≡ along-in (q .sizes) (now (table .entry)) level y (trek t (now (path .entry)))) × (r .count ≤ t .count + 65535) × (r .at + 12 ≤ length (now (table .entry))) ⌝ }
+    ensures { λ r. ⌜ (trek r (now (path .exit)) ≡ along-in (q .sizes) (now (table .entry)) level y (trek t (now (path .entry)))) × (r .count ≤ t .count + 65535) × (r .at + row (q .sizes) ≤ length (now (table .entry))) ⌝ }
 {
     let s = q.sizes;
     let mut w = Trail {
@@ -111,7 +124,7 @@ fn along(table: &[u8], q: Geometry, g: u32, level: u32, y: u32, t: Trail, path: 
 // The levels above l.
 pub fn descend(table: &[u8], q: Geometry, l: u32, y: u32, path: &mut [u8]) -> Trail
     requires { ⌜ Shaped (q .sizes) (now table) × Reckoned q ⌝ }
-    ensures { λ r. ⌜ (trek r (now (path .exit)) ≡ down-in (q .sizes) (now (table .entry)) l y (q .top - l) (trek starting (now (path .entry)))) × (r .at + 12 ≤ length (now (table .entry))) ⌝ }
+    ensures { λ r. ⌜ (trek r (now (path .exit)) ≡ down-in (q .sizes) (now (table .entry)) l y (q .top - l) (trek starting (now (path .entry)))) × (r .at + row (q .sizes) ≤ length (now (table .entry))) ⌝ }
 {
     let mut t = Trail {
         count: 0,
@@ -136,7 +149,7 @@ pub fn descend(table: &[u8], q: Geometry, l: u32, y: u32, path: &mut [u8]) -> Tr
 // The way alone, without its path.
 pub fn way_down(table: &[u8], q: Geometry, l: u32, y: u32) -> Trail
     requires { ⌜ Shaped (q .sizes) (now table) × Reckoned q ⌝ }
-    ensures { λ r. ⌜ (r ≡ way-down (q .sizes) (now (table .entry)) (q .top) l y) × (r .at + 12 ≤ length (now (table .entry))) ⌝ }
+    ensures { λ r. ⌜ (r ≡ way-down (q .sizes) (now (table .entry)) (q .top) l y) × (r .at + row (q .sizes) ≤ length (now (table .entry))) ⌝ }
 {
     let mut none = [0u8; 1];
     descend(table, q, l, y, &mut none)

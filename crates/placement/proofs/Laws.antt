@@ -22,6 +22,7 @@ pub mod Settling
 pub mod Finding
 pub mod Edits
 pub mod Reading
+pub mod Nodes
 pub mod Tables
 pub mod Searched
 pub mod Decoding

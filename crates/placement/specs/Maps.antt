@@ -3,13 +3,13 @@ use mathlib.Core.Path.{_≡_}
 use mathlib.Core.Logic.{_≢_}
 use mathlib.Core.Bool.{true}
 use mathlib.Core.List.{List, [], _++_}
-use Prim.Native.Nat.{ℕ, _<_, _≤_}
+use Prim.Native.Nat.{ℕ, _-_, _^_, _<_, _≤_}
 use lib.ListN.{length}
 use Rattle.placement.specs.Blocks.{Block, holds}
 use Rattle.sizes.specs.Numbers.{Each}
 use Rattle.placement.specs.Kinds.{Kind}
 use Rattle.placement.specs.Kinds
-use Rattle.sizes.specs.Sizes.{made}
+use Rattle.sizes.specs.Sizes.{row, made}
 use Rattle.sizes.specs.Header.{sizes-in, block-long}
 use Rattle.placement.specs.Labels.{label, same-label}
 use Rattle.placement.specs.Chunks.{Chunk, chunk-home, chunk-before, block-bytes, all-bytes}
@@ -20,7 +20,7 @@ use Rattle.placement.specs.declared.Label.{Label}
 use Rattle.placement.specs.declared.Found.{Found}
 use Rattle.placement.specs.declared.Found.the-variants.{At, Nothing}
 
--- THIS VERSION'S CHUNKS: labels of level, first key and chunk number, and rows that are orders. A map takes the three parts of a label
+-- THE TABLE'S CHUNKS: labels of level, first key and chunk number, and rows that are orders. A map takes the three parts of a label
 abbrev pub Map : Type 0
 Map = (level first number : ℕ) → List Order
 
@@ -58,21 +58,22 @@ without-label c F = by-parts (Kinds.without-label chunk-kind c (nodes-of F))
 unfoldable pub map-of : List Chunk → Map
 map-of cs = by-parts (Kinds.map-of chunk-kind cs)
 
--- a node of numbers of four bytes
-pub record Fine (o : Order) : Type 0 where
+-- a node that w bytes can hold: numbers of four bytes, and a price of what is left; it is 0 where w is 12
+pub record Fine (w : ℕ) (o : Order) : Type 0 where
   pub key : o .key < 4294967296
   pub total : o .total < 4294967296
   pub displayed : o .displayed < 4294967296
+  pub price : o .price < 256 ^ (w - 12)
 
-abbrev pub Fines : List Order → Type 0
-Fines os = Each Fine os
+abbrev pub Fines : (w : ℕ) → List Order → Type 0
+Fines w os = Each (Fine w) os
 
 -- a chunk that the bytes of a block can hold
 pub record Holdable (s : Sizes) (c : Chunk) : Type 0 where
   pub level : 0 < c .label .level
   pub first : c .label .first < 4294967296
   pub number : c .label .number < 65536
-  pub fine : Fines (c .nodes)
+  pub fine : Fines (row s) (c .nodes)
   pub nodes : length (c .nodes) ≤ s .nodes
 
 -- every chunk of the map is one that a block can hold

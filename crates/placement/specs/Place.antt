@@ -6,7 +6,7 @@ use Prim.Native.Nat.{ℕ, zero, suc, _+_, _*_, _-_, _%_, _≤_, _<_}
 use lib.Dec.{ltb, leb, eqb}
 use lib.ListN.{length, getD, replicate}
 use Rattle.sizes.specs.Numbers.{field, big}
-use Rattle.sizes.specs.Sizes.{prime, seed-good}
+use Rattle.sizes.specs.Sizes.{prime, row, seed-good}
 use Rattle.sizes.specs.Hash.{g}
 use Rattle.sizes.specs.Header.{block-long}
 use Rattle.sizes.specs.Parts.{put-block, clear-in, copy-in, swap-in}
@@ -19,7 +19,9 @@ use Rattle.placement.specs.declared.Found.the-variants.{At, Nothing}
 -- the bytes are as long as those of a table of sizes s, and the sizes and seed are small enough to compute with
 pub record Shaped (s : Sizes) (bs : List ℕ) : Type 0 where
   pub long : length bs ≡ 53 + s .blocks * block-long s
-  pub width : block-long s ≡ 8 + 12 * s .nodes
+  pub width : block-long s ≡ 8 + row s * s .nodes
+  pub least : 12 ≤ row s
+  pub wide : row s ≤ 16
   pub few : s .nodes ≤ 32
   pub some : 0 < s .blocks
   pub most : s .blocks ≤ 65535
@@ -114,7 +116,7 @@ unfoldable pub head-bytes : Label → (n : ℕ) → List ℕ
 head-bytes l n = l .level ∷ n ∷ (big 2 (l .number) ++ big 4 (l .first))
 
 unfoldable pub block-with : (w : ℕ) → Label → (n : ℕ) → (nodes : List ℕ) → List ℕ
-block-with w l n xs = head-bytes l n ++ xs ++ replicate (w - 8 - 12 * n) 0
+block-with w l n xs = head-bytes l n ++ xs ++ replicate (w - 8 - length xs) 0
 
 -- a new chunk: it goes to the empty block, and from there to its place
 unfoldable pub inserted : Sizes → Found → Label → (n : ℕ) → (nodes : List ℕ) → List ℕ → List ℕ

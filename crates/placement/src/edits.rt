@@ -4,6 +4,7 @@ ghost use mathlib.Core.Bool.{cond};
 ghost use Prim.Native.Nat.{_+_, _*_, _-_, _<_, _≤_};
 ghost use lib.ListN.{length, take, drop};
 ghost use lib.Seq.{sets};
+ghost use Rattle.sizes.specs.Sizes.{row};
 ghost use Rattle.sizes.specs.Header.{block-long};
 ghost use Rattle.sizes.specs.Parts.{put-block, clear-in, copy-in, swap-in};
 ghost use Rattle.placement.specs.Labels.{before, home};
@@ -11,13 +12,14 @@ ghost use Rattle.placement.specs.Place.{Shaped, label-in, search-in, dis
 use crate::Found;
 use crate::Label;
 use crate::labels::before;
-use crate::labels::block_length;
 use crate::labels::home;
 use crate::labels::label_at;
 use crate::labels::offset;
 use crate::search::find;
 use crate::search::free;
 use sizes::Sizes;
+use sizes::header::block_length;
+use sizes::header::used;
 use sizes::numbers::bring;
 use sizes::numbers::copy;
 use sizes::numbers::exchange;
@@ -155,22 +157,22 @@ fn write_head(table: &mut [u8], at: usize, l: Label, n: u32)
     put4(table, at + 4, l.first);
 }
 
-// A whole block: a label, n nodes of twelve bytes, and zeros.
+// A whole block: a label, n nodes, and zeros.
 pub fn write_block(table: &mut [u8], s: Sizes, e: u32, l: Label, n: u32, nodes: &[u8], start: usize)
-    requires { ⌜ Shaped s (now table) × (e < s .blocks) × (l .level < 256) × (8 + 12 * n ≤ block-long s) × (start + 12 * n ≤ length (now nodes)) ⌝ }
-    ensures { λ r. ⌜ now (table .exit) ≡ put-block (block-long s) (now (table .entry)) e (block-with (block-long s) l n (take (12 * n) (drop start (now (nodes .entry))))) ⌝ }
+    requires { ⌜ Shaped s (now table) × (e < s .blocks) × (l .level < 256) × (n ≤ s .nodes) × (start + row s * n ≤ length (now nodes)) ⌝ }
+    ensures { λ r. ⌜ now (table .exit) ≡ put-block (block-long s) (now (table .entry)) e (block-with (block-long s) l n (take (row s * n) (drop start (now (nodes .entry))))) ⌝ }
 {
     let at = offset(s, e);
-    let used = 12 * (n as usize);
+    let long = used(s, n);
     write_head(table, at, l, n);
-    bring(table, at + 8, nodes, start, used);
-    fill(table, at + 8 + used, block_length(s) as usize - 8 - used);
+    bring(table, at + 8, nodes, start, long);
+    fill(table, at + 8 + long, block_length(s) as usize - 8 - long);
 }
 
 // A new chunk with a label and n nodes, in its place; nothing where no block is empty.
 pub fn insert(table: &mut [u8], s: Sizes, l: Label, n: u32, nodes: &[u8], start: usize) -> Found
-    requires { ⌜ Shaped s (now table) × (l .level < 256) × (8 + 12 * n ≤ block-long s) × (start + 12 * n ≤ length (now nodes)) ⌝ }
-    ensures { λ r. ⌜ (r ≡ free-in (label-in (block-long s) (now (table .entry))) (s .blocks) (s .blocks) (home s l)) × (now (table .exit) ≡ inserted s r l n (take (12 * n) (drop start (now (nodes .entry)))) (now (table .entry))) ⌝ }
+    requires { ⌜ Shaped s (now table) × (l .level < 256) × (n ≤ s .nodes) × (start + row s * n ≤ length (now nodes)) ⌝ }
+    ensures { λ r. ⌜ (r ≡ free-in (label-in (block-long s) (now (table .entry))) (s .blocks) (s .blocks) (home s l)) × (now (table .exit) ≡ inserted s r l n (take (row s * n) (drop start (now (nodes .entry)))) (now (table .entry))) ⌝ }
 {
     let first = home(s, l);
     let Found::At(e) = free(table, s, first) else {

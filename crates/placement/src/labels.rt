@@ -11,14 +11,7 @@ ghost use Rattle.placement.specs.Place.{Shaped, label-in, passes-label};
 use crate::Label;
 use sizes::Sizes;
 use sizes::header::Header;
-
-// The bytes of a block.
-pub fn block_length(s: Sizes) -> u32
-    requires { ⌜ s .nodes ≤ 32 ⌝ }
-    ensures { λ r. ⌜ (r ≡ block-long s) × (r ≤ 392) ⌝ }
-{
-    Header::HEAD + 12 * s.nodes
-}
+use sizes::header::block_length;
 
 // Where a block starts.
 pub fn offset(s: Sizes, i: u32) -> usize

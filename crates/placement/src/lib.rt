@@ -2,13 +2,15 @@
 // What the layer above may rest on is said by maps from labels to nodes: specs/Maps.antt, proofs/Laws/Tables.antt.
 pub mod edits;
 pub mod labels;
+pub mod rows;
 pub mod search;
 
-// An order, and a node of a chunk: the front is a node of key 0.
+// An order, and a node of a chunk: the front is a node of key 0. Its price is 0 where nodes have no place for one.
 pub struct Order {
     pub key: u32,
     pub total: u32,
     pub displayed: u32,
+    pub price: u32,
 }
 
 // The label of a chunk; level 0 stands for an empty block.

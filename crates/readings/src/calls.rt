@@ -3,6 +3,8 @@ ghost use mathlib.Core.Path.{_≡_};
 ghost use mathlib.Core.Bool.{true};
 ghost use mathlib.Core.List.{_++_};
 ghost use Prim.Native.Nat.{_≤_};
+ghost use Rattle.sizes.specs.Sizes.{row};
+ghost use Rattle.sizes.specs.Header.{sizes-in};
 ghost use Rattle.skiplist.specs.Image.{is-image, orders-in};
 ghost use Rattle.skiplist.specs.Questions.{first-no, is-key, between, enough, asks-image, asks-range};
 ghost use Rattle.table.specs.Calls.{reply, Look-says, Span-says, Seek-says};
@@ -12,33 +14,38 @@ use crate::descent::geometry_of;
 use crate::descent::order_of;
 use crate::visits::visit_partition;
 use placement::Order;
+use sizes::Sizes;
 use sizes::hash::highest;
 use sizes::header::Header;
+use sizes::header::row;
+use sizes::header::rows;
 use table::Reply;
 use table::checking::check;
 
 // A refusal: all other parts are 0, but for the count of a descent that shows its path.
 pub fn refused(number: u32, count: u32) -> Reply
-    ensures { λ r. ⌜ r ≡ reply number 0 0 0 count ⌝ }
+    ensures { λ r. ⌜ r ≡ reply number 0 0 0 0 count ⌝ }
 {
     Reply {
         number: number,
         key: 0,
         total: 0,
         displayed: 0,
+        price: 0,
         count: count,
     }
 }
 
 // An order as an answer.
 pub fn answered(o: Order, count: u32) -> Reply
-    ensures { λ r. ⌜ r ≡ reply 0 (o .key) (o .total) (o .displayed) count ⌝ }
+    ensures { λ r. ⌜ r ≡ reply 0 (o .key) (o .total) (o .displayed) (o .price) count ⌝ }
 {
     Reply {
         number: 0,
         key: o.key,
         total: o.total,
         displayed: o.displayed,
+        price: o.price,
         count: count,
     }
 }
@@ -46,6 +53,7 @@ pub fn answered(o: Order, count: u32) -> Reply
 // A visit of all orders in lo..hi, by rising keys.
 fn visit_all(
     table: &[u8],
+    s: Sizes,
     lo: u32,
     hi: u32,
     least: u32,
@@ -53,11 +61,9 @@ fn visit_all(
     seeks: bool,
     output: &mut [u8],
 ) -> Visit
-    requires { ⌜ (is-image (now table) ≡ true) × (1 ≤ lo) × (lo ≤ hi) ⌝ }
-    ensures { λ r. ⌜ scan r (now (output .exit)) ≡ steps (orders-in (now (table .entry))) (scan (starting lo hi least writes seeks) (now (output .entry))) ⌝ }
+    requires { ⌜ (is-image (now table) ≡ true) × (1 ≤ lo) × (lo ≤ hi) × (s ≡ sizes-in (now table)) ⌝ }
+    ensures { λ r. ⌜ scan (row (sizes-in (now (table .entry)))) r (now (output .exit)) ≡ steps (orders-in (now (table .entry))) (scan (row (sizes-in (now (table .entry)))) (starting lo hi least writes seeks) (now (output .entry))) ⌝ }
 {
-    let h = Header::read(table);
-    let s = h.sizes;
     let v = Visit {
         lo: lo,
         hi: hi,
@@ -69,6 +75,7 @@ fn visit_all(
         key: 0,
         total: 0,
         displayed: 0,
+        price: 0,
     };
     visit_partition(
         table,
@@ -78,6 +85,7 @@ fn visit_all(
             key: 0,
             total: 0,
             displayed: 0,
+            price: 0,
         },
         v,
         output,
@@ -125,7 +133,8 @@ pub fn first_with(table: &[u8], lo: u32, hi: u32, least: u32) -> Sought
     ensures { λ r. ⌜ r ≡ first-of (enough least (between lo hi (orders-in (now (table .entry))))) ⌝ }
 {
     let mut none = [0u8; 1];
-    let v = visit_all(table, lo, hi, least, false, true, &mut none);
+    let h = Header::read(table);
+    let v = visit_all(table, h.sizes, lo, hi, least, false, true, &mut none);
     if v.found == 0 {
         return Sought::Nothing;
     }
@@ -133,6 +142,7 @@ pub fn first_with(table: &[u8], lo: u32, hi: u32, least: u32) -> Sought
         key: v.key,
         total: v.total,
         displayed: v.displayed,
+        price: v.price,
     })
 }
 
@@ -160,16 +170,18 @@ pub fn span(table: &[u8], lo: u32, hi: u32, output: &mut [u8]) -> Reply
     if n != 0 {
         return refused(n, 0);
     }
-    let counted = visit_all(table, lo, hi, 0, false, false, output);
-    if output.len() < 12 * (counted.found as usize) {
+    let h = Header::read(table);
+    let counted = visit_all(table, h.sizes, lo, hi, 0, false, false, output);
+    if output.len() < rows(row(h.sizes), counted.found) {
         return refused(11, 0);
     }
-    let v = visit_all(table, lo, hi, 0, true, false, output);
+    let v = visit_all(table, h.sizes, lo, hi, 0, true, false, output);
     Reply {
         number: 0,
         key: 0,
         total: 0,
         displayed: 0,
+        price: 0,
         count: v.found,
     }
 }

@@ -3,6 +3,7 @@ ghost use mathlib.Core.Path.{_≡_};
 ghost use mathlib.Core.Bool.{true};
 ghost use Prim.Native.Nat.{_+_, _*_, _≤_};
 ghost use lib.ListN.{length};
+ghost use Rattle.sizes.specs.Sizes.{row};
 ghost use Rattle.sizes.specs.Header.{sizes-in};
 ghost use Rattle.sizes.specs.Geometry.{Reckoned};
 ghost use Rattle.placement.specs.Place.{Shaped};
@@ -17,13 +18,14 @@ use crate::calls::is_key;
 use crate::calls::refused;
 use levels::ways::descend;
 use levels::ways::way_down;
+use placement::rows::node_of;
 use sizes::Geometry;
+use sizes::Sizes;
 use sizes::hash::reckon;
 use sizes::header::Header;
 use sizes::header::rule_of;
 use sizes::numbers::bring;
 use table::Reply;
-use table::walk::node_of;
 
 // The sizes of an image, with what follows from them.
 pub fn geometry_of(table: &[u8]) -> Geometry
@@ -35,14 +37,14 @@ pub fn geometry_of(table: &[u8]) -> Geometry
 }
 
 // The order at the place where a way has ended, if it has the key.
-pub fn order_at(table: &[u8], at: usize, key: u32) -> Sought
-    requires { ⌜ at + 12 ≤ length (now table) ⌝ }
-    ensures { λ r. ⌜ r ≡ landed (now (table .entry)) at key ⌝ }
+pub fn order_at(table: &[u8], s: Sizes, at: usize, key: u32) -> Sought
+    requires { ⌜ at + row s ≤ length (now table) ⌝ }
+    ensures { λ r. ⌜ r ≡ landed (row s) (now (table .entry)) at key ⌝ }
 {
     if at == 0 {
         return Sought::Nothing;
     }
-    let o = node_of(table, at);
+    let o = node_of(table, s, at);
     if o.key != key {
         return Sought::Nothing;
     }
@@ -55,7 +57,7 @@ pub fn order_of(table: &[u8], q: Geometry, key: u32) -> Sought
     ensures { λ r. ⌜ r ≡ first-of (between key key (orders-in (now (table .entry)))) ⌝ }
 {
     let t = way_down(table, q, 0, key);
-    order_at(table, t.at, key)
+    order_at(table, q.sizes, t.at, key)
 }
 
 // The path to a key, to an output that has room for it: a short one was kept, a longer one is gone once more.
@@ -92,7 +94,7 @@ pub fn descent(table: &[u8], key: u32, path: &mut [u8]) -> Reply
         return refused(11, 0);
     }
     write_path(table, q, key, t.count, &short, path);
-    let Sought::Is(o) = order_at(table, t.at, key) else {
+    let Sought::Is(o) = order_at(table, q.sizes, t.at, key) else {
         return refused(9, t.count);
     };
     answered(o, t.count)

@@ -16,4 +16,5 @@ pub struct Visit {
     pub key: u32,
     pub total: u32,
     pub displayed: u32,
+    pub price: u32,
 }

@@ -3,16 +3,22 @@ ghost use mathlib.Core.Path.{_≡_};
 ghost use mathlib.Core.Bool.{true};
 ghost use Prim.Native.Nat.{_+_, _*_, _-_, _≤_};
 ghost use lib.ListN.{length, drop};
-ghost use Rattle.sizes.specs.Sizes.{beta};
+ghost use Rattle.sizes.specs.Sizes.{beta, row};
 ghost use Rattle.placement.specs.Decode.{nodes-from};
 ghost use Rattle.skiplist.specs.Image.{orders-in};
 ghost use Rattle.skiplist.specs.Questions.{reserve};
 ghost use Rattle.readings.specs.Visit.{most-rows, scan, next-found, more-found, ended-visit, wanted-by, row-in, step-by, steps, Known, Row, Whole, passed-front, under, all-under};
 use crate::Visit;
+use levels::ways::key_at;
+use levels::ways::upto;
 use placement::Found;
 use placement::Label;
 use placement::Order;
+use placement::rows::node_of;
+use placement::rows::write_node;
 use sizes::Sizes;
+use sizes::header::row;
+use sizes::header::rows;
 
 // The most orders that a table can hold.
 const MOST: u32 = 65535;
@@ -53,6 +59,7 @@ fn more_found(o: Order, v: Visit) -> Visit
         key: o.key,
         total: o.total,
         displayed: o.displayed,
+        price: o.price,
     }
 }
 
@@ -84,20 +91,18 @@ fn wanted(v: Visit, o: Order) -> bool
 }
 
 // A row of the output, where it has room.
-fn write_row(output: &mut [u8], at: usize, o: Order)
+fn write_row(output: &mut [u8], s: Sizes, at: usize, o: Order)
     requires { ⌜ at ≤ most-rows ⌝ }
-    ensures { λ r. ⌜ now (output .exit) ≡ row-in (now (output .entry)) at o ⌝ }
+    ensures { λ r. ⌜ now (output .exit) ≡ row-in (row s) (now (output .entry)) at o ⌝ }
 {
-    if at + 12 <= output.len() {
-        sizes::numbers::put4(output, at, o.key);
-        sizes::numbers::put4(output, at + 4, o.total);
-        sizes::numbers::put4(output, at + 8, o.displayed);
+    if at + row(s) <= output.len() {
+        write_node(output, s, at, o);
     }
 }
 
 // An order comes by.
-fn step(o: Order, v: Visit, output: &mut [u8]) -> Visit
-    ensures { λ r. ⌜ scan r (now (output .exit)) ≡ step-by o (scan v (now (output .entry))) ⌝ }
+fn step(o: Order, s: Sizes, v: Visit, output: &mut [u8]) -> Visit
+    ensures { λ r. ⌜ scan (row s) r (now (output .exit)) ≡ step-by o (scan (row s) v (now (output .entry))) ⌝ }
 {
     if v.ended {
         return v;
@@ -109,16 +114,16 @@ fn step(o: Order, v: Visit, output: &mut [u8]) -> Visit
         return v;
     }
     if v.writes {
-        write_row(output, 12 * (v.found as usize), o);
+        write_row(output, s, rows(row(s), v.found), o);
         return more_found(o, v);
     }
     more_found(o, v)
 }
 
 // Are the nodes from a place on all in the range, and is there room for their rows? Keys rise, so the first and the last of them tell.
-fn whole(table: &[u8], at: usize, left: u32, v: Visit, room: usize) -> bool
-    requires { ⌜ at + 12 * left ≤ length (now table) ⌝ }
-    ensures { λ r. ⌜ (r ≡ true → Whole (now (table .entry)) at left v room) ⌝ }
+fn whole(table: &[u8], w: usize, at: usize, left: u32, v: Visit, room: usize) -> bool
+    requires { ⌜ (12 ≤ w) × (w ≤ 16) × (at + w * left ≤ length (now table)) ⌝ }
+    ensures { λ r. ⌜ (r ≡ true → Whole w (now (table .entry)) at left v room) ⌝ }
 {
     if v.seeks {
         return false;
@@ -129,10 +134,10 @@ fn whole(table: &[u8], at: usize, left: u32, v: Visit, room: usize) -> bool
     if left == 0 {
         return false;
     }
-    if sizes::numbers::be4(table, at) < v.lo {
+    if key_at(table, w, at, left, 0) < v.lo {
         return false;
     }
-    if v.hi < sizes::numbers::be4(table, at + 12 * ((left - 1) as usize)) {
+    if v.hi < key_at(table, w, at, left, left - 1) {
         return false;
     }
     if (MOST as u64) < v.found as u64 + left as u64 {
@@ -141,15 +146,16 @@ fn whole(table: &[u8], at: usize, left: u32, v: Visit, room: usize) -> bool
     if !v.writes {
         return true;
     }
-    12 * ((v.found + left) as usize) <= room
+    rows(w, v.found + left) <= room
 }
 
 // They come by together: a node has the bytes of its row.
 fn visit_whole(table: &[u8], s: Sizes, at: usize, left: u32, v: Visit, output: &mut [u8]) -> Visit
-    requires { ⌜ Known s (now table) × Whole (now table) at left v (length (now output)) × (at + 12 * left ≤ length (now table)) × Row s (orders-in (now table)) 1 (nodes-from left (drop at (now table))) ⌝ }
-    ensures { λ r. ⌜ scan r (now (output .exit)) ≡ steps (all-under s (now (table .entry)) 0 (nodes-from left (drop at (now (table .entry))))) (scan v (now (output .entry))) ⌝ }
+    requires { ⌜ Known s (now table) × Whole (row s) (now table) at left v (length (now output)) × (at + row s * left ≤ length (now table)) × Row s (orders-in (now table)) 1 (nodes-from (row s) left (drop at (now table))) ⌝ }
+    ensures { λ r. ⌜ scan (row s) r (now (output .exit)) ≡ steps (all-under s (now (table .entry)) 0 (nodes-from (row s) left (drop at (now (table .entry))))) (scan (row s) v (now (output .entry))) ⌝ }
 {
-    let last = table::walk::node_of(table, at + 12 * ((left - 1) as usize));
+    let long = row(s);
+    let last = node_of(table, s, at + rows(long, left - 1));
     let w = Visit {
         lo: v.lo,
         hi: v.hi,
@@ -161,34 +167,36 @@ fn visit_whole(table: &[u8], s: Sizes, at: usize, left: u32, v: Visit, output: &
         key: last.key,
         total: last.total,
         displayed: last.displayed,
+        price: last.price,
     };
     if !v.writes {
         return w;
     }
     sizes::numbers::bring(
         output,
-        12 * (v.found as usize),
+        rows(long, v.found),
         table,
         at,
-        12 * (left as usize),
+        rows(long, left),
     );
     w
 }
 
 // The nodes of a chunk of level 1 are orders: they come by together or one after the other.
 fn visit_orders(table: &[u8], s: Sizes, at: usize, left: u32, v: Visit, output: &mut [u8]) -> Visit
-    requires { ⌜ Known s (now table) × (at + 12 * left ≤ length (now table)) × Row s (orders-in (now table)) 1 (nodes-from left (drop at (now table))) ⌝ }
-    ensures { λ r. ⌜ scan r (now (output .exit)) ≡ steps (all-under s (now (table .entry)) 0 (nodes-from left (drop at (now (table .entry))))) (scan v (now (output .entry))) ⌝ }
+    requires { ⌜ Known s (now table) × (at + row s * left ≤ length (now table)) × Row s (orders-in (now table)) 1 (nodes-from (row s) left (drop at (now table))) ⌝ }
+    ensures { λ r. ⌜ scan (row s) r (now (output .exit)) ≡ steps (all-under s (now (table .entry)) 0 (nodes-from (row s) left (drop at (now (table .entry))))) (scan (row s) v (now (output .entry))) ⌝ }
 {
-    if whole(table, at, left, v, output.len()) {
+    let long = row(s);
+    if whole(table, long, at, left, v, output.len()) {
         return visit_whole(table, s, at, left, v, output);
     }
     let mut w = v;
     let mut place = at;
     let mut k = left;
     while 0 < k {
-        w = step(table::walk::node_of(table, place), w, output);
-        place += 12;
+        w = step(node_of(table, s, place), s, w, output);
+        place += long;
         k -= 1;
     }
     w
@@ -204,7 +212,7 @@ pub fn visit_partition(
     output: &mut [u8],
 ) -> Visit
     requires { ⌜ Known s (now table) × (1 ≤ level) × (level ≤ beta s) × (v .lo ≤ v .hi) ⌝ }
-    ensures { λ r. ⌜ scan r (now (output .exit)) ≡ steps (under s (now (table .entry)) level o) (scan v (now (output .entry))) ⌝ }
+    ensures { λ r. ⌜ scan (row s) r (now (output .exit)) ≡ steps (under s (now (table .entry)) level o) (scan (row s) v (now (output .entry))) ⌝ }
 {
     let mut w = v;
     let mut number: u32 = 0;
@@ -244,11 +252,12 @@ pub fn visit_nodes(
     v: Visit,
     output: &mut [u8],
 ) -> Visit
-    requires { ⌜ Known s (now table) × (1 ≤ level) × (level ≤ beta s) × (v .lo ≤ v .hi) × (at + 12 * left ≤ length (now table)) × Row s (orders-in (now table)) level (nodes-from left (drop at (now table))) ⌝ }
-    ensures { λ r. ⌜ scan r (now (output .exit)) ≡ steps (all-under s (now (table .entry)) (level - 1) (nodes-from left (drop at (now (table .entry))))) (scan v (now (output .entry))) ⌝ }
+    requires { ⌜ Known s (now table) × (1 ≤ level) × (level ≤ beta s) × (v .lo ≤ v .hi) × (at + row s * left ≤ length (now table)) × Row s (orders-in (now table)) level (nodes-from (row s) left (drop at (now table))) ⌝ }
+    ensures { λ r. ⌜ scan (row s) r (now (output .exit)) ≡ steps (all-under s (now (table .entry)) (level - 1) (nodes-from (row s) left (drop at (now (table .entry))))) (scan (row s) v (now (output .entry))) ⌝ }
 {
-    let n = skipped(table, at, left, v.lo);
-    let mut place = at + 12 * (n as usize);
+    let long = row(s);
+    let n = skipped(table, long, at, left, v.lo);
+    let mut place = at + rows(long, n);
     let mut k = left - n;
     if level == 1 {
         return visit_orders(table, s, place, k, v, output);
@@ -262,11 +271,11 @@ pub fn visit_nodes(
             table,
             s,
             level - 1,
-            table::walk::node_of(table, place),
+            node_of(table, s, place),
             w,
             output,
         );
-        place += 12;
+        place += long;
         k -= 1;
     }
     w
@@ -274,12 +283,12 @@ pub fn visit_nodes(
 
 // How many nodes at the front of a chunk end before the range starts: the node behind each does not come after the lowest key, so all orders under it are below
 // that.
-fn skipped(table: &[u8], at: usize, left: u32, lo: u32) -> u32
-    requires { ⌜ at + 12 * left ≤ length (now table) ⌝ }
-    ensures { λ r. ⌜ (r ≡ passed-front (now (table .entry)) left at lo) × (r ≤ left) ⌝ }
+fn skipped(table: &[u8], w: usize, at: usize, left: u32, lo: u32) -> u32
+    requires { ⌜ (12 ≤ w) × (w ≤ 16) × (at + w * left ≤ length (now table)) ⌝ }
+    ensures { λ r. ⌜ (r ≡ passed-front w (now (table .entry)) left at lo) × (r ≤ left) ⌝ }
 {
     if left == 0 {
         return 0;
     }
-    levels::ways::upto(table, at + 12, left - 1, lo)
+    upto(table, w, at + w, left - 1, lo)
 }

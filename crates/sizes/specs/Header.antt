@@ -5,12 +5,12 @@ use Prim.Native.Nat.{ℕ, _+_, _*_}
 use lib.Dec.{leb, eqb}
 use lib.ListN.{length, getD, drop}
 use Rattle.sizes.specs.Numbers.{big, field, rows, rows-in}
-use Rattle.sizes.specs.Sizes.{sizes-good, seed-good}
+use Rattle.sizes.specs.Sizes.{row, sizes-good, seed-good}
 use Rattle.sizes.specs.declared.Sizes.{Sizes}
 
--- a block: its head of 8 bytes, and B nodes of 12
+-- a block: its head of 8 bytes, and B nodes
 unfoldable pub block-long : Sizes → ℕ
-block-long s = 8 + 12 * s .nodes
+block-long s = 8 + row s * s .nodes
 
 -- the length of the table: the header's 53 bytes, and M blocks
 unfoldable pub table-long : Sizes → ℕ
@@ -27,14 +27,14 @@ header-wide k = getD (1 ∷ 4 ∷ 1 ∷ 1 ∷ 2 ∷ 2 ∷ 2 ∷ 4 ∷ 4 ∷ 4 �
 abbrev pub seed-bytes : List ℕ → List ℕ
 seed-bytes ss = rows (big 4) ss
 
--- version 1, length, γ, B, N, M, n, seed
+-- version, length, γ, B, N, M, n, seed
 unfoldable pub header : Sizes → (n : ℕ) → List ℕ
 header s n =
-    (1 ∷ []) ++ big 4 (table-long s) ++ (s .gamma ∷ s .nodes ∷ []) ++ big 2 (s .orders) ++ big 2 (s .blocks) ++ big 2 n ++ seed-bytes (s .seed)
+    (s .version ∷ []) ++ big 4 (table-long s) ++ (s .gamma ∷ s .nodes ∷ []) ++ big 2 (s .orders) ++ big 2 (s .blocks) ++ big 2 n ++ seed-bytes (s .seed)
 
 -- the value of each of the seventeen fields
 unfoldable pub header-value : Sizes → (n k : ℕ) → ℕ
-header-value s n k = getD (1 ∷ table-long s ∷ s .gamma ∷ s .nodes ∷ s .orders ∷ s .blocks ∷ n ∷ s .seed) k 0
+header-value s n k = getD (s .version ∷ table-long s ∷ s .gamma ∷ s .nodes ∷ s .orders ∷ s .blocks ∷ n ∷ s .seed) k 0
 
 -- READ BACK
 abbrev pub seed-in : (left : ℕ) → List ℕ → List ℕ
@@ -42,16 +42,15 @@ seed-in n bs = rows-in 4 (field 0 4) n bs
 
 unfoldable pub sizes-in : List ℕ → Sizes
 sizes-in bs =
-    record { gamma = getD bs 5 0; nodes = getD bs 6 0; orders = field 7 2 bs; blocks = field 9 2 bs; seed = seed-in 10 (drop 13 bs) }
+    record { version = getD bs 0 0; gamma = getD bs 5 0; nodes = getD bs 6 0; orders = field 7 2 bs; blocks = field 9 2 bs; seed = seed-in 10 (drop 13 bs) }
 
 unfoldable pub held-in : List ℕ → ℕ
 held-in bs = field 11 2 bs
 
--- RULE 1: at least 53 bytes, version 1, sizes and seed that make allows, the length field right and the lent length, n at most N
+-- RULE 1: at least 53 bytes, version, sizes and seed that make allows, the length field right and the lent length, n at most N
 unfoldable pub rule-1 : List ℕ → Bool
 rule-1 bs =
     leb 53 (length bs)
     && (sizes-good (sizes-in bs)
     && (seed-good (sizes-in bs .seed)
-    && (eqb (field 0 1 bs) 1
-    && (eqb (field 1 4 bs) (table-long (sizes-in bs)) && (eqb (length bs) (table-long (sizes-in bs)) && leb (held-in bs) (sizes-in bs .orders))))))
+    && (eqb (field 1 4 bs) (table-long (sizes-in bs)) && (eqb (length bs) (table-long (sizes-in bs)) && leb (held-in bs) (sizes-in bs .orders)))))

@@ -19,11 +19,16 @@ least-power (suc k) e g n = cond (leb n (g ^ e)) e (least-power k (suc e) g n)
 unfoldable pub beta : Sizes → ℕ
 beta s = 2 + least-power 17 0 (s .gamma) (s .orders)
 
--- γ 2..64; B 2..32; N 1..65,535; M β..65,535
+-- THE BYTES OF A NODE: 12 in version 1, else 16
+unfoldable pub row : Sizes → ℕ
+row s = cond (eqb (s .version) 1) 12 16
+
+-- version 1 or 2, document 02, A.6; γ 2..64; B 2..32; N 1..65,535; M β..65,535
 unfoldable pub sizes-good : Sizes → Bool
 sizes-good s =
-    ((leb 2 (s .gamma) && leb (s .gamma) 64) && (leb 2 (s .nodes) && leb (s .nodes) 32))
-    && ((leb 1 (s .orders) && leb (s .orders) 65535) && (leb (beta s) (s .blocks) && leb (s .blocks) 65535))
+    (leb 1 (s .version) && leb (s .version) 2)
+    && (((leb 2 (s .gamma) && leb (s .gamma) 64) && (leb 2 (s .nodes) && leb (s .nodes) 32))
+    && ((leb 1 (s .orders) && leb (s .orders) 65535) && (leb (beta s) (s .blocks) && leb (s .blocks) 65535)))
 
 -- each seed number is below p
 unfoldable pub seed-good : List ℕ → Bool

@@ -2,12 +2,12 @@
 ghost use mathlib.Core.Path.{_≡_};
 ghost use mathlib.Core.Bool.{true};
 ghost use mathlib.Core.List.{_++_};
-ghost use Prim.Native.Nat.{_+_, _*_, _<_, _≤_};
+ghost use Prim.Native.Nat.{_+_, _*_, _%_, _<_, _≤_};
 ghost use lib.ListN.{length, drop};
 ghost use lib.Seq.{sets};
 ghost use Rattle.sizes.specs.Numbers.{big, field};
-ghost use Rattle.sizes.specs.Sizes.{sizes-good, seed-good, made};
-ghost use Rattle.sizes.specs.Header.{table-long, header-at, header-wide, header, header-value, sizes-in, held-in, rule-1};
+ghost use Rattle.sizes.specs.Sizes.{row, sizes-good, seed-good, made};
+ghost use Rattle.sizes.specs.Header.{block-long, table-long, header-at, header-wide, header, header-value, sizes-in, held-in, rule-1};
 use crate::Field;
 use crate::Sizes;
 use crate::hash;
@@ -20,8 +20,8 @@ pub struct Header {
 }
 
 impl Header {
-    // The version of these bytes.
-    pub const VERSION: u32 = 1;
+    // The highest version that make allows.
+    pub const VERSION: u32 = 2;
     // The bytes of a header.
     pub const LENGTH: usize = 53;
     // Where the seed starts.
@@ -66,6 +66,7 @@ impl Header {
         }
         Header {
             sizes: Sizes {
+                version: field(table, 0),
                 gamma: field(table, 2),
                 nodes: field(table, 3),
                 orders: field(table, 4),
@@ -82,7 +83,7 @@ impl Header {
         ensures { λ r. ⌜ r ≡ header-value (self .sizes) (self .held) k ⌝ }
     {
         if k == 0 {
-            return Header::VERSION;
+            return self.sizes.version;
         }
         if k == 1 {
             return table_length(self.sizes);
@@ -165,18 +166,58 @@ pub fn field(table: &[u8], k: usize) -> u32
     number(table, f.at, f.width)
 }
 
-// The length of a table of these sizes: the header, and a head and B nodes of 12 bytes for each block.
+// The bytes of a node, and of a span's row.
+pub fn row(s: Sizes) -> usize
+    ensures { λ r. ⌜ (r ≡ row s) × (12 ≤ r) × (r ≤ 16) × (r % 4 ≡ 0) ⌝ }
+{
+    if s.version == 1 {
+        return 12;
+    }
+    16
+}
+
+// The bytes of n rows.
+pub fn rows(w: usize, n: u32) -> usize
+    requires { ⌜ w ≤ 16 ⌝ }
+    ensures { λ r. ⌜ (r ≡ w * n) × (r ≤ 16 * n) ⌝ }
+{
+    w * (n as usize)
+}
+
+// The bytes of n nodes of a block.
+pub fn used(s: Sizes, n: u32) -> usize
+    requires { ⌜ (n ≤ s .nodes) × (s .nodes ≤ 32) ⌝ }
+    ensures { λ r. ⌜ (r ≡ row s * n) × (8 + r ≤ block-long s) × (r ≤ 512) ⌝ }
+{
+    rows(row(s), n)
+}
+
+// The bytes of a block.
+pub fn block_length(s: Sizes) -> u32
+    requires { ⌜ s .nodes ≤ 32 ⌝ }
+    ensures { λ r. ⌜ (r ≡ block-long s) × (r ≤ 520) ⌝ }
+{
+    Header::HEAD + rows(row(s), s.nodes) as u32
+}
+
+// The length of a table of these sizes: the header, and the blocks.
 pub fn table_length(s: Sizes) -> u32
     requires { ⌜ (s .nodes ≤ 32) × (s .blocks ≤ 65535) ⌝ }
     ensures { λ r. ⌜ r ≡ table-long s ⌝ }
 {
-    Header::LENGTH as u32 + s.blocks * (Header::HEAD + 12 * s.nodes)
+    Header::LENGTH as u32 + s.blocks * block_length(s)
 }
 
 // Sizes that make allows. β is computed once γ and N are known to be in range.
 pub fn sizes_allowed(s: Sizes) -> bool
     ensures { λ r. ⌜ r ≡ sizes-good s ⌝ }
 {
+    if s.version < 1 {
+        return false;
+    }
+    if Header::VERSION < s.version {
+        return false;
+    }
     if s.gamma < 2 {
         return false;
     }
@@ -224,9 +265,6 @@ pub fn rule_of(table: &[u8], h: Header) -> bool
         return false;
     }
     if !seed_allowed(h.sizes) {
-        return false;
-    }
-    if field(table, 0) != Header::VERSION {
         return false;
     }
     let long = table_length(h.sizes);

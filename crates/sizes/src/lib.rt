@@ -6,8 +6,9 @@ pub mod numbers;
 // p of document 01, 2^31 - 1: keys and seed numbers are below it.
 pub const PRIME: u32 = 2147483647;
 
-// The sizes and the seed of a table. `nodes` is document 01's B, `orders` its N, `blocks` its M.
+// The version, the sizes and the seed of a table. `nodes` is document 01's B, `orders` its N, `blocks` its M.
 pub struct Sizes {
+    pub version: u32,
     pub gamma: u32,
     pub nodes: u32,
     pub orders: u32,

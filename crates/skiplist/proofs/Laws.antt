@@ -27,6 +27,7 @@ pub mod Decode
 pub mod Gather
 pub mod Third
 pub mod Readback
+pub mod Before
 pub mod Arranged
 pub mod PathsKept
 pub mod Rules

@@ -2,10 +2,12 @@
 use Rattle.skiplist.specs.Questions.{First-no-means, Zero-finds-all}
 use Rattle.skiplist.specs.Rules.{Image-exactly, Paper-partitions, Paper-top, Beta-is, Level-is, Hash-is, Lists-are, Chunks-are}
 use Rattle.skiplist.specs.Promise.{Image-reads-back, Labels-rise, Rule-three, One-arrangement, Chunks-by-keys, Amend-has-room, Lists-image, Equal-exactly, Checks-exactly}
+use Rattle.skiplist.specs.Before.{First-reader}
 use Rattle.skiplist.specs.Paths.{Path-fits, Path-one-way}
-use Rattle.skiplist.specs.Examples.{One-to-nine, Examples-hold}
+use Rattle.skiplist.specs.Examples.{One-to-nine, Examples-hold, With-prices}
 use Rattle.skiplist.proofs.Laws.Questions.{first-no-means, zero-finds-all}
 use Rattle.skiplist.proofs.Laws.Examples.{examples-hold}
+use Rattle.skiplist.proofs.Laws.Before.{first-reader}
 use Rattle.skiplist.proofs.Laws.Keys.{chunks-by-keys}
 use Rattle.skiplist.proofs.Laws.Kept.{amend-has-room}
 use Rattle.skiplist.proofs.Laws.Levels.{beta-is, level-is, hash-is}
@@ -30,6 +32,8 @@ pub record Proved : Type 0 where
   pub rule-3 : Rule-three
   pub one-table : One-arrangement
   pub rules : Image-exactly
+  -- a reader built before version 2 turns it down
+  pub before : First-reader
   -- the rules of levels, lists and partitions
   pub hash : Hash-is
   pub beta : Beta-is
@@ -48,9 +52,10 @@ pub record Proved : Type 0 where
   pub book : Lists-image
   pub equal : Equal-exactly
   pub checks : Checks-exactly
-  -- P1 to P9, and what they leave open
+  -- P1 to P9, what they leave open, and version 2
   pub examples : One-to-nine
   pub others : Examples-hold
+  pub priced : With-prices
 
 pub proved : Proved
 proved = record {
@@ -61,6 +66,7 @@ proved = record {
   rule-3 = rule-three;
   one-table = one-arrangement;
   rules = image-exactly;
+  before = first-reader;
   hash = hash-is;
   beta = beta-is;
   level = level-is;
@@ -77,4 +83,5 @@ proved = record {
   checks = checks-exactly reads-back;
   examples = examples-hold .0;
   others = examples-hold .1;
+  priced = examples-hold .2;
 }

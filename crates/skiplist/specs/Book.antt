@@ -18,8 +18,8 @@ make-refusal q l = first-no (asks-make q l)
 
 -- EVERY OTHER CALL, with all its arguments; an output is lent with a descent and with a span
 pub data Call : Type 0 where
-  enter : (key total displayed : ℕ) → Call
-  amend : (key total displayed : ℕ) → Call
+  enter : (key total displayed price : ℕ) → Call
+  amend : (key total displayed price : ℕ) → Call
   cancel : (key : ℕ) → Call
   lookup : (key : ℕ) → Call
   descent : (key : ℕ) → (output : List ℕ) → Call
@@ -29,19 +29,19 @@ pub data Call : Type 0 where
 
 -- its questions after 4, asked of a set of orders
 unfoldable pub asks : Sizes → Call → List Order → List Question
-asks s (enter k t d) os = asks-enter s k t d os
-asks s (amend k t d) os = asks-amend k t d os
+asks s (enter k t d p) os = asks-enter s k t d p os
+asks s (amend k t d p) os = asks-amend s k t d p os
 asks s (cancel k) os = asks-key k os
 asks s (lookup k) os = asks-key k os
 asks s (descent k o) os = asks-descent s k (length o) os
-asks s (span lo hi o) os = asks-span lo hi (length o) os
+asks s (span lo hi o) os = asks-span s lo hi (length o) os
 asks s (seek lo hi r) os = asks-seek lo hi r os
 asks s check os = []
 
 -- the set where none turns it down: enter adds the order, amend replaces the one with its key, by a cancel that order goes, a reading changes nothing
 unfoldable pub changed : Call → List Order → List Order
-changed (enter k t d) os = with-order (order k t d) os
-changed (amend k t d) os = with-order (order k t d) os
+changed (enter k t d p) os = with-order (order k t d p) os
+changed (amend k t d p) os = with-order (order k t d p) os
 changed (cancel k) os = without k os
 changed (lookup k) os = os
 changed (descent k o) os = os
@@ -49,7 +49,7 @@ changed (span lo hi o) os = os
 changed (seek lo hi r) os = os
 changed check os = os
 
--- THE PLAIN BOOK: it gets the sizes, the seed and the call, no reply and no byte of the table. Its number for a call, and its set afterwards
+-- THE PLAIN BOOK: it gets the version, the sizes, the seed and the call, no reply and no byte of the table. Its number for a call, and its set afterwards
 unfoldable pub book-refusal : Sizes → Call → List Order → ℕ
 book-refusal s c os = first-no (asks s c os)
 

@@ -1,6 +1,6 @@
--- P1 to P9 of document 01, "Checked examples", and what they leave open, as two lists of claims, each with a test that is computed. The second has paths too.
+-- P1 to P9 of document 01, "Checked examples", what they leave open, and version 2, as three lists of claims, each with a test that is computed. The second has paths too.
 use mathlib.Core.Path.{_≡_}
-use mathlib.Core.Bool.{Bool, true, false, _&&_}
+use mathlib.Core.Bool.{Bool, true, false, not, _&&_}
 use mathlib.Core.List.{List, [], _∷_, _++_}
 use Prim.Native.Nat.{ℕ, zero, suc, _+_, _*_, _-_, _/_, _%_}
 use lib.Dec.{eqb}
@@ -20,7 +20,11 @@ unfoldable pub run-seed : List ℕ
 run-seed = 0 ∷ 1 ∷ 0 ∷ 0 ∷ 0 ∷ 0 ∷ 1 ∷ 0 ∷ 0 ∷ 0 ∷ []
 
 unfoldable pub run-sizes : Sizes
-run-sizes = record { gamma = 2; nodes = 2; orders = 2; blocks = 4; seed = run-seed }
+run-sizes = record { version = 1; gamma = 2; nodes = 2; orders = 2; blocks = 4; seed = run-seed }
+
+-- the same of version 2
+unfoldable pub priced-sizes : Sizes
+priced-sizes = record { version = 2; gamma = 2; nodes = 2; orders = 2; blocks = 4; seed = run-seed }
 
 unfoldable pub empty-table : List ℕ
 empty-table = image run-sizes []
@@ -41,6 +45,7 @@ pub data Example : Type 0 where
   leaves-bytes : (calls : List Call) → (at : ℕ) → List ℕ → Example
   answers : (calls : List Call) → (last : Call) → (is : ℕ) → Example
   alike : (one other : List Call) → Example
+  unlike : (one other : List Call) → Example
   has-home : (level first number is : ℕ) → Example
   goes : (calls : List Call) → (key : ℕ) → (path : List ℕ) → Example
   finds : (calls : List Call) → (lo hi reserve : ℕ) → (key : ℕ) → Example
@@ -60,39 +65,41 @@ unfoldable pub blocks-are : List ℕ → List Shows → Bool
 blocks-are bs [] = same bs []
 blocks-are bs (x ∷ xs) = block-is bs x && blocks-are (drop 32 bs) xs
 
-unfoldable pub true-of : Example → Bool
-true-of (has-level k l) = eqb (level run-sizes k) l
-true-of (hashes k v) = eqb (h run-sizes k) v && eqb (g run-sizes k) v
-true-of (has-beta c n l) = eqb (beta (record { gamma = c; nodes = 2; orders = n; blocks = 4; seed = run-seed })) l
-true-of (makes q l n) = eqb (make-refusal q l) n
-true-of (has-header q n bs) = same (header (sizes q) n) bs
-true-of (leaves cs xs) = is-image (after cs empty-table) && blocks-are (drop 53 (after cs empty-table)) xs
-true-of (leaves-bytes cs i bs) = same (take (length bs) (drop i (after cs empty-table))) bs
-true-of (answers cs c l) = eqb (refusal c (after cs empty-table)) l
-true-of (alike cs ds) = same (after cs empty-table) (after ds empty-table)
-true-of (has-home l f n i) = eqb (home run-sizes (label l f n)) i
-true-of (goes cs k path) = same (descent-path run-sizes (orders-in (after cs empty-table)) k) path
-true-of (finds cs lo hi r k) = eqb (lowest (enough r (between lo hi (orders-in (after cs empty-table)))) .key) k
+-- .. of a table of these sizes, made just before
+unfoldable pub true-of : Sizes → Example → Bool
+true-of s (has-level k l) = eqb (level s k) l
+true-of s (hashes k v) = eqb (h s k) v && eqb (g s k) v
+true-of s (has-beta c n l) = eqb (beta (record { version = 1; gamma = c; nodes = 2; orders = n; blocks = 4; seed = run-seed })) l
+true-of s (makes q l n) = eqb (make-refusal q l) n
+true-of s (has-header q n bs) = same (header (sizes q) n) bs
+true-of s (leaves cs xs) = is-image (after cs (image s [])) && blocks-are (drop 53 (after cs (image s []))) xs
+true-of s (leaves-bytes cs i bs) = same (take (length bs) (drop i (after cs (image s [])))) bs
+true-of s (answers cs c l) = eqb (refusal c (after cs (image s []))) l
+true-of s (alike cs ds) = same (after cs (image s [])) (after ds (image s []))
+true-of s (unlike cs ds) = not (same (after cs (image s [])) (after ds (image s [])))
+true-of s (has-home l f n i) = eqb (home s (label l f n)) i
+true-of s (goes cs k path) = same (descent-path s (orders-in (after cs (image s []))) k) path
+true-of s (finds cs lo hi r k) = eqb (lowest (enough r (between lo hi (orders-in (after cs (image s []))))) .key) k
 
-unfoldable pub every : List Example → Bool
-every [] = true
-every (x ∷ xs) = true-of x && every xs
+unfoldable pub every : Sizes → List Example → Bool
+every s [] = true
+every s (x ∷ xs) = true-of s x && every s xs
 
 unfoldable pub p4 : List Shows
 p4 = shows 1 0 0 (0 ∷ 3 ∷ []) ∷ shows 2 0 0 (0 ∷ 6 ∷ []) ∷ shows 1 0 6 (6 ∷ []) ∷ shows 3 0 0 (0 ∷ []) ∷ []
 
 unfoldable pub enter-3 : Call
-enter-3 = enter 3 100 20
+enter-3 = enter 3 100 20 0
 
 unfoldable pub enter-6 : Call
-enter-6 = enter 6 50 50
+enter-6 = enter 6 50 50 0
 
 -- make with these sizes and the run's seed; and with the run's sizes, and v for seed number i
 unfoldable pub sized : (gamma nodes orders blocks : ℕ) → Parameters
-sized c b n m = parameters c b n m (seed-bytes run-seed)
+sized c b n m = parameters 1 c b n m (seed-bytes run-seed)
 
 unfoldable pub with-number : (i v : ℕ) → Parameters
-with-number i v = parameters 2 2 2 4 (seed-bytes (set run-seed i v))
+with-number i v = parameters 1 2 2 2 4 (seed-bytes (set run-seed i v))
 
 unfoldable pub one-to-nine : List Example
 one-to-nine =
@@ -108,12 +115,12 @@ one-to-nine =
     -- P5
     ∷ leaves-bytes (enter-3 ∷ enter-6 ∷ cancel 3 ∷ []) 53 (1 ∷ 1 ∷ replicate 30 0) ∷ alike (enter-3 ∷ enter-6 ∷ cancel 3 ∷ []) (enter-6 ∷ [])
     -- P6
-    ∷ answers (enter-3 ∷ []) (enter 4 10 0) 8 ∷ alike (enter-3 ∷ enter 4 10 0 ∷ []) (enter-3 ∷ [])
+    ∷ answers (enter-3 ∷ []) (enter 4 10 0 0) 8 ∷ alike (enter-3 ∷ enter 4 10 0 0 ∷ []) (enter-3 ∷ [])
     -- P7
-    ∷ answers [] (enter 0 1 1) 5 ∷ answers [] (enter 2147483647 1 1) 5 ∷ answers [] (enter 2147483646 1 1) 0
+    ∷ answers [] (enter 0 1 1 0) 5 ∷ answers [] (enter 2147483647 1 1 0) 5 ∷ answers [] (enter 2147483646 1 1 0) 0
     ∷ has-level 2147483646 2 ∷ has-home 1 2147483646 0 3
     -- P8
-    ∷ answers [] (enter 3 100 101) 6 ∷ answers [] (enter 3 100 100) 0
+    ∷ answers [] (enter 3 100 101 0) 6 ∷ answers [] (enter 3 100 100 0) 0
     -- P9
     ∷ makes (with-number 0 prime) 181 1 ∷ makes (with-number 0 (prime - 1)) 181 0
     ∷ makes (sized 2 2 2 2) 117 2 ∷ makes (sized 2 2 2 3) 149 0
@@ -121,13 +128,13 @@ one-to-nine =
 
 -- P1 TO P9 hold of the definitions together
 unfoldable pub One-to-nine : Type 0
-One-to-nine = every one-to-nine ≡ true
+One-to-nine = every run-sizes one-to-nine ≡ true
 
 -- ---- WHAT P1 TO P9 LEAVE OPEN: the header's bytes, the last value that is accepted and the first that is not, the other numbers
 
 -- make with sizes that differ from each other, and ten seed numbers that do
 unfoldable pub all-different : Parameters
-all-different = parameters 3 5 700 1290 (seed-bytes (16909060 ∷ 5 ∷ 6 ∷ 7 ∷ 8 ∷ 9 ∷ 10 ∷ 11 ∷ 12 ∷ 13 ∷ []))
+all-different = parameters 1 3 5 700 1290 (seed-bytes (16909060 ∷ 5 ∷ 6 ∷ 7 ∷ 8 ∷ 9 ∷ 10 ∷ 11 ∷ 12 ∷ 13 ∷ []))
 
 -- sizes, with the length of their table
 unfoldable pub allows : (gamma nodes orders blocks is : ℕ) → Example
@@ -141,7 +148,7 @@ seed-limits (suc i) = makes (with-number i (prime - 1)) 181 0 ∷ makes (with-nu
 unfoldable pub left-open : List Example
 left-open =
     -- all 53 bytes of the header: of the full run's table, and of the other make's, with 600 orders
-    leaves-bytes (enter-6 ∷ enter-3 ∷ enter 4 10 0 ∷ []) 0
+    leaves-bytes (enter-6 ∷ enter-3 ∷ enter 4 10 0 0 ∷ []) 0
     (1 ∷ 0 ∷ 0 ∷ 0 ∷ 181 ∷ 2 ∷ 2 ∷ 0 ∷ 2 ∷ 0 ∷ 4 ∷ 0 ∷ 2
     ∷ 0 ∷ 0 ∷ 0 ∷ 0 ∷ 0 ∷ 0 ∷ 0 ∷ 1 ∷ 0 ∷ 0 ∷ 0 ∷ 0 ∷ 0 ∷ 0 ∷ 0 ∷ 0 ∷ 0 ∷ 0 ∷ 0 ∷ 0
     ∷ 0 ∷ 0 ∷ 0 ∷ 0 ∷ 0 ∷ 0 ∷ 0 ∷ 1 ∷ 0 ∷ 0 ∷ 0 ∷ 0 ∷ 0 ∷ 0 ∷ 0 ∷ 0 ∷ 0 ∷ 0 ∷ 0 ∷ 0 ∷ [])
@@ -157,39 +164,73 @@ left-open =
     ∷ allows 64 2 0 5 2 ∷ allows 64 2 1 5 0 ∷ allows 64 2 65535 5 0 ∷ allows 64 2 65536 5 2
     ∷ allows 2 2 65535 17 2 ∷ allows 2 2 65535 18 0 ∷ allows 2 2 2 65535 0 ∷ allows 2 2 2 65536 2
     -- make's 1: 40 bytes
-    ∷ makes (parameters 2 2 2 4 (replicate 39 0)) 181 1 ∷ makes (parameters 2 2 2 4 (replicate 40 0)) 181 0 ∷ makes (parameters 2 2 2 4 (replicate 41 0)) 181 1
+    ∷ makes (parameters 1 2 2 2 4 (replicate 39 0)) 181 1 ∷ makes (parameters 1 2 2 2 4 (replicate 40 0)) 181 0 ∷ makes (parameters 1 2 2 2 4 (replicate 41 0)) 181 1
     -- 5 and 6: key 1..p-1, total 1..4,294,967,295, displayed 0..total
-    ∷ answers [] (enter 0 1 1) 5 ∷ answers [] (enter 1 1 1) 0 ∷ answers [] (enter (prime - 1) 1 1) 0 ∷ answers [] (enter prime 1 1) 5
-    ∷ answers [] (enter 3 0 0) 6 ∷ answers [] (enter 3 1 0) 0 ∷ answers [] (enter 3 4294967295 0) 0 ∷ answers [] (enter 3 4294967296 0) 6
-    ∷ answers [] (enter 3 4294967295 4294967295) 0 ∷ answers [] (enter 3 7 8) 6
+    ∷ answers [] (enter 0 1 1 0) 5 ∷ answers [] (enter 1 1 1 0) 0 ∷ answers [] (enter (prime - 1) 1 1 0) 0 ∷ answers [] (enter prime 1 1 0) 5
+    ∷ answers [] (enter 3 0 0 0) 6 ∷ answers [] (enter 3 1 0 0) 0 ∷ answers [] (enter 3 4294967295 0 0) 0 ∷ answers [] (enter 3 4294967296 0 0) 6
+    ∷ answers [] (enter 3 4294967295 4294967295 0) 0 ∷ answers [] (enter 3 7 8 0) 6
     -- 7, 9, 10, 11, 12; no question after 4
-    ∷ answers (enter-6 ∷ enter-3 ∷ []) (enter 4 10 0) 7
+    ∷ answers (enter-6 ∷ enter-3 ∷ []) (enter 4 10 0 0) 7
     ∷ answers (enter-3 ∷ []) (cancel 6) 9 ∷ answers (enter-3 ∷ []) (lookup 6) 9 ∷ answers (enter-3 ∷ []) (lookup 3) 0
     ∷ answers [] (span 1 9 []) 0 ∷ answers [] (span 2 1 []) 10 ∷ answers [] (span 1 prime []) 5
     ∷ answers (enter-3 ∷ []) (span 1 9 (replicate 11 0)) 11 ∷ answers (enter-3 ∷ []) (span 3 3 (replicate 12 0)) 0
     ∷ answers (enter-3 ∷ []) (seek 1 9 80) 0 ∷ answers (enter-3 ∷ []) (seek 1 9 81) 12 ∷ answers (enter-3 ∷ []) check 0
     -- A.2 of document 02: a wholly hidden order has reserve 0, at any total; with r = 0 it is found; the others have what they do not display
-    ∷ answers (enter 3 100 0 ∷ []) (seek 1 9 0) 0 ∷ answers (enter 3 100 0 ∷ []) (seek 1 9 1) 12 ∷ answers (enter 3 100 0 ∷ []) (seek 1 9 100) 12
-    ∷ answers (enter 3 100 1 ∷ []) (seek 1 9 99) 0 ∷ answers (enter 3 100 1 ∷ []) (seek 1 9 100) 12
+    ∷ answers (enter 3 100 0 0 ∷ []) (seek 1 9 0) 0 ∷ answers (enter 3 100 0 0 ∷ []) (seek 1 9 1) 12 ∷ answers (enter 3 100 0 0 ∷ []) (seek 1 9 100) 12
+    ∷ answers (enter 3 100 1 0 ∷ []) (seek 1 9 99) 0 ∷ answers (enter 3 100 1 0 ∷ []) (seek 1 9 100) 12
     ∷ answers (enter-6 ∷ []) (seek 1 9 0) 0 ∷ answers (enter-6 ∷ []) (seek 1 9 1) 12 ∷ answers [] (seek 1 9 0) 12
     -- A.4: a held key is 13, also where there are N orders, after 5 and 6; amend has 9 after 6, no 7 and no 8, and replaces both quantities
-    ∷ answers (enter-6 ∷ enter-3 ∷ []) (enter 3 10 0) 13 ∷ answers (enter-3 ∷ []) (enter 3 7 8) 6 ∷ alike (enter-3 ∷ enter 3 10 0 ∷ []) (enter-3 ∷ [])
-    ∷ answers (enter-6 ∷ enter-3 ∷ []) (amend 3 10 0) 0 ∷ answers (enter-3 ∷ []) (amend 6 10 0) 9 ∷ answers (enter-3 ∷ []) (amend 6 7 8) 6 ∷ answers [] (amend 0 1 1) 5
-    ∷ alike (enter-3 ∷ amend 3 50 10 ∷ []) (enter 3 50 10 ∷ []) ∷ alike (enter-3 ∷ amend 6 50 50 ∷ []) (enter-3 ∷ [])
+    ∷ answers (enter-6 ∷ enter-3 ∷ []) (enter 3 10 0 0) 13 ∷ answers (enter-3 ∷ []) (enter 3 7 8 0) 6 ∷ alike (enter-3 ∷ enter 3 10 0 0 ∷ []) (enter-3 ∷ [])
+    ∷ answers (enter-6 ∷ enter-3 ∷ []) (amend 3 10 0 0) 0 ∷ answers (enter-3 ∷ []) (amend 6 10 0 0) 9 ∷ answers (enter-3 ∷ []) (amend 6 7 8 0) 6 ∷ answers [] (amend 0 1 1 0) 5
+    ∷ alike (enter-3 ∷ amend 3 50 10 0 ∷ []) (enter 3 50 10 0 ∷ []) ∷ alike (enter-3 ∷ amend 6 50 50 0 ∷ []) (enter-3 ∷ [])
     -- A.5: the smaller key of two; of those that have the reserve; of those in lo..hi
-    ∷ finds (enter-6 ∷ enter-3 ∷ []) 1 9 0 3 ∷ finds (enter 6 50 10 ∷ enter-3 ∷ []) 1 9 40 3
-    ∷ finds (enter 6 50 10 ∷ enter 3 100 0 ∷ []) 1 9 1 6 ∷ finds (enter 6 50 10 ∷ enter 3 100 61 ∷ []) 1 9 40 6
+    ∷ finds (enter-6 ∷ enter-3 ∷ []) 1 9 0 3 ∷ finds (enter 6 50 10 0 ∷ enter-3 ∷ []) 1 9 40 3
+    ∷ finds (enter 6 50 10 0 ∷ enter 3 100 0 0 ∷ []) 1 9 1 6 ∷ finds (enter 6 50 10 0 ∷ enter 3 100 61 0 ∷ []) 1 9 40 6
     ∷ finds (enter-6 ∷ enter-3 ∷ []) 3 6 0 3 ∷ finds (enter-6 ∷ enter-3 ∷ []) 4 9 0 6 ∷ answers (enter-6 ∷ enter-3 ∷ []) (seek 4 5 0) 12
     -- the chunk number counts in a home, and quantities above level 1 are zero
     ∷ has-home 1 0 1 1 ∷ has-home 2 6 3 1
     ∷ leaves-bytes (enter-3 ∷ enter-6 ∷ []) 85 (2 ∷ 2 ∷ replicate 18 0 ++ (0 ∷ 0 ∷ 0 ∷ 6 ∷ replicate 8 0))
     -- A.1 of document 02: a key held above level 1 heads its own partition; a key that is not held; a chunk whose first key is larger is not on the path
     ∷ goes (enter-3 ∷ enter-6 ∷ []) 6 (3 ∷ 1 ∷ 2 ∷ []) ∷ goes (enter-3 ∷ enter-6 ∷ []) 5 (3 ∷ 1 ∷ 0 ∷ []) ∷ goes [] 9 (2 ∷ 1 ∷ 0 ∷ [])
-    ∷ goes (enter-3 ∷ enter 1 1 1 ∷ []) 2 (3 ∷ 2 ∷ 0 ∷ []) ∷ goes (enter-3 ∷ enter 1 1 1 ∷ []) 3 (3 ∷ 2 ∷ 0 ∷ 1 ∷ [])
+    ∷ goes (enter-3 ∷ enter 1 1 1 0 ∷ []) 2 (3 ∷ 2 ∷ 0 ∷ []) ∷ goes (enter-3 ∷ enter 1 1 1 0 ∷ []) 3 (3 ∷ 2 ∷ 0 ∷ 1 ∷ [])
     -- .. and 5, 11, 9, in this order
     ∷ answers (enter-3 ∷ []) (descent 0 []) 5 ∷ answers (enter-3 ∷ []) (descent 6 (replicate 5 0)) 11 ∷ answers (enter-3 ∷ []) (descent 6 (replicate 6 0)) 9
     ∷ answers (enter-3 ∷ []) (descent 3 (replicate 6 0)) 0
+    -- A.6: in version 1 a price is 14, before 5 and 6; another version than 1 or 2 is 2, after 1 and before 3
+    ∷ answers [] (enter 3 100 20 7) 14 ∷ answers [] (enter 0 1 1 7) 14 ∷ answers [] (enter 3 7 8 7) 14 ∷ answers [] (amend 3 100 20 7) 14 ∷ answers [] (amend 0 7 8 1) 14
+    ∷ makes (parameters 0 2 2 2 4 (seed-bytes run-seed)) 181 2 ∷ makes (parameters 3 2 2 2 4 (seed-bytes run-seed)) 213 2 ∷ makes (parameters 3 2 2 2 4 []) 213 1
     ∷ seed-limits 10
 
 unfoldable pub Examples-hold : Type 0
-Examples-hold = every left-open ≡ true
+Examples-hold = every run-sizes left-open ≡ true
+
+-- ---- VERSION 2: document 02, A.6
+
+unfoldable pub priced-3 : Call
+priced-3 = enter 3 100 20 7
+
+unfoldable pub priced-6 : Call
+priced-6 = enter 6 50 50 4294967295
+
+unfoldable pub with-prices : List Example
+with-prices =
+    -- "with a length of 53 + M·(8 + 16·B)"
+    makes (parameters 2 2 2 2 4 (seed-bytes run-seed)) 213 0 ∷ makes (parameters 2 2 2 2 4 (seed-bytes run-seed)) 181 3 ∷ leaves-bytes [] 0 (2 ∷ 0 ∷ 0 ∷ 0 ∷ 213 ∷ [])
+    -- a block of level 1, whole: the front, and key, total, displayed, price; and one of level 2, with price 0
+    ∷ leaves-bytes (priced-3 ∷ priced-6 ∷ []) 53 (1 ∷ 2 ∷ replicate 22 0 ++ (0 ∷ 0 ∷ 0 ∷ 3 ∷ 0 ∷ 0 ∷ 0 ∷ 100 ∷ 0 ∷ 0 ∷ 0 ∷ 20 ∷ 0 ∷ 0 ∷ 0 ∷ 7 ∷ []))
+    ∷ leaves-bytes (priced-3 ∷ priced-6 ∷ []) 93 (2 ∷ 2 ∷ replicate 22 0 ++ (0 ∷ 0 ∷ 0 ∷ 6 ∷ replicate 12 0))
+    ∷ alike (priced-3 ∷ priced-6 ∷ []) (priced-6 ∷ priced-3 ∷ []) ∷ alike (priced-3 ∷ priced-6 ∷ cancel 3 ∷ []) (priced-6 ∷ [])
+    -- "Price 0 in version 2 answers 6", after 5; a price is 1..4,294,967,295
+    ∷ answers [] (enter 3 100 20 0) 6 ∷ answers [] (enter 0 1 1 0) 5 ∷ answers [] (enter 3 100 20 1) 0 ∷ answers [] (enter 3 100 20 4294967295) 0 ∷ answers [] (enter 3 100 20 4294967296) 6
+    ∷ answers (priced-3 ∷ []) (amend 3 100 20 0) 6 ∷ answers (priced-3 ∷ []) (amend 6 100 20 7) 9
+    -- "amend replaces it along with the quantities"; two books that differ in a price alone
+    ∷ alike (priced-3 ∷ amend 3 50 10 9 ∷ []) (enter 3 50 10 9 ∷ []) ∷ unlike (priced-3 ∷ amend 3 100 20 9 ∷ []) (priced-3 ∷ [])
+    -- "Span rows in version 2 have 16 bytes, and 11 counts those"
+    ∷ answers (priced-3 ∷ []) (span 1 9 (replicate 15 0)) 11 ∷ answers (priced-3 ∷ []) (span 1 9 (replicate 16 0)) 0
+    -- all else is as in version 1
+    ∷ has-level 6 2 ∷ has-home 1 2147483646 0 3 ∷ goes (priced-3 ∷ priced-6 ∷ []) 6 (3 ∷ 1 ∷ 2 ∷ []) ∷ finds (priced-6 ∷ priced-3 ∷ []) 1 9 0 3
+    ∷ answers (priced-3 ∷ []) (enter 3 1 1 1) 13 ∷ answers (priced-6 ∷ priced-3 ∷ []) (enter 4 10 0 1) 7 ∷ answers (priced-3 ∷ []) (enter 4 10 0 1) 8 ∷ answers (priced-3 ∷ []) check 0
+    ∷ []
+
+unfoldable pub With-prices : Type 0
+With-prices = every priced-sizes with-prices ≡ true

@@ -35,13 +35,18 @@ gathered (holds c ∷ bs) os = gathered bs (cond (eqb (c .label .level) 1) (all-
 unfoldable pub orders-in : List ℕ → List Order
 orders-in bs = gathered (blocks-in (sizes-in bs) bs) []
 
--- an order: key 1..p-1, total 1..4,294,967,295, displayed 0..total; keys rise, from a least one on
-unfoldable pub quantities-good : (total displayed : ℕ) → Bool
-quantities-good t d = (leb 1 t && leb t 4294967295) && leb d t
+-- document 02, A.6: "a limit price, 1..4,294,967,295 ticks"; "Version 1 tables live on ..; their price is 0"
+unfoldable pub price-good : Sizes → (price : ℕ) → Bool
+price-good s p = cond (eqb (s .version) 1) (eqb p 0) (leb 1 p)
 
-unfoldable pub orders-good : (least : ℕ) → List Order → Bool
-orders-good a [] = true
-orders-good a (o ∷ os) = ((leb a (o .key) && ltb (o .key) prime) && quantities-good (o .total) (o .displayed)) && orders-good (suc (o .key)) os
+-- an order: key 1..p-1, total 1..4,294,967,295, displayed 0..total, and its price; keys rise, from a least one on
+unfoldable pub quantities-good : Sizes → (total displayed price : ℕ) → Bool
+quantities-good s t d p = ((leb 1 t && leb t 4294967295) && leb d t) && (price-good s p && leb p 4294967295)
+
+unfoldable pub orders-good : Sizes → (least : ℕ) → List Order → Bool
+orders-good s a [] = true
+orders-good s a (o ∷ os) =
+    ((leb a (o .key) && ltb (o .key) prime) && quantities-good s (o .total) (o .displayed) (o .price)) && orders-good s (suc (o .key)) os
 
 -- at most N orders, in at most M chunks
 unfoldable pub fits : Sizes → (orders : List Order) → Bool
@@ -56,4 +61,4 @@ same (x ∷ xs) (y ∷ ys) = eqb x y && same xs ys
 -- QUESTION 4: rule 1 holds, and the bytes are the image of the orders that they hold. Rules.antt says it by rules 1, 2 and 3
 unfoldable pub is-image : List ℕ → Bool
 is-image bs =
-    rule-1 bs && ((orders-good 1 (orders-in bs) && fits (sizes-in bs) (orders-in bs)) && same (image (sizes-in bs) (orders-in bs)) bs)
+    rule-1 bs && ((orders-good (sizes-in bs) 1 (orders-in bs) && fits (sizes-in bs) (orders-in bs)) && same (image (sizes-in bs) (orders-in bs)) bs)

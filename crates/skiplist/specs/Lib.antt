@@ -4,6 +4,7 @@ pub mod Image
 pub mod Questions
 pub mod Paths
 pub mod Book
+pub mod Before
 pub mod Rules
 pub mod Promise
 pub mod Examples

@@ -14,7 +14,7 @@ use Rattle.placement.specs.declared.Order.{Order}
 
 -- the front element has key 0 and is no order
 unfoldable pub front : Order
-front = record { key = 0; total = 0; displayed = 0 }
+front = record { key = 0; total = 0; displayed = 0; price = 0 }
 
 -- L_k: the front and all held keys of level k or more, rising
 unfoldable pub at-least : Sizes → (k : ℕ) → List Order → List Order
@@ -57,9 +57,10 @@ unfoldable pub last-from : (k : ℕ) → List Order → ℕ
 last-from k [] = k
 last-from k (x ∷ xs) = last-from (x .key) xs
 
--- both quantities are 0 at levels above 1
+-- both quantities are 0 at levels above 1; and so is the price, document 02, A.6: "price is 0 above level 1 and for the front"
 unfoldable pub masked : (level : ℕ) → Order → Order
-masked l o = record { key = o .key; total = cond (eqb l 1) (o .total) 0; displayed = cond (eqb l 1) (o .displayed) 0 }
+masked l o =
+    record { key = o .key; total = cond (eqb l 1) (o .total) 0; displayed = cond (eqb l 1) (o .displayed) 0; price = cond (eqb l 1) (o .price) 0 }
 
 -- CHUNKS 0, 1, .. of a partition's nodes: all of B nodes but the last, which has 1..B
 unfoldable pub chunks-of : (fuel : ℕ) → (b : ℕ) → (level first number : ℕ) → (nodes : List Order) → List Chunk

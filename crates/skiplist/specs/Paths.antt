@@ -58,7 +58,7 @@ asks-descent s k room os = ask 5 (is-key k) ∷ ask 11 (leb (2 * length (descent
 
 -- it has at most M blocks
 unfoldable pub Path-fits : Type 0
-Path-fits = (s : Sizes) (os : List Order) (y : ℕ) → made s ≡ true → orders-good 1 os ≡ true → fits s os ≡ true → length (descent-path s os y) ≤ s .blocks
+Path-fits = (s : Sizes) (os : List Order) (y : ℕ) → made s ≡ true → orders-good s 1 os ≡ true → fits s os ≡ true → length (descent-path s os y) ≤ s .blocks
 
 -- levels never rise along it
 unfoldable pub goes-down : List Chunk → Bool
@@ -74,4 +74,4 @@ pub record One-way (s : Sizes) (os : List Order) (y : ℕ) : Type 0 where
   pub one-each : (c d : Chunk) → Among c chunks → Among d chunks → c .label .level ≡ d .label .level → c .label .first ≡ d .label .first
 
 unfoldable pub Path-one-way : Type 0
-Path-one-way = (s : Sizes) (os : List Order) (y : ℕ) → made s ≡ true → orders-good 1 os ≡ true → fits s os ≡ true → One-way s os y
+Path-one-way = (s : Sizes) (os : List Order) (y : ℕ) → made s ≡ true → orders-good s 1 os ≡ true → fits s os ≡ true → One-way s os y

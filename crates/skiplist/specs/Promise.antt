@@ -21,7 +21,7 @@ use Rattle.skiplist.specs.Book.{Call, book, after}
 -- an image reads back as its orders and sizes
 unfoldable pub Image-reads-back : Type 0
 Image-reads-back =
-    (s : Sizes) (os : List Order) → made s ≡ true → orders-good 1 os ≡ true → fits s os ≡ true →
+    (s : Sizes) (os : List Order) → made s ≡ true → orders-good s 1 os ≡ true → fits s os ≡ true →
     (is-image (image s os) ≡ true) × (orders-in (image s os) ≡ os) × (sizes-in (image s os) ≡ s)
 
 -- labels rise in the order in which chunks are placed
@@ -31,17 +31,17 @@ labels-rise (c ∷ []) = true
 labels-rise (c ∷ d ∷ cs) = chunk-before c d && labels-rise (d ∷ cs)
 
 unfoldable pub Labels-rise : Type 0
-Labels-rise = (s : Sizes) (os : List Order) → orders-good 1 os ≡ true → labels-rise (chunks s os) ≡ true
+Labels-rise = (s : Sizes) (os : List Order) → orders-good s 1 os ≡ true → labels-rise (chunks s os) ≡ true
 
 -- an image obeys rule 3
 unfoldable pub Rule-three : Type 0
 Rule-three =
-    (s : Sizes) (os : List Order) → made s ≡ true → orders-good 1 os ≡ true → fits s os ≡ true → Rule-3 (chunk-home s) chunk-before (s .blocks) (blocks s os)
+    (s : Sizes) (os : List Order) → made s ≡ true → orders-good s 1 os ≡ true → fits s os ≡ true → Rule-3 (chunk-home s) chunk-before (s .blocks) (blocks s os)
 
 -- rule 3 leaves only one arrangement of the same chunks
 unfoldable pub One-arrangement : Type 0
 One-arrangement =
-    (s : Sizes) (os : List Order) (bs : List (Block Chunk)) → made s ≡ true → orders-good 1 os ≡ true → fits s os ≡ true → length bs ≡ s .blocks →
+    (s : Sizes) (os : List Order) (bs : List (Block Chunk)) → made s ≡ true → orders-good s 1 os ≡ true → fits s os ≡ true → length bs ≡ s .blocks →
     Rule-3 (chunk-home s) chunk-before (s .blocks) bs → ((c : Chunk) → Among c (chunks s os) → Stands (s .blocks) bs c) → how-many bs ≡ length (chunks s os) → bs ≡ blocks s os
 
 -- ---- Document 02, A.4: amend asks neither 7 nor 8
@@ -49,14 +49,14 @@ One-arrangement =
 -- the number of chunks depends on the keys alone
 unfoldable pub Chunks-by-keys : Type 0
 Chunks-by-keys =
-    (s : Sizes) (os qs : List Order) → made s ≡ true → orders-good 1 os ≡ true → orders-good 1 qs ≡ true →
+    (s : Sizes) (os qs : List Order) → made s ≡ true → orders-good s 1 os ≡ true → orders-good s 1 qs ≡ true →
     map (λ (o : Order). o .key) os ≡ map (λ (o : Order). o .key) qs → length (chunks s os) ≡ length (chunks s qs)
 
 -- so both would have a yes for a key that is held
 unfoldable pub Amend-has-room : Type 0
 Amend-has-room =
-    (s : Sizes) (os : List Order) (k t d : ℕ) → made s ≡ true → orders-good 1 os ≡ true → fits s os ≡ true → held k os ≡ true →
-    all-yes (asks-room s k t d os) ≡ true
+    (s : Sizes) (os : List Order) (o : Order) → made s ≡ true → orders-good s 1 os ≡ true → fits s os ≡ true → held (o .key) os ≡ true →
+    all-yes (asks-room s o os) ≡ true
 
 -- ---- DEMAND 3 over the definitions alone: the table that calls leave is the image of what the plain book leaves
 

@@ -6,7 +6,7 @@ use mathlib.Core.List.{List, [], _∷_, _++_}
 use Prim.Native.Nat.{ℕ, _*_, _-_}
 use lib.Dec.{ltb, leb, eqb}
 use lib.ListN.{length}
-use Rattle.sizes.specs.Sizes.{prime, sizes-good, seed-good}
+use Rattle.sizes.specs.Sizes.{prime, row, sizes-good, seed-good}
 use Rattle.sizes.specs.Header.{seed-in, table-long}
 use Rattle.sizes.specs.declared.Sizes.{Sizes}
 use Rattle.placement.specs.declared.Order.{Order}
@@ -53,8 +53,8 @@ without k (o ∷ os) = cond (eqb (o .key) k) os (o ∷ without k os)
 unfoldable pub with-order : Order → List Order → List Order
 with-order o os = into o (without (o .key) os)
 
-abbrev pub order : (key total displayed : ℕ) → Order
-order k t d = record { key = k; total = t; displayed = d }
+abbrev pub order : (key total displayed price : ℕ) → Order
+order k t d p = record { key = k; total = t; displayed = d; price = p }
 
 -- the orders with keys in lo..hi
 unfoldable pub between : (lo hi : ℕ) → List Order → List Order
@@ -82,23 +82,24 @@ any-order (o ∷ os) = true
 
 -- "the order with the smallest key", document 02, A.5: keys rise, so it is the first. Where there is none, nobody is given this
 unfoldable pub lowest : List Order → Order
-lowest [] = order 0 0 0
+lowest [] = order 0 0 0 0
 lowest (o ∷ os) = o
 
--- WHAT MAKE IS ASKED: γ, B, N, M, and the seed's bytes
+-- WHAT MAKE IS ASKED: the version, γ, B, N, M, and the seed's bytes
 pub record Parameters : Type 0 where
+  pub version : ℕ
   pub gamma : ℕ
   pub nodes : ℕ
   pub orders : ℕ
   pub blocks : ℕ
   pub seed : List ℕ
 
-abbrev pub parameters : (gamma nodes orders blocks : ℕ) → (seed : List ℕ) → Parameters
-parameters c b n m ss = record { gamma = c; nodes = b; orders = n; blocks = m; seed = ss }
+abbrev pub parameters : (version gamma nodes orders blocks : ℕ) → (seed : List ℕ) → Parameters
+parameters v c b n m ss = record { version = v; gamma = c; nodes = b; orders = n; blocks = m; seed = ss }
 
 -- the sizes and the ten seed numbers in it
 unfoldable pub sizes : Parameters → Sizes
-sizes q = record { gamma = q .gamma; nodes = q .nodes; orders = q .orders; blocks = q .blocks; seed = seed-in 10 (q .seed) }
+sizes q = record { version = q .version; gamma = q .gamma; nodes = q .nodes; orders = q .orders; blocks = q .blocks; seed = seed-in 10 (q .seed) }
 
 -- ---- THE QUESTIONS OF EACH CALL, in document 01's order
 
@@ -110,20 +111,24 @@ asks-make q l =
 unfoldable pub asks-image : (table : List ℕ) → List Question
 asks-image x = ask 4 (is-image x) ∷ []
 
--- the others are asked of a set of orders. Is it an order, and is there room for it?
-unfoldable pub asks-order : (key total displayed : ℕ) → List Question
-asks-order k t d = ask 5 (is-key k) ∷ ask 6 (quantities-good t d) ∷ []
+-- document 02, A.6: "14, after 4 in enter and amend: is the price 0 when the table is version 1?"
+unfoldable pub price-allowed : Sizes → (price : ℕ) → Bool
+price-allowed s p = cond (eqb (s .version) 1) (eqb p 0) true
 
-unfoldable pub asks-room : Sizes → (key total displayed : ℕ) → List Order → List Question
-asks-room s k t d os = ask 7 (held k os || ltb (length os) (s .orders)) ∷ ask 8 (fits s (with-order (order k t d) os)) ∷ []
+-- the others are asked of a set of orders. Is it an order, and is there room for it? "Price 0 in version 2 answers 6"
+unfoldable pub asks-order : Sizes → (key total displayed price : ℕ) → List Question
+asks-order s k t d p = ask 14 (price-allowed s p) ∷ ask 5 (is-key k) ∷ ask 6 (quantities-good s t d p) ∷ []
+
+unfoldable pub asks-room : Sizes → Order → List Order → List Question
+asks-room s o os = ask 7 (held (o .key) os || ltb (length os) (s .orders)) ∷ ask 8 (fits s (with-order o os)) ∷ []
 
 -- Document 02, A.4. "Enter takes a key that is not held and asks 4, 5, 6, 13, 7, 8"; "13, enter only, after 6: is the key free?"
-unfoldable pub asks-enter : Sizes → (key total displayed : ℕ) → List Order → List Question
-asks-enter s k t d os = asks-order k t d ++ ask 13 (not (held k os)) ∷ asks-room s k t d os
+unfoldable pub asks-enter : Sizes → (key total displayed price : ℕ) → List Order → List Question
+asks-enter s k t d p os = asks-order s k t d p ++ ask 13 (not (held k os)) ∷ asks-room s (order k t d p) os
 
 -- "Amend replaces the quantities of a held one and asks 4, 5, 6, 9"
-unfoldable pub asks-amend : (key total displayed : ℕ) → List Order → List Question
-asks-amend k t d os = asks-order k t d ++ ask 9 (held k os) ∷ []
+unfoldable pub asks-amend : Sizes → (key total displayed price : ℕ) → List Order → List Question
+asks-amend s k t d p os = asks-order s k t d p ++ ask 9 (held k os) ∷ []
 
 -- cancel and lookup
 unfoldable pub asks-key : (key : ℕ) → List Order → List Question
@@ -132,9 +137,9 @@ asks-key k os = ask 5 (is-key k) ∷ ask 9 (held k os) ∷ []
 unfoldable pub asks-range : (lo hi : ℕ) → List Question
 asks-range lo hi = ask 5 (is-key lo && is-key hi) ∷ ask 10 (leb lo hi) ∷ []
 
--- span: 12 bytes for each held key in lo..hi; seek: an order there with the reserve
-unfoldable pub asks-span : (lo hi room : ℕ) → List Order → List Question
-asks-span lo hi k os = asks-range lo hi ++ ask 11 (leb (12 * length (between lo hi os)) k) ∷ []
+-- span: the bytes of a row for each held key in lo..hi, "and 11 counts those"; seek: an order there with the reserve
+unfoldable pub asks-span : Sizes → (lo hi room : ℕ) → List Order → List Question
+asks-span s lo hi k os = asks-range lo hi ++ ask 11 (leb (row s * length (between lo hi os)) k) ∷ []
 
 unfoldable pub asks-seek : (lo hi r : ℕ) → List Order → List Question
 asks-seek lo hi r os = asks-range lo hi ++ ask 12 (any-order (enough r (between lo hi os))) ∷ []

@@ -21,7 +21,7 @@ use Rattle.skiplist.specs.Image.{image, is-image, orders-in, orders-good
 pub record Rules (s : Sizes) (os : List Order) (x : List ℕ) : Type 0 where
   -- rule 1: allowed sizes and seed, n at most N, and the header and blocks in their byte form
   pub allowed : made s ≡ true
-  pub good : orders-good 1 os ≡ true
+  pub good : orders-good s 1 os ≡ true
   pub few : length os ≤ s .orders
   pub table : List (Block Chunk)
   pub bytes : x ≡ header s (length os) ++ all-bytes s table
@@ -56,10 +56,10 @@ paper-sets (x ∷ y ∷ xs) ys = from-to (x .key) (y .key) ys ∷ paper-sets (y 
 
 unfoldable pub Paper-partitions : Type 0
 Paper-partitions =
-    (s : Sizes) (os : List Order) (k : ℕ) → orders-good 1 os ≡ true → k < beta s → partitions s k (list-at s k os) ≡ paper-sets (list-at s (suc k) os) (list-at s k os)
+    (s : Sizes) (os : List Order) (k : ℕ) → orders-good s 1 os ≡ true → k < beta s → partitions s k (list-at s k os) ≡ paper-sets (list-at s (suc k) os) (list-at s k os)
 
 unfoldable pub Paper-top : Type 0
-Paper-top = (s : Sizes) (os : List Order) → orders-good 1 os ≡ true → partitions s (beta s) (list-at s (beta s) os) ≡ list-at s (beta s) os ∷ []
+Paper-top = (s : Sizes) (os : List Order) → orders-good s 1 os ≡ true → partitions s (beta s) (list-at s (beta s) os) ≡ list-at s (beta s) os ∷ []
 
 -- β is ⌈log_γ N⌉ + 2
 unfoldable pub Beta-is : Type 0

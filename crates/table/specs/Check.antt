@@ -5,7 +5,7 @@ use mathlib.Core.List.{List}
 use Prim.Native.Nat.{ℕ, zero, suc, _+_, _*_, _-_, _≤_, _<_}
 use lib.Dec.{eqb}
 use lib.ListN.{length, getD}
-use Rattle.sizes.specs.Sizes.{beta}
+use Rattle.sizes.specs.Sizes.{beta, row}
 use Rattle.sizes.specs.Header.{block-long, sizes-in, held-in, rule-1}
 use Rattle.sizes.specs.declared.Sizes.{Sizes}
 use Rattle.skiplist.specs.Image.{is-image}
@@ -20,7 +20,7 @@ zeros-from bs (suc k) a = eqb (getD bs a 0) 0 && zeros-from bs k (suc a)
 
 -- the bytes of the longest block: a head and 32 nodes
 abbrev pub longest : ℕ
-longest = 392
+longest = 520
 
 -- which bytes of a block are looked at: with u of the zeros in front it leaves out u bytes and has the others
 pub record Mask (ms : List ℕ) : Type 0 where
@@ -29,26 +29,26 @@ pub record Mask (ms : List ℕ) : Type 0 where
   pub has : (k : ℕ) → longest ≤ k → k < 2 * longest → getD ms k 0 ≡ 255
 
 -- where the unused bytes of a block start: at once in an empty one
-unfoldable pub used-of : (level n : ℕ) → ℕ
-used-of l n = cond (eqb l 0) 0 (8 + 12 * n)
+unfoldable pub used-of : (row level n : ℕ) → ℕ
+used-of k l n = cond (eqb l 0) 0 (8 + k * n)
 
 -- one more block that is not empty
 unfoldable pub more-of : (full level : ℕ) → ℕ
 more-of m l = cond (eqb l 0) m (m + 1)
 
-unfoldable pub unused : (w : ℕ) → List ℕ → (i : ℕ) → ℕ
-unused w bs i = used-of (getD bs (53 + i * w) 0) (getD bs (53 + i * w + 1) 0)
+unfoldable pub unused : (row w : ℕ) → List ℕ → (i : ℕ) → ℕ
+unused k w bs i = used-of k (getD bs (53 + i * w) 0) (getD bs (53 + i * w + 1) 0)
 
-unfoldable pub block-clean : (w : ℕ) → List ℕ → (i : ℕ) → Bool
-block-clean w bs i = zeros-from bs (w - unused w bs i) (53 + i * w + unused w bs i)
+unfoldable pub block-clean : (row w : ℕ) → List ℕ → (i : ℕ) → Bool
+block-clean k w bs i = zeros-from bs (w - unused k w bs i) (53 + i * w + unused k w bs i)
 
-unfoldable pub sweep-from : (w : ℕ) → List ℕ → (left i full : ℕ) → Tally
-sweep-from w bs zero i m = record { clean = true; full = m }
-sweep-from w bs (suc k) i m =
-    cond (block-clean w bs i) (sweep-from w bs k (suc i) (more-of m (getD bs (53 + i * w) 0))) (record { clean = false; full = m })
+unfoldable pub sweep-from : (row w : ℕ) → List ℕ → (left i full : ℕ) → Tally
+sweep-from k w bs zero i m = record { clean = true; full = m }
+sweep-from k w bs (suc j) i m =
+    cond (block-clean k w bs i) (sweep-from k w bs j (suc i) (more-of m (getD bs (53 + i * w) 0))) (record { clean = false; full = m })
 
 unfoldable pub swept : Sizes → List ℕ → Tally
-swept s bs = sweep-from (block-long s) bs (s .blocks) 0 0
+swept s bs = sweep-from (row s) (block-long s) bs (s .blocks) 0 0
 
 -- THE WALK from (β, front): n orders and the front are to come, and so many chunks
 unfoldable pub walked : Sizes → List ℕ → (held chunks : ℕ) → Seen

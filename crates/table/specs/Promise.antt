@@ -6,8 +6,8 @@ use mathlib.Core.List.{List, [], _∷_}
 use Prim.Native.Nat.{ℕ, suc, _≤_}
 use lib.Dec.{ltb, eqb}
 use lib.ListN.{length}
-use Rattle.sizes.specs.Sizes.{made}
-use Rattle.sizes.specs.Header.{table-long}
+use Rattle.sizes.specs.Sizes.{row, made}
+use Rattle.sizes.specs.Header.{table-long, sizes-in}
 use Rattle.sizes.specs.declared.Sizes.{Sizes}
 use Rattle.placement.specs.Blocks.{Among}
 use Rattle.placement.specs.declared.Order.{Order}
@@ -22,8 +22,8 @@ use Rattle.table.specs.declared.Reply.{Reply}
 
 -- WHAT A CALL DOES TO A TABLE, by its contract alone. A reading leaves the table
 unfoldable pub Does : Call → (table table-now : List ℕ) → Type 0
-Does (enter k t d) x z = (r : ℕ) × Enter-says k t d r x z
-Does (amend k t d) x z = (r : ℕ) × Amend-says k t d r x z
+Does (enter k t d p) x z = (r : ℕ) × Enter-says k t d p r x z
+Does (amend k t d p) x z = (r : ℕ) × Amend-says k t d p r x z
 Does (cancel k) x z = (r : ℕ) × Cancel-says k r x z
 Does (lookup k) x z = (r : Reply) × Look-says x k r × (z ≡ x)
 Does (descent k o) x z = (r : Reply) × (now : List ℕ) × Descent-says x k r o now × (z ≡ x)
@@ -60,8 +60,8 @@ unfoldable pub word : ℕ → Bool
 word x = ltb x 4294967296
 
 unfoldable pub in-range : Call → Bool
-in-range (enter k t d) = word k && (word t && word d)
-in-range (amend k t d) = word k && (word t && word d)
+in-range (enter k t d p) = word k && (word t && (word d && word p))
+in-range (amend k t d p) = word k && (word t && (word d && word p))
 in-range (cancel k) = word k
 in-range (lookup k) = word k
 in-range (descent k o) = word k && byte-list o
@@ -74,7 +74,7 @@ all-in-range [] = true
 all-in-range (c ∷ cs) = in-range c && all-in-range cs
 
 unfoldable pub asked-in-range : Parameters → Bool
-asked-in-range q = (word (q .gamma) && (word (q .nodes) && (word (q .orders) && word (q .blocks)))) && byte-list (q .seed)
+asked-in-range q = (word (q .version) && (word (q .gamma) && (word (q .nodes) && (word (q .orders) && word (q .blocks))))) && byte-list (q .seed)
 
 -- some make and list give these bytes, with numbers that a program can hand over
 pub record Given (bs : List ℕ) : Type 0 where
@@ -109,8 +109,8 @@ number-in (lent r o) = r .number
 
 unfoldable pub answer : (c : Call) (table table-now : List ℕ) → Does c table table-now → Answer
 unfolding Does
-answer (enter k t d) x z w = alone (w .0)
-answer (amend k t d) x z w = alone (w .0)
+answer (enter k t d p) x z w = alone (w .0)
+answer (amend k t d p) x z w = alone (w .0)
 answer (cancel k) x z w = alone (w .0)
 answer (lookup k) x z w = whole (w .0)
 answer (descent k o) x z w = lent (w .0) (w .1)
@@ -126,8 +126,8 @@ answers (c ∷ cs) x z w = answer c x (w .0) (w .1) ∷ answers cs (w .0) z (w .
 -- Document 01, "Contracts": "what none decides is named there". On an image definitions decide every answer; on other bytes, too, all but those of a descent
 -- that its 4 and 5 let pass
 unfoldable pub decided : Call → (table : List ℕ) → Bool
-decided (enter k t d) x = true
-decided (amend k t d) x = true
+decided (enter k t d p) x = true
+decided (amend k t d p) x = true
 decided (cancel k) x = true
 decided (lookup k) x = true
 decided (descent k o) x = not (eqb (first-no (asks-first x k)) 0)
@@ -183,11 +183,11 @@ Demand-2-descent =
 unfoldable pub Descent-looks-up : Type 0
 Descent-looks-up =
     (x : List ℕ) (k : ℕ) (r q : Reply) (o now : List ℕ) → is-image x ≡ true → Descent-says x k r o now → (r .number ≡ 11 → ⊥) → Look-says x k q →
-    (r .number ≡ q .number) × (r .key ≡ q .key) × (r .total ≡ q .total) × (r .displayed ≡ q .displayed)
+    (r .number ≡ q .number) × (r .key ≡ q .key) × (r .total ≡ q .total) × (r .displayed ≡ q .displayed) × (r .price ≡ q .price)
 
 unfoldable pub Demand-2-span : Type 0
 Demand-2-span =
-    After-any (λ s os z. (lo hi : ℕ) (r : Reply) (o now : List ℕ) → Span-says z lo hi r o now → Span-as (book-refusal s (span lo hi o) os) (between lo hi os) r o now)
+    After-any (λ s os z. (lo hi : ℕ) (r : Reply) (o now : List ℕ) → Span-says z lo hi r o now → Span-as (row s) (book-refusal s (span lo hi o) os) (between lo hi os) r o now)
 
 -- "the order with the smallest key in lo..hi that has the reserve", said of every order that the table holds
 pub record Lowest (os : List Order) (lo hi least : ℕ) (o : Order) : Type 0 where
@@ -198,13 +198,18 @@ pub record Lowest (os : List Order) (lo hi least : ℕ) (o : Order) : Type 0 whe
 
 unfoldable pub Seek-lowest : Type 0
 Seek-lowest =
-    (x : List ℕ) (lo hi l : ℕ) (r : Reply) → Seek-says x lo hi l r → r .number ≡ 0 → Lowest (orders-in x) lo hi l (order (r .key) (r .total) (r .displayed))
+    (x : List ℕ) (lo hi l : ℕ) (r : Reply) → Seek-says x lo hi l r → r .number ≡ 0 → Lowest (orders-in x) lo hi l (order (r .key) (r .total) (r .displayed) (r .price))
 
 -- whoever seeks again from the key behind it on gets them all, by rising keys
 unfoldable pub Seek-next : Type 0
 Seek-next =
-    (os : List Order) (lo hi l : ℕ) → orders-good 1 os ≡ true → any-order (enough l (between lo hi os)) ≡ true →
+    (s : Sizes) (os : List Order) (lo hi l : ℕ) → orders-good s 1 os ≡ true → any-order (enough l (between lo hi os)) ≡ true →
     enough l (between lo hi os) ≡ lowest (enough l (between lo hi os)) ∷ enough l (between (suc (lowest (enough l (between lo hi os)) .key)) hi os)
+
+-- Document 02, A.6: "Version 1 tables live on ..; their price is 0"; in version 2 no order is without one
+unfoldable pub Prices-are : Type 0
+Prices-are =
+    (x : List ℕ) → is-image x ≡ true → (o : Order) → Among o (orders-in x) → (sizes-in x .version ≡ 1 → o .price ≡ 0) × ((sizes-in x .version ≡ 1 → ⊥) → 1 ≤ o .price)
 
 unfoldable pub Demand-2-seek : Type 0
 Demand-2-seek = After-any (λ s os z. (lo hi l : ℕ) (r : Reply) → Seek-says z lo hi l r → Seek-as (book-refusal s (seek lo hi l) os) os lo hi l r)

@@ -4,15 +4,16 @@ use mathlib.Core.Bool.{Bool, true, false, _&&_, not, cond}
 use mathlib.Core.List.{List}
 use Prim.Native.Nat.{ℕ, zero, suc, _+_, _*_, _-_, _≤_}
 use lib.Dec.{ltb, leb, eqb}
-use lib.ListN.{getD, drop}
-use Rattle.sizes.specs.Sizes.{prime}
+use lib.ListN.{getD}
+use Rattle.sizes.specs.Sizes.{prime, row}
 use Rattle.sizes.specs.Hash.{level}
 use Rattle.sizes.specs.Header.{block-long}
-use Rattle.placement.specs.Decode.{node-in}
+use Rattle.placement.specs.Decode.{node-of}
 use Rattle.placement.specs.Labels.{home}
 use Rattle.placement.specs.Place.{Shaped, label-in, search-in, found-at}
 use Rattle.sizes.specs.declared.Sizes.{Sizes}
 use Rattle.placement.specs.declared.Order.{Order}
+use Rattle.skiplist.specs.Image.{price-good}
 use Rattle.placement.specs.declared.Found.{Found}
 use Rattle.placement.specs.declared.Found.the-variants.{At, Nothing}
 use Rattle.table.specs.declared.Seen.{Seen}
@@ -24,9 +25,6 @@ pub record Walkable (s : Sizes) (bs : List ℕ) : Type 0 where
   pub base-most : s .gamma ≤ 64
   pub orders-most : s .orders ≤ 65535
 
-unfoldable pub node-of : List ℕ → (at : ℕ) → Order
-node-of bs a = node-in (drop a bs)
-
 -- the walk of a table that is no image
 unfoldable pub wrong-seen : Seen
 wrong-seen = record { ok = false; low = 0; orders = 0; chunks = 0 }
@@ -37,6 +35,10 @@ nothing-in n = eqb (n .total) 0 && eqb (n .displayed) 0
 
 unfoldable pub quantities-ok : (level : ℕ) → Order → Bool
 quantities-ok l n = cond (eqb l 1 && not (eqb (n .key) 0)) (leb 1 (n .total) && leb (n .displayed) (n .total)) (nothing-in n)
+
+-- so is the price; an order has one as its version has it
+unfoldable pub price-ok : Sizes → (level : ℕ) → Order → Bool
+price-ok s l n = cond (eqb l 1 && not (eqb (n .key) 0)) (price-good s (n .price)) (eqb (n .price) 0)
 
 -- the first key of a partition is known; any other has exactly the level of its list
 unfoldable pub belongs-in : Sizes → (level first : ℕ) → (opens : Bool) → (key : ℕ) → Bool
@@ -69,12 +71,12 @@ stops-at b n x = cond (x .ok) (ltb n b) true
 
 -- THE NODES of a chunk, from a place on; d is what each opens
 unfoldable pub node-good : Sizes → (level first : ℕ) → (opens : Bool) → Order → Seen → Bool
-node-good s l f o n x = x .ok && fits-in s l f o n
+node-good s l f o n x = x .ok && (price-ok s l n && fits-in s l f o n)
 
 unfoldable pub nodes-by : ((key : ℕ) → Seen → Seen) → Sizes → List ℕ → (level first left at : ℕ) → (opens : Bool) → Seen → Seen
 nodes-by d s bs l f zero a o x = x
 nodes-by d s bs l f (suc j) a o x =
-    cond (node-good s l f o (node-of bs a) x) (nodes-by d s bs l f j (a + 12) false (d (node-of bs a .key) x)) wrong-seen
+    cond (node-good s l f o (node-of (row s) bs a) x) (nodes-by d s bs l f j (a + row s) false (d (node-of (row s) bs a .key) x)) wrong-seen
 
 -- A CHUNK OF LEVEL 1 comes by as a whole: each of its nodes is one of the orders to come, or the front
 unfoldable pub enters-lowest : (nodes n : ℕ) → Seen → Bool
@@ -82,7 +84,7 @@ enters-lowest b n x = enters-ok b n x && leb n (x .orders)
 
 -- its nodes, one by one: y is what the next key is at least
 unfoldable pub comes-ok : Sizes → (first : ℕ) → (opens : Bool) → (low : ℕ) → Order → Bool
-comes-ok s f o y n = leb y (n .key) && (ltb (n .key) prime && fits-in s 1 f o n)
+comes-ok s f o y n = leb y (n .key) && (ltb (n .key) prime && (price-ok s 1 n && fits-in s 1 f o n))
 
 -- all of them have come by
 unfoldable pub passed-seen : (n low : ℕ) → Seen → Seen

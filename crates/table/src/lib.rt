@@ -25,5 +25,6 @@ pub struct Reply {
     pub key: u32,
     pub total: u32,
     pub displayed: u32,
+    pub price: u32,
     pub count: u32,
 }

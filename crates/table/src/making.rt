@@ -19,9 +19,9 @@ use sizes::header::sizes_allowed;
 use sizes::header::table_length;
 
 // The numbers of the header's sizes and seed, as make is given them.
-fn sizes_of(gamma: u32, nodes: u32, orders: u32, blocks: u32, seed: &[u8]) -> Sizes
+fn sizes_of(version: u32, gamma: u32, nodes: u32, orders: u32, blocks: u32, seed: &[u8]) -> Sizes
     requires { ⌜ length (now seed) ≡ 40 ⌝ }
-    ensures { λ r. ⌜ r ≡ sizes (parameters gamma nodes orders blocks (now (seed .entry))) ⌝ }
+    ensures { λ r. ⌜ r ≡ sizes (parameters version gamma nodes orders blocks (now (seed .entry))) ⌝ }
 {
     let mut numbers = [0u32; 10];
     let mut i: usize = 0;
@@ -30,6 +30,7 @@ fn sizes_of(gamma: u32, nodes: u32, orders: u32, blocks: u32, seed: &[u8]) -> Si
         i += 1;
     }
     Sizes {
+        version: version,
         gamma: gamma,
         nodes: nodes,
         orders: orders,
@@ -43,7 +44,7 @@ fn fronts(table: &mut [u8], s: Sizes, top: u32)
     requires { ⌜ Shaped s (now table) × (1 ≤ s .nodes) × (top < 256) ⌝ }
     ensures { λ r. ⌜ Fronts s top (now (table .entry)) (now (table .exit)) ⌝ }
 {
-    let node = [0u8; 12];
+    let node = [0u8; 16];
     let mut l: u32 = 1;
     while l <= top {
         placement::edits::insert(
@@ -75,13 +76,21 @@ fn write_empty(table: &mut [u8], s: Sizes)
 }
 
 // Make: questions 1, 2, 3; then the image of no orders.
-pub fn make(table: &mut [u8], gamma: u32, nodes: u32, orders: u32, blocks: u32, seed: &[u8]) -> u32
-    ensures { λ r. ⌜ Make-says (parameters gamma nodes orders blocks (now (seed .entry))) r (now (table .entry)) (now (table .exit)) × (now (seed .exit) ≡ now (seed .entry)) ⌝ }
+pub fn make(
+    table: &mut [u8],
+    version: u32,
+    gamma: u32,
+    nodes: u32,
+    orders: u32,
+    blocks: u32,
+    seed: &[u8],
+) -> u32
+    ensures { λ r. ⌜ Make-says (parameters version gamma nodes orders blocks (now (seed .entry))) r (now (table .entry)) (now (table .exit)) × (now (seed .exit) ≡ now (seed .entry)) ⌝ }
 {
     if seed.len() != 40 {
         return 1;
     }
-    let s = sizes_of(gamma, nodes, orders, blocks, seed);
+    let s = sizes_of(version, gamma, nodes, orders, blocks, seed);
     if !seed_allowed(s) {
         return 1;
     }

@@ -7,22 +7,25 @@ ghost use Rattle.table.specs.Check.{longest, Mask, zeros-from, used-of, 
 use crate::Seen;
 use crate::Tally;
 use sizes::Sizes;
+use sizes::header::block_length;
+use sizes::header::row;
+use sizes::header::rows;
 
 // The bytes of the longest block: a head and 32 nodes.
-const LONGEST: usize = 392;
+const LONGEST: usize = 520;
 
 // The bytes of the mask: twice as many.
 const MASK: usize = 2 * LONGEST;
 
-// Where the unused bytes of a block start: at once in an empty one.
-fn used(level: u32, n: u32) -> usize
-    requires { ⌜ n < 256 ⌝ }
-    ensures { λ r. ⌜ r ≡ used-of level n ⌝ }
+// Where the unused bytes of a block start, with w bytes for each node: at once in an empty one.
+fn used(w: usize, level: u32, n: u32) -> usize
+    requires { ⌜ (w ≤ 16) × (n < 256) ⌝ }
+    ensures { λ r. ⌜ r ≡ used-of w level n ⌝ }
 {
     if level == 0 {
         return 0;
     }
-    8 + 12 * (n as usize)
+    8 + rows(w, n)
 }
 
 // One more block that is not empty.
@@ -69,7 +72,8 @@ pub fn sweep(table: &[u8], s: Sizes) -> Tally
     requires { ⌜ Shaped s (now table) ⌝ }
     ensures { λ r. ⌜ r ≡ swept s (now (table .entry)) ⌝ }
 {
-    let long = placement::labels::block_length(s) as usize;
+    let w = row(s);
+    let long = block_length(s) as usize;
     let m = s.blocks;
     let looked = mask();
     let mut clean = true;
@@ -79,7 +83,7 @@ pub fn sweep(table: &[u8], s: Sizes) -> Tally
         let at = placement::labels::offset(s, i);
         let level = sizes::numbers::wide(table[at]);
         let n = sizes::numbers::wide(table[at + 1]);
-        if !zeros(table, at, long, used(level, n), &looked) {
+        if !zeros(table, at, long, used(w, level, n), &looked) {
             clean = false;
             break;
         }

@@ -3,16 +3,19 @@ ghost use mathlib.Core.Path.{_≡_};
 ghost use mathlib.Core.Bool.{true};
 ghost use Prim.Native.Nat.{_+_, _*_, _-_, _<_, _≤_};
 ghost use lib.ListN.{length};
-ghost use Rattle.sizes.specs.Sizes.{seed-good};
+ghost use Rattle.sizes.specs.Sizes.{row, seed-good};
 ghost use Rattle.sizes.specs.Hash.{hash-from};
 ghost use Rattle.sizes.specs.Geometry.{Reckoned};
-ghost use Rattle.table.specs.Walk.{Walkable, node-of, wrong-seen, nothing-in, quantities-ok, fits-in, node-good, enters-ok, entered-seen, ended-seen, stops-at, nodes-by, enters-lowest, comes-ok, passed-seen, chunk-spot, empty-home, opens-of};
+ghost use Rattle.table.specs.Walk.{Walkable, wrong-seen, nothing-in, quantities-ok, price-ok, fits-in, node-good, enters-ok, entered-seen, ended-seen, stops-at, nodes-by, enters-lowest, comes-ok, passed-seen, chunk-spot, empty-home, opens-of};
 use crate::Seen;
 use placement::Found;
 use placement::Label;
 use placement::Order;
+use placement::rows::node_of;
 use sizes::Geometry;
 use sizes::PRIME;
+use sizes::Sizes;
+use sizes::header::row;
 
 // The walk of a table that is no image.
 fn wrong() -> Seen
@@ -23,20 +26,6 @@ fn wrong() -> Seen
         low: 0,
         orders: 0,
         chunks: 0,
-    }
-}
-
-pub fn node_of(table: &[u8], at: usize) -> Order
-    requires { ⌜ at + 12 ≤ length (now table) ⌝ }
-    ensures { λ r. ⌜ r ≡ node-of (now (table .entry)) at ⌝ }
-{
-    let key = sizes::numbers::be4(table, at);
-    let total = sizes::numbers::be4(table, at + 4);
-    let displayed = sizes::numbers::be4(table, at + 8);
-    Order {
-        key: key,
-        total: total,
-        displayed: displayed,
     }
 }
 
@@ -66,6 +55,22 @@ fn quantities(level: u32, n: Order) -> bool
     n.displayed <= n.total
 }
 
+// The price of a node: 0 above level 1 and for the front, and wherever nodes have none; else an order's is at least 1.
+pub fn priced(s: Sizes, level: u32, n: Order) -> bool
+    ensures { λ r. ⌜ r ≡ price-ok s level n ⌝ }
+{
+    if s.version == 1 {
+        return n.price == 0;
+    }
+    if level != 1 {
+        return n.price == 0;
+    }
+    if n.key == 0 {
+        return n.price == 0;
+    }
+    1 <= n.price
+}
+
 // Does a node fit into a partition? The first key is known, any other has exactly the level of its list.
 fn fits(q: Geometry, level: u32, first: u32, opens: bool, n: Order) -> bool
     requires { ⌜ (seed-good (q .sizes .seed) ≡ true) × (0 < q .sizes .gamma) × Reckoned q × (1 ≤ level) × (level ≤ q .top) ⌝ }
@@ -89,6 +94,9 @@ fn comes_by(q: Geometry, level: u32, first: u32, opens: bool, n: Order, x: Seen)
     ensures { λ r. ⌜ r ≡ node-good (q .sizes) level first opens n x ⌝ }
 {
     if !x.ok {
+        return false;
+    }
+    if !priced(q.sizes, level, n) {
         return false;
     }
     fits(q, level, first, opens, n)
@@ -164,6 +172,9 @@ fn comes(q: Geometry, first: u32, opens: bool, low: u32, n: Order) -> bool
     if PRIME <= n.key {
         return false;
     }
+    if !priced(q.sizes, 1, n) {
+        return false;
+    }
     fits(q, 1, first, opens, n)
 }
 
@@ -222,6 +233,7 @@ fn walk_lowest(table: &[u8], q: Geometry, first: u32, g: u32, x: Seen) -> Seen
     requires { ⌜ Walkable (q .sizes) (now table) × Reckoned q × (1 ≤ q .top) × (g ≡ hash-from 5 5 (q .sizes .seed) first) ⌝ }
     ensures { λ r. ⌜ r ≡ opens-of (q .sizes) (now (table .entry)) 1 first x ⌝ }
 {
+    let w = row(q.sizes);
     let mut seen = x;
     let mut number: u32 = 0;
     'blocks: while number < q.sizes.blocks {
@@ -238,14 +250,14 @@ fn walk_lowest(table: &[u8], q: Geometry, first: u32, g: u32, x: Seen) -> Seen
         let mut place = at + 8;
         let mut k = n;
         while 0 < k {
-            let o = node_of(table, place);
+            let o = node_of(table, q.sizes, place);
             if !comes(q, first, opens, low, o) {
                 seen = wrong();
                 break 'blocks;
             }
             opens = false;
             low = o.key + 1;
-            place += 12;
+            place += w;
             k -= 1;
         }
         seen = passed(n, low, seen);
@@ -298,22 +310,23 @@ pub fn walk_nodes(
     left: u32,
     x: Seen,
 ) -> Seen
-    requires { ⌜ Walkable (q .sizes) (now table) × Reckoned q × (2 ≤ level) × (level ≤ q .top) × (1 ≤ left) × (at + 12 * left ≤ length (now table)) ⌝ }
+    requires { ⌜ Walkable (q .sizes) (now table) × Reckoned q × (2 ≤ level) × (level ≤ q .top) × (1 ≤ left) × (at + row (q .sizes) * left ≤ length (now table)) ⌝ }
     ensures { λ r. ⌜ r ≡ nodes-by (opens-of (q .sizes) (now (table .entry)) (level - 1)) (q .sizes) (now (table .entry)) level first left at opens x ⌝ }
 {
+    let w = row(q.sizes);
     let mut y = x;
     let mut o = opens;
     let mut place = at;
     let mut k = left;
     let mut g = sizes::hash::hash(q.sizes, 5, sizes::numbers::be4(table, at));
     while 0 < k {
-        let n = node_of(table, place);
+        let n = node_of(table, q.sizes, place);
         if !comes_by(q, level, first, o, n, y) {
             return wrong();
         }
         let mut next: u32 = 0;
         if 1 < k {
-            let key = sizes::numbers::be4(table, place + 12);
+            let key = sizes::numbers::be4(table, place + w);
             next = sizes::hash::hash(q.sizes, 5, key);
             if absent(table, q, level - 1, key, next) {
                 return wrong();
@@ -322,7 +335,7 @@ pub fn walk_nodes(
         y = walk_partition(table, q, level - 1, n.key, g, y);
         g = next;
         o = false;
-        place += 12;
+        place += w;
         k -= 1;
     }
     y

@@ -25,7 +25,7 @@ use Rattle.readings.proofs.Laws.Answers.{known-image, known-at}
 use Rattle.readings.proofs.Laws.Replies.{sought-there, sought-key}
 use Rattle.edits.specs.Change.{Setting, Cancel-held}
 use Rattle.edits.proofs.Laws.Settings.{held-way}
-use Rattle.edits.proofs.Laws.EditAnswers.{refused, accepted, image-held, Held-at, held-at}
+use Rattle.edits.proofs.Laws.EditAnswers.{refused-4, refused, accepted, image-held, Held-at, held-at}
 
 module _ (k : ℕ) (os : List Order) (q : Sought) (e : q ≡ first-of (between k k os)) (o : Order) (z : q ≡ Is o) where
   pub seen-held : held (o .key) os ≡ true
@@ -39,8 +39,8 @@ module _ (k : ℕ) (os : List Order) (q : Sought) (e : q ≡ first-of (between k
 
 module _ (bs : List ℕ) (k : ℕ) where
   pub cancel-no-4 : is-image bs ≡ false → Cancel-says k 4 bs bs
-  unfolding Cancel-says refusal first-no asks-image
-  cancel-no-4 e = refused (cancel k) 4 bs (rw e) (λ z. omega arith)
+  unfolding Cancel-says
+  cancel-no-4 e = refused-4 (cancel k) bs e
 
   pub cancel-no-5 : is-image bs ≡ true → is-key k ≡ false → Cancel-says k 5 bs bs
   unfolding Cancel-says refusal asks first-no asks-image asks-key
@@ -52,13 +52,13 @@ module _ (bs : List ℕ) (k : ℕ) where
 
   module _ (e : is-image bs ≡ true) (h : held k (orders-in bs) ≡ true) where
     at : Held-at k (orders-in bs)
-    at = held-at k (orders-in bs) (good-up 1 (orders-in bs) (known-image bs e .good)) h
+    at = held-at k (orders-in bs) (good-up (sizes-in bs) 1 (orders-in bs) (known-image bs e .good)) h
 
     out-is : without k (orders-in bs) ≡ at .before ++ at .behind
     out-is =
         ap (without k) (at .is)
         ∙ subst (λ (n : ℕ). without n (at .before ++ at .own ∷ at .behind) ≡ at .before ++ at .behind) (at .key)
-        (without-here (at .before) (at .own) (at .behind) 1 (subst (Up 1) (at .is) (good-up 1 (orders-in bs) (known-image bs e .good))))
+        (without-here (at .before) (at .own) (at .behind) 1 (subst (Up 1) (at .is) (good-up (sizes-in bs) 1 (orders-in bs) (known-image bs e .good))))
 
     out-length : suc (length (without k (orders-in bs))) ≡ length (orders-in bs)
     out-length = rw (out-is, at .is) (simp length-append (omega arith))

@@ -5,7 +5,7 @@ use Prim.Native.Nat.{ℕ, zero, suc, _+_, _≤_, _<_}
 use native.Mathlib.Nat.{add-suc}
 use native.Mathlib.Omega.{arith}
 use lib.ListN.{length, length-append, length-map}
-use Rattle.sizes.specs.Sizes.{beta}
+use Rattle.sizes.specs.Sizes.{beta, row}
 use Rattle.sizes.specs.Hash.{level}
 use Rattle.sizes.specs.Header.{header}
 use Rattle.sizes.specs.declared.Sizes.{Sizes}
@@ -49,7 +49,7 @@ module _ (s : Sizes) (xs : List Order) (o : Order) (zs : List Order) (w : Settin
           let e = part-in s (suc j) xs o zs (all-up s xs o zs w) h in
           let v = seen s xs o zs w j low (xs ++ o ∷ zs) (xs ++ zs) (all-up s xs o zs w) bs b x (o ∷ qs) e (omega arith, behind) sc in
           let c = p (b .map) (b .full) (header s (length (xs ++ o ∷ zs))) (map (masked (suc j)) ps) (masked (suc j) o) (map (masked (suc j)) qs) (b .table)
-          (room s xs o zs w j low x (o ∷ qs) v (masked (suc j) o) (fine-masked (suc j) o (order-fine s xs o zs w)) few)
+          (room s xs o zs w j low x (o ∷ qs) v (masked (suc j) o) (fine-masked (row s) (suc j) o (order-fine s xs o zs w)) few)
           (rw map-append at (nodes (first-key ps) (ps ++ o ∷ qs) e)) (rw (length-map ps (masked (suc j))) (head-part-long s (suc j) xs)) in (
             next-first s xs o zs w j low x (o ∷ qs) v,
             one-changed s (xs ++ o ∷ zs) (xs ++ zs) (some-nodes s xs o zs w) (all-up s xs o zs w) (less-up s xs o zs w) j low bs b bs′ (first-key ps) (ps ++ o ∷ qs) (ps ++ qs)

@@ -8,7 +8,7 @@ use borrow.Author.Tests.{ne-eqb, le-leb, lt-leb}
 use borrow.Author.Needs.{fits-under}
 use mir.Syntax.{w32}
 use mir.Val.{Fits}
-use lib.Dec.{leb}
+use lib.Dec.{leb, eqb}
 use lib.ListN.{length}
 use Rattle.sizes.specs.Numbers.{big, field}
 use Rattle.sizes.specs.Sizes.{seed-good}
@@ -18,14 +18,15 @@ use Rattle.sizes.specs.declared.Sizes.{Sizes}
 use Rattle.placement.specs.declared.Order.{Order}
 use Rattle.sizes.proofs.Laws.Sizes.{Limits, limits}
 use Rattle.sizes.proofs.Laws.Numbers.{field-big}
-use Rattle.skiplist.specs.Image.{image, is-image, orders-in, quantities-good}
-use Rattle.skiplist.specs.Questions.{Question, ask, first-no, asks-image, asks-order, asks-enter, asks-amend, is-key, held}
+use Rattle.skiplist.specs.Image.{image, is-image, orders-in, price-good, quantities-good}
+use Rattle.skiplist.specs.Questions.{Question, first-no, price-allowed, asks-image, asks-order, asks-enter, asks-amend, is-key, held}
 use Rattle.skiplist.specs.Book.{Call, enter, amend, asks, changed, refusal, done}
 use Rattle.skiplist.proofs.Laws.Parts.{Up, below}
 use Rattle.skiplist.proofs.Laws.Shapes.{Place, there, absent, place, held-there, held-absent}
 use Rattle.skiplist.proofs.Laws.Questions.{passes}
 use Rattle.skiplist.proofs.Laws.Kept.{fits-parts, Kept}
 use Rattle.table.specs.Calls.{Edit-says, Enter-says, Amend-says}
+use Rattle.table.specs.Walk.{price-ok}
 use Rattle.readings.specs.Visit.{Known}
 use Rattle.readings.proofs.Laws.Answers.{known-image, known-at, known-long}
 use Rattle.readings.proofs.Laws.Replies.{key-least}
@@ -86,60 +87,104 @@ pub accepted : (c : Call) (bs bs′ : List ℕ) → refusal c bs ≡ 0 → bs′
 unfolding Edit-says done
 accepted c bs bs′ e h = (sym e, rw e h)
 
--- ---- 4, 5 and 6, which enter and amend share
+pub refused-4 : (c : Call) (bs : List ℕ) → is-image bs ≡ false → Edit-says c 4 bs bs
+unfolding refusal first-no asks-image
+refused-4 c bs e = refused c 4 bs (rw e) (λ z. omega arith)
 
-module _ (c : Bool) (k t d : ℕ) where
-  pub asked-4 : c ≡ false → 4 ≡ first-no (ask 4 c ∷ asks-order k t d)
-  unfolding first-no
-  asked-4 e = rw e
+module _ (bs : List ℕ) (o : Order) (e : is-image bs ≡ false) where
+  pub enter-no-4 : Enter-says (o .key) (o .total) (o .displayed) (o .price) 4 bs bs
+  unfolding Enter-says
+  enter-no-4 = refused-4 (enter (o .key) (o .total) (o .displayed) (o .price)) bs e
 
-  pub asked-5 : c ≡ true → (b : Bool) → b ≡ is-key k → b ≡ false → 5 ≡ first-no (ask 4 c ∷ asks-order k t d)
+  pub amend-no-4 : Amend-says (o .key) (o .total) (o .displayed) (o .price) 4 bs bs
+  unfolding Amend-says
+  amend-no-4 = refused-4 (amend (o .key) (o .total) (o .displayed) (o .price)) bs e
+
+-- ---- 14, 5 and 6, which enter and amend share
+
+module _ (s : Sizes) (p : ℕ) where
+  pub allowed-none : s .version ≡ 1 → eqb p 0 ≡ price-allowed s p
+  unfolding price-allowed
+  allowed-none e = rw e
+
+  pub allowed-some : (s .version ≡ 1 → ⊥) → true ≡ price-allowed s p
+  unfolding price-allowed
+  allowed-some e = rw (ne-eqb (s .version) 1 e)
+
+module _ (s : Sizes) (o : Order) where
+  abbrev number : ℕ
+  number = first-no (asks-order s (o .key) (o .total) (o .displayed) (o .price))
+
+  asked-by : (a b f : Bool) → price-allowed s (o .price) ≡ a → is-key (o .key) ≡ b → quantities-good s (o .total) (o .displayed) (o .price) ≡ f → number ≡ cond a (cond b (cond f 0 6) 5) 14
   unfolding first-no asks-order
-  asked-5 e b eb h = rw (e, ← eb, h)
+  asked-by a b f ea eb ef = rw (ea, eb, ef)
 
-  module _ (e : c ≡ true) (b : Bool) (eb : b ≡ is-key k) (h : b ≡ true) where
-    pub asked-6-none : t ≡ 0 → 6 ≡ first-no (ask 4 c ∷ asks-order k t d)
-    unfolding first-no asks-order quantities-good
-    asked-6-none z = rw (e, ← eb, h, lt-leb 1 t (omega arith))
+  module _ (a : Bool) (ea : a ≡ price-allowed s (o .price)) where
+    pub asked-14 : a ≡ false → 14 ≡ number
+    asked-14 h = sym (asked-by false _ _ (sym ea ∙ h) refl refl)
 
-    pub asked-6-less : t < d → 6 ≡ first-no (ask 4 c ∷ asks-order k t d)
-    unfolding first-no asks-order quantities-good
-    asked-6-less z = rw (e, ← eb, h, lt-leb d t z, and-false (leb 1 t && leb t 4294967295))
+    module _ (ha : a ≡ true) (b : Bool) (eb : b ≡ is-key (o .key)) where
+      pub asked-5 : b ≡ false → 5 ≡ number
+      asked-5 h = sym (asked-by true false _ (sym ea ∙ ha) (sym eb ∙ h) refl)
 
-    pub asked-0 : (t ≡ 0 → ⊥) → d ≤ t → t < 4294967296 → 0 ≡ first-no (ask 4 c ∷ asks-order k t d)
-    unfolding first-no asks-order quantities-good
-    asked-0 z g m = rw (e, ← eb, h, le-leb 1 t (omega (arith, z)), le-leb t 4294967295 (omega arith), le-leb d t g)
+      module _ (hb : b ≡ true) where
+        six : quantities-good s (o .total) (o .displayed) (o .price) ≡ false → 6 ≡ number
+        six h = sym (asked-by true true false (sym ea ∙ ha) (sym eb ∙ hb) h)
+
+        pub asked-6-none : o .total ≡ 0 → 6 ≡ number
+        unfolding quantities-good
+        asked-6-none z = six (rw (lt-leb 1 (o .total) (omega arith)))
+
+        pub asked-6-less : o .total < o .displayed → 6 ≡ number
+        unfolding quantities-good
+        asked-6-less z = six (rw (lt-leb (o .displayed) (o .total) z, and-false (leb 1 (o .total) && leb (o .total) 4294967295)))
+
+        -- a key is not the front's, so its price is that of an order
+        module _ (g : Bool) (eg′ : g ≡ price-ok s 1 o) where
+          eg : g ≡ price-good s (o .price)
+          unfolding price-ok
+          eg = eg′ ∙ rw (ne-eqb (o .key) 0 (omega (arith, key-least (o .key) b eb hb)))
+
+          pub asked-6-price : g ≡ false → 6 ≡ number
+          unfolding quantities-good
+          asked-6-price h = six (rw (← eg, h, and-false ((leb 1 (o .total) && leb (o .total) 4294967295) && leb (o .displayed) (o .total))))
+
+          pub asked-0 : g ≡ true → (o .total ≡ 0 → ⊥) → o .displayed ≤ o .total → o .total < 4294967296 → o .price < 4294967296 → 0 ≡ number
+          unfolding quantities-good
+          asked-0 h z l m n =
+              sym (asked-by true true true (sym ea ∙ ha) (sym eb ∙ hb)
+              (rw (← eg, h, le-leb 1 (o .total) (omega (arith, z)), le-leb (o .total) 4294967295 (omega arith), le-leb (o .displayed) (o .total) l, le-leb (o .price) 4294967295 (omega arith))))
 
 -- a key is at least 1
 pub key-some : (k : ℕ) → is-key k ≡ true → 1 ≤ k
 key-some k e = key-least k (is-key k) refl e
 
 -- .. and what they leave of the questions behind them
-module _ (bs : List ℕ) (c : Bool) (ec : c ≡ is-image bs) (k t d n : ℕ) (en : n ≡ first-no (ask 4 c ∷ asks-order k t d)) where
-  pub asked-sure : n ≡ 0 → Sure bs k t d
+module _ (bs : List ℕ) (i : is-image bs ≡ true) (s : Sizes) (es : s ≡ sizes-in bs) (o : Order) (n : ℕ) (en : n ≡ first-no (asks-order s (o .key) (o .total) (o .displayed) (o .price))) where
+  pub asked-sure : n ≡ 0 → Sure bs s o
   unfolding first-no asks-order
   asked-sure z =
-      let a = passes 3 c _ (sym en ∙ z) in
-      let b = passes 4 (is-key k) _ (a .1) in
-      record { image = sym ec ∙ a .0; key = b .0; quantities = passes 5 (quantities-good t d) 0 (b .1) .0 }
+      let a = passes 13 (price-allowed s (o .price)) _ (sym en ∙ z) in
+      let b = passes 4 (is-key (o .key)) _ (a .1) in
+      record { image = i; sizes-are = es; price = a .0; key = b .0; quantities = passes 5 (quantities-good s (o .total) (o .displayed) (o .price)) 0 (b .1) .0 }
 
-  asked-more : (qs : List Question) → (n ≡ 0 → ⊥) → first-no (asks-image bs ++ (asks-order k t d ++ qs)) ≡ n
+  asked-more : (qs : List Question) → (n ≡ 0 → ⊥) → first-no (asks-image bs ++ (asks-order (sizes-in bs) (o .key) (o .total) (o .displayed) (o .price) ++ qs)) ≡ n
   unfolding first-no asks-image asks-order
-  asked-more qs z = rw (← ec) (go c (is-key k) (quantities-good t d) en)
+  asked-more qs z = rw (i, ← es) (go (price-allowed s (o .price)) (is-key (o .key)) (quantities-good s (o .total) (o .displayed) (o .price)) en)
     where
-      go : (a b f : Bool) → n ≡ cond a (cond b (cond f 0 6) 5) 4 → cond a (cond b (cond f (first-no qs) 6) 5) 4 ≡ n
+      go : (a b f : Bool) → n ≡ cond a (cond b (cond f 0 6) 5) 14 → cond a (cond b (cond f (first-no qs) 6) 5) 14 ≡ n
       go true true true e = absurd (z e)
       go true true false e = sym e
       go true false f e = sym e
       go false b f e = sym e
 
-  pub enter-asked : (n ≡ 0 → ⊥) → Enter-says k t d n bs bs
+  pub enter-asked : (n ≡ 0 → ⊥) → Enter-says (o .key) (o .total) (o .displayed) (o .price) n bs bs
   unfolding Enter-says refusal asks asks-enter
-  enter-asked z = refused (enter k t d) n bs (asked-more _ z) z
+  enter-asked z = refused (enter (o .key) (o .total) (o .displayed) (o .price)) n bs (asked-more _ z) z
 
-  pub amend-asked : (n ≡ 0 → ⊥) → Amend-says k t d n bs bs
+  pub amend-asked : (n ≡ 0 → ⊥) → Amend-says (o .key) (o .total) (o .displayed) (o .price) n bs bs
   unfolding Amend-says refusal asks asks-amend
-  amend-asked z = refused (amend k t d) n bs (asked-more _ z) z
+  amend-asked z = refused (amend (o .key) (o .total) (o .displayed) (o .price)) n bs (asked-more _ z) z
 
 pub known-kept : (bs : List ℕ) (s : Sizes) → Known s bs → Kept s (orders-in bs)
 known-kept bs s w = record { good = w .good; fit = w .fit }

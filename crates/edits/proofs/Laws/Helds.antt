@@ -1,5 +1,5 @@
 -- The node of a held key of level 1: the way down to the key ends at it, at the head of a partition of its own or behind the nodes below it; with its
--- quantities replaced there, the table is the image of the orders with these quantities.
+-- quantities and price replaced there, the table is the image of the orders with these.
 use mathlib.Core.Path.{_≡_, refl, sym, ap, _∙_, subst}
 use mathlib.Core.Bool.{Bool, true, false}
 use mathlib.Core.List.{List, [], _∷_, _++_, append-assoc}
@@ -8,9 +8,11 @@ use native.Mathlib.Omega.{arith}
 use borrow.Author.Tests.{eqb-true, eqb-false, lt-ltb}
 use lib.Dec.{eqb}
 use lib.ListN.{length, length-append}
-use Rattle.sizes.specs.Sizes.{beta}
+use lib.Seq.{sets}
+use Rattle.sizes.specs.Sizes.{beta, row}
 use Rattle.sizes.specs.Hash.{level}
 use Rattle.sizes.specs.declared.Sizes.{Sizes}
+use Rattle.placement.specs.Chunks.{node-bytes}
 use Rattle.placement.specs.declared.Order.{Order}
 use Rattle.sizes.proofs.Laws.Round.{Which, which, less, same, more}
 use Rattle.sizes.proofs.Laws.Sizes.{limits}
@@ -21,7 +23,7 @@ use Rattle.skiplist.proofs.Laws.Nodes.{below-more}
 use Rattle.skiplist.proofs.Laws.Descent.{below-both, start-top, head-high, head-low}
 use Rattle.skiplist.proofs.Laws.Edits.{beta-least, level-least, head-part, tail-part, head-part-first, part-in, part-left, part-right, part-other}
 use Rattle.table.proofs.Laws.MaskedKeys.{head-most, tail-most}
-use Rattle.levels.specs.Edit.{Way, replaced}
+use Rattle.levels.specs.Edit.{Way}
 use Rattle.levels.specs.Ways.{Trek, trek, starting, down-in, way-down}
 use Rattle.levels.proofs.Laws.Leading.{Seated}
 use Rattle.levels.proofs.Laws.Arriving.{arrives}
@@ -63,10 +65,10 @@ module _ (s : Sizes) (xs : List Order) (y o : Order) (zs : List Order) (e : y .k
   two = limits s (w .sizes) .nodes-least
 
   -- AT THE HEAD of its own partition
-  high-done : 1 < level s (o .key) → replaced bs place o ≡ image s (xs ++ o ∷ zs)
+  high-done : 1 < level s (o .key) → sets bs place (node-bytes (row s) o) ≡ image s (xs ++ o ∷ zs)
   unfolding first-key
   high-done h =
-      swapped s xs y o zs e w v (o .key) 0 [] (tail-part s 1 zs) bs (replaced bs place o) (replace-at s (o .key) 0 o bs two place there) i refl
+      swapped s xs y o zs e w v (o .key) 0 [] (tail-part s 1 zs) bs (sets bs place (node-bytes (row s) o)) (replace-at s (o .key) 0 o bs two place there) i refl
       (omega (arith, tail-most s 1 zs, few-orders s xs o zs v))
       (subst (λ (g : ℕ). part s (xs ++ y ∷ zs) 1 g ≡ y ∷ tail-part s 1 zs) e (part-right s 1 xs y zs (all-up s xs y zs w) up-y))
       (part-right s 1 xs o zs (all-up s xs o zs v) h) (λ g n. go g n (eqb (first-key (head-part s 1 xs)) g) refl)
@@ -84,9 +86,9 @@ module _ (s : Sizes) (xs : List Order) (y o : Order) (zs : List Order) (e : y .k
           ∙ sym (part-other s 1 xs o zs (all-up s xs o zs v) g (eqb-false (first-key (head-part s 1 xs)) g z) n)
 
   -- BEHIND the nodes below it
-  low-done : level s (o .key) ≡ 1 → replaced bs place o ≡ image s (xs ++ o ∷ zs)
+  low-done : level s (o .key) ≡ 1 → sets bs place (node-bytes (row s) o) ≡ image s (xs ++ o ∷ zs)
   low-done h =
-      swapped s xs y o zs e w v (first-key (head-part s 1 xs)) (length (head-part s 1 xs)) (head-part s 1 xs) (tail-part s 1 zs) bs (replaced bs place o)
+      swapped s xs y o zs e w v (first-key (head-part s 1 xs)) (length (head-part s 1 xs)) (head-part s 1 xs) (tail-part s 1 zs) bs (sets bs place (node-bytes (row s) o))
       (replace-at s (first-key (head-part s 1 xs)) (length (head-part s 1 xs)) o bs two place there) i refl
       (simp length-append (omega (arith, head-most s 1 xs, tail-most s 1 zs, few-orders s xs o zs v)))
       (part-in s 1 xs y zs (all-up s xs y zs w) at-y) (part-in s 1 xs o zs (all-up s xs o zs v) h)
@@ -100,10 +102,10 @@ module _ (s : Sizes) (xs : List Order) (y o : Order) (zs : List Order) (e : y .k
           let n : length (head-part s 1 xs ++ y ∷ []) - 1 ≡ length (head-part s 1 xs) = omega (arith, length-append (head-part s 1 xs) (y ∷ [])) in
           rw (n, head-part-first s 1 xs (y ∷ [])) at (rw (head-low s xs y (key-pos s xs y zs w) at-y) at seat)
 
-  pub held-done : replaced bs place o ≡ image s (xs ++ o ∷ zs)
+  pub held-done : sets bs place (node-bytes (row s) o) ≡ image s (xs ++ o ∷ zs)
   held-done = go (which 1 (level s (o .key)))
     where
-      go : Which 1 (level s (o .key)) → replaced bs place o ≡ image s (xs ++ o ∷ zs)
+      go : Which 1 (level s (o .key)) → sets bs place (node-bytes (row s) o) ≡ image s (xs ++ o ∷ zs)
       go (less h) = high-done h
       go (same h) = low-done (sym h)
       go (more h) = absurd (omega (arith, h, level-least s (o .key)))

@@ -1,39 +1,32 @@
 -- What an order among others tells: keys rise, numbers are small; and how the partitions of a level change by it.
 use mathlib.Core.Path.{_≡_, sym, _∙_}
-use mathlib.Core.Bool.{true, _&&_}
+use mathlib.Core.Bool.{true}
 use mathlib.Core.List.{List, [], _∷_, _++_}
 use Prim.Native.Nat.{ℕ, suc, _+_, _≤_, _<_}
 use native.Mathlib.Omega.{arith}
-use borrow.Author.Tests.{ltb-true, leb-true, ne-eqb, eq-eqb, le-ltb}
-use lib.Dec.{ltb, leb}
+use borrow.Author.Tests.{ne-eqb, eq-eqb, le-ltb}
 use lib.ListN.{length, length-append}
-use Rattle.sizes.specs.Sizes.{prime}
+use Rattle.sizes.specs.Sizes.{row}
 use Rattle.sizes.specs.Hash.{level}
 use Rattle.placement.specs.Maps.{Fine}
 use Rattle.sizes.specs.declared.Sizes.{Sizes}
 use Rattle.placement.specs.declared.Order.{Order}
 use Rattle.sizes.proofs.Laws.Sizes.{limits}
 use Rattle.skiplist.specs.Lists.{first-key, chunks}
-use Rattle.skiplist.specs.Image.{image, quantities-good, orders-good, fits}
-use Rattle.skiplist.proofs.Laws.Parts.{Up, and-left, and-right, up-past, good-up, up-out, up-front, below, below-here, part, without-here}
+use Rattle.skiplist.specs.Image.{image, orders-good, fits}
+use Rattle.skiplist.proofs.Laws.Parts.{Up, up-past, good-up, up-out, up-front, below, below-here, part, without-here}
 use Rattle.skiplist.proofs.Laws.Shapes.{held-absent, up-behind, part-none}
 use Rattle.skiplist.proofs.Laws.Kept.{good-without, fits-parts, fits-fewer}
+use Rattle.skiplist.proofs.Laws.Sound.{fine-good}
 use Rattle.skiplist.proofs.Laws.Third.{good-at}
 use Rattle.skiplist.proofs.Laws.Edits.{head-part, part-with, with-part}
 use Rattle.levels.specs.Edit.{Way}
 use Rattle.edits.specs.Change.{Setting}
 use Rattle.table.proofs.Laws.MaskedKeys.{head-first-below}
 
-pub fine-good : (o : Order) → ltb (o .key) prime ≡ true → quantities-good (o .total) (o .displayed) ≡ true → Fine o
-unfolding quantities-good
-fine-good o k q =
-    let a = leb-true (o .total) 4294967295 (and-right (leb 1 (o .total)) (leb (o .total) 4294967295) (and-left (leb 1 (o .total) && leb (o .total) 4294967295) (leb (o .displayed) (o .total)) q)) in
-    let b = leb-true (o .displayed) (o .total) (and-right (leb 1 (o .total) && leb (o .total) 4294967295) (leb (o .displayed) (o .total)) q) in
-    record { key = omega (arith, ltb-true (o .key) prime k); total = omega arith; displayed = omega arith }
-
 module _ (s : Sizes) (xs : List Order) (o : Order) (zs : List Order) (w : Setting s xs o zs) where
   pub all-up : Up 1 (xs ++ o ∷ zs)
-  all-up = good-up 1 (xs ++ o ∷ zs) (w .good)
+  all-up = good-up s 1 (xs ++ o ∷ zs) (w .good)
 
   pub less-up : Up 1 (xs ++ zs)
   less-up = up-out xs o zs 1 all-up
@@ -50,8 +43,8 @@ module _ (s : Sizes) (xs : List Order) (o : Order) (zs : List Order) (w : Settin
   pub key-pos : 0 < o .key
   key-pos = up-past xs o zs 1 all-up
 
-  pub order-fine : Fine o
-  order-fine = let g = good-at xs o zs 1 (w .good) in fine-good o (g .key) (g .quantity)
+  pub order-fine : Fine (row s) o
+  order-fine = let g = good-at s xs o zs 1 (w .good) in fine-good s o (g .key) (g .quantity)
 
   pub some-nodes : 0 < s .nodes
   some-nodes = limits s (w .sizes) .nodes-some
@@ -62,8 +55,8 @@ module _ (s : Sizes) (xs : List Order) (o : Order) (zs : List Order) (w : Settin
   pub room-all : length (chunks s (xs ++ o ∷ zs)) ≤ s .blocks
   room-all = fits-parts s (xs ++ o ∷ zs) (w .fit) .room
 
-  pub less-good : orders-good 1 (xs ++ zs) ≡ true
-  less-good = rw (without-here xs o zs 1 all-up) at (good-without 1 (o .key) (xs ++ o ∷ zs) (w .good))
+  pub less-good : orders-good s 1 (xs ++ zs) ≡ true
+  less-good = rw (without-here xs o zs 1 all-up) at (good-without s 1 (o .key) (xs ++ o ∷ zs) (w .good))
 
   pub less-fit : fits s (xs ++ zs) ≡ true
   less-fit = fits-fewer s xs o zs some-nodes key-pos (w .fit)

@@ -1,4 +1,4 @@
--- An amend: the quantities of a node of level 1 change, and nothing else.
+-- An amend: the quantities and the price of a node of level 1 change, and nothing else.
 use mathlib.Core.Path.{_≡_, refl, sym, ap, _∙_, subst}
 use mathlib.Core.Bool.{Bool, true, false, cond}
 use mathlib.Core.List.{List, _∷_, _++_, map, map-append}
@@ -29,7 +29,7 @@ module _ (s : Sizes) (xs : List Order) (y o : Order) (zs : List Order) (e : y .k
   -- above level 1 the nodes have the key only
   masked-swap : (l : ℕ) → 1 < l → masked l y ≡ masked l o
   unfolding masked
-  masked-swap l h = rw (ne-eqb l 1 (omega arith)) (λ i. record { key = e i; total = 0; displayed = 0 })
+  masked-swap l h = rw (ne-eqb l 1 (omega arith)) (λ i. record { key = e i; total = 0; displayed = 0; price = 0 })
 
   pub part-swap : (l g : ℕ) → 1 < l → Up 1 (xs ++ y ∷ zs) → Up 1 (xs ++ o ∷ zs) → map (masked l) (part s (xs ++ y ∷ zs) l g) ≡ map (masked l) (part s (xs ++ o ∷ zs) l g)
   unfolding with-part
@@ -74,7 +74,7 @@ module _ (s : Sizes) (xs : List Order) (y o : Order) (zs : List Order) (e : y .k
     swapped f m ps qs bs bs′ r i n few a c h =
         let low : 1 ≤ beta s = omega (arith, beta-least s) in
         let t = subst (λ (x : List ℕ). Between s (xs ++ y ∷ zs) (xs ++ o ∷ zs) 1 x) (sym i) swap-start in
-        let k = r (t .map) (t .full) (header s (length (xs ++ y ∷ zs))) ps y qs (t .table) (order-fine s xs o zs v) e n few
+        let k = r (t .map) (t .full) (header s (length (xs ++ y ∷ zs))) ps y qs (t .table) (order-fine s xs o zs v) n
         (rw (masked-one (ps ++ y ∷ qs)) at
         (as-pieces s (xs ++ y ∷ zs) (some-nodes s xs y zs w) (all-up s xs y zs w) 1 (omega arith) low (t .map) f (ps ++ y ∷ qs) a (λ j. t .upto 1 f j (omega arith)))) in
         way-even s (xs ++ y ∷ zs) (xs ++ o ∷ zs) (w .good) (v .good) (v .fit) bs′

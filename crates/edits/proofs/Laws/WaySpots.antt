@@ -5,7 +5,7 @@ use Prim.Native.Nat.{ℕ, suc, _+_, _≤_}
 use native.Mathlib.Nat.{add-suc}
 use native.Mathlib.Omega.{arith}
 use lib.ListN.{length, length-append, length-map}
-use Rattle.sizes.specs.Sizes.{beta}
+use Rattle.sizes.specs.Sizes.{beta, row}
 use Rattle.sizes.specs.Header.{header}
 use Rattle.placement.specs.Maps.{Fine}
 use Rattle.sizes.specs.declared.Sizes.{Sizes}
@@ -57,7 +57,7 @@ module _ (s : Sizes) (xs : List Order) (o : Order) (zs : List Order) (w : Settin
 
   module _ (x : Spot) (qs : List Order) (e : Spotted x (head-part s (suc j) xs) qs) where
     -- what an edit asks
-    pub room : (y : Order) → Fine y → length (head-part s (suc j) xs) + length qs ≤ 65536 →
+    pub room : (y : Order) → Fine (row s) y → length (head-part s (suc j) xs) + length qs ≤ 65536 →
         Room s (suc j) (first-key (head-part s (suc j) xs)) (map (masked (suc j)) (head-part s (suc j) xs)) (map (masked (suc j)) qs) x y
     room y fine few = record {
       level = omega arith;

@@ -28,17 +28,17 @@ use Rattle.edits.specs.Change.{Between}
 use Rattle.edits.proofs.Laws.WayLevels.{counts-kept}
 
 -- no chunks above the top level, and none of level 0
-none-over : (s : Sizes) (os : List Order) → orders-good 1 os ≡ true → (l f i : ℕ) → beta s < l → map-of (chunks s os) l f i ≡ []
-none-over s os g l f i h = map-content l f i (chunks s os) (label 0 0 0) (chunks-rise s os (good-up 1 os g)) ∙ content-outside s l f i os h
+none-over : (s : Sizes) (os : List Order) → orders-good s 1 os ≡ true → (l f i : ℕ) → beta s < l → map-of (chunks s os) l f i ≡ []
+none-over s os g l f i h = map-content l f i (chunks s os) (label 0 0 0) (chunks-rise s os (good-up s 1 os g)) ∙ content-outside s l f i os h
 
-none-under : (s : Sizes) (os : List Order) → orders-good 1 os ≡ true → (f i : ℕ) → map-of (chunks s os) 0 f i ≡ []
-none-under s os g f i = map-content 0 f i (chunks s os) (label 0 0 0) (chunks-rise s os (good-up 1 os g)) ∙ content-level-zero s 0 f i os refl
+none-under : (s : Sizes) (os : List Order) → orders-good s 1 os ≡ true → (f i : ℕ) → map-of (chunks s os) 0 f i ≡ []
+none-under s os g f i = map-content 0 f i (chunks s os) (label 0 0 0) (chunks-rise s os (good-up s 1 os g)) ∙ content-level-zero s 0 f i os refl
 
 header-sets : (s : Sizes) (n k : ℕ) → sets (header s n) 11 (big 2 k) ≡ header s k
 unfolding header big
 header-sets s n k = refl
 
-module _ (s : Sizes) (old new : List Order) (g : orders-good 1 old ≡ true) (h : orders-good 1 new ≡ true) where
+module _ (s : Sizes) (old new : List Order) (g : orders-good s 1 old ≡ true) (h : orders-good s 1 new ≡ true) where
   -- from level k down: the levels above are the same
   pub way-start : made s ≡ true → fits s old ≡ true → (k : ℕ) → k ≤ beta s → ((l f i : ℕ) → k < l → l ≤ beta s → map-of (chunks s old) l f i ≡ map-of (chunks s new) l f i) →
       ((l : ℕ) → k < l → l ≤ beta s → count s l old ≡ count s l new) → Between s old new k (image s old)

@@ -52,7 +52,7 @@ module _ (s : Sizes) (bs : List ℕ) (y : ℕ) (xs zs : List Order) (w : Way s b
         (there s bs (suc y) xs zs w k lo hi (x .first) ex) (lower s bs (suc y) xs zs w k lo hi (x .first) ex) (upper s bs (suc y) xs zs w k lo hi (x .first) ex) fuel _ o
 
     -- .. ends at the last of its nodes, which heads the partition one level down
-    level-ends : Ends bs (level-told .trail) (last-of front (nodes k))
+    level-ends : Ends s bs (level-told .trail) (last-of front (nodes k))
     level-ends = level-told .ends front (λ e. absurd (omega (arith, head-part-long s k xs, length-map (head-part s k xs) (masked k))))
 
     level-first : level-told .trail .first ≡ last-from 0 (head-part s k xs)
@@ -62,7 +62,7 @@ module _ (s : Sizes) (bs : List ℕ) (y : ℕ) (xs zs : List Order) (w : Way s b
   -- THE LEVELS: x is where it comes from, o the output
   -- the last node of level 1 that is not above y: where it is, and where it stands
   pub record Ended (x : Trail) : Type 0 where
-    pub ends : Ends bs x (last-of front (nodes 1))
+    pub ends : Ends s bs x (last-of front (nodes 1))
     pub seat : Seated s bs 1 (first-key (head-part s 1 xs)) (length (head-part s 1 xs) - 1) (x .at)
 
   pub record Arrived (r : Trek) (k : ℕ) (x : Trail) (o : List ℕ) : Type 0 where
@@ -86,7 +86,7 @@ module _ (s : Sizes) (bs : List ℕ) (y : ℕ) (xs zs : List Order) (w : Way s b
     abbrev after : List ℕ
     after = numbers-in o (x .count) (map (stands-in (blocks s (xs ++ zs))) labels)
 
-    one-ends : Ends bs (one .trail) (last-of front (nodes (suc k)))
+    one-ends : Ends s bs (one .trail) (last-of front (nodes (suc k)))
     one-ends = level-ends (suc k) (omega arith) hi x ex o
 
     next-first : one .trail .first ≡ first-key (head-part s k xs)

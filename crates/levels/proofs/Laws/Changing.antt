@@ -1,4 +1,4 @@
--- The quantities of one node changed in place.
+-- One node changed in place.
 use mathlib.Core.Path.{_≡_, refl, sym, ap, _∙_}
 use mathlib.Core.List.{List, [], _∷_, _++_, append-assoc}
 use Prim.Native.Nat.{ℕ, zero, suc, _+_, _*_, _-_, _/_, _%_, _≤_, _<_}
@@ -7,7 +7,8 @@ use native.Mathlib.Nat.{zero-add, suc-mul, mul-le-mul-right}
 use native.Mathlib.Omega.{arith}
 use lib.ListN.{length, take, drop, replicate, length-append, length-drop, take-append-drop}
 use lib.Seq.{sets, sets-eq, length-sets, take-at, drop-at, drop-drop, drop-append-le, length-take-le}
-use Rattle.sizes.specs.Numbers.{big, rows}
+use Rattle.sizes.specs.Numbers.{rows}
+use Rattle.sizes.specs.Sizes.{row}
 use Rattle.sizes.specs.Header.{block-long}
 use Rattle.sizes.specs.Parts.{block-in, put-block}
 use Rattle.placement.specs.Labels.{label}
@@ -17,15 +18,16 @@ use Rattle.placement.specs.Maps.{Map, Table, Fine, with-nodes}
 use Rattle.sizes.specs.declared.Sizes.{Sizes}
 use Rattle.placement.specs.declared.Order.{Order}
 use Rattle.placement.specs.declared.Found.the-variants.{At}
-use Rattle.sizes.proofs.Laws.Numbers.{length-big}
-use Rattle.sizes.proofs.Laws.Parts.{sets-append, take-sets, drop-sets-add}
+use Rattle.sizes.proofs.Laws.Parts.{take-sets, drop-sets-add}
+use Rattle.sizes.proofs.Laws.Sizes.{row-least}
+use Rattle.sizes.proofs.Laws.HeaderLoops.{row-room}
 use Rattle.sizes.proofs.Laws.Headers.{sets-left}
 use Rattle.sizes.proofs.Laws.Bytes.{block-end}
 use Rattle.placement.proofs.Laws.Edits.{block-written}
 use Rattle.placement.proofs.Laws.Tables.{write-keeps, shaped}
-use Rattle.placement.proofs.Laws.Bridge.{nodes-long}
+use Rattle.placement.proofs.Laws.Bridge.{node-long, length-nodes}
 use Rattle.placement.proofs.Laws.Loops.{length-head}
-use Rattle.levels.specs.Edit.{Pieces, Elsewhere, Comes-in, most-listed, replaced}
+use Rattle.levels.specs.Edit.{Pieces, Elsewhere, Comes-in, replaced}
 use Rattle.levels.proofs.Laws.CarryFronts.{nodes-append}
 use Rattle.levels.proofs.Laws.Flushes.{fines-take, fines-drop, fines-append, not-none}
 use Rattle.levels.proofs.Laws.MapLabels.{with-other, with-number}
@@ -74,29 +76,23 @@ sets-inside l a z w v h g =
     sym (take-append-drop a (sets l (a + z) v))
     ∙ rw (take-sets a l (a + z) v (omega arith), here, sets-eq part l a (omega arith), lp, append-assoc (take a l) part (drop (a + w) l), drop-drop w a l)
 
--- A BLOCK with one node's quantities changed
-module _ (H Z : List ℕ) (A B : List Order) (y o : Order) (same : y .key ≡ o .key) (a : ℕ) (ea : a ≡ length H + 12 * length A + 4) where
-  pub node-changed : sets (H ++ nodes-bytes (A ++ y ∷ B) ++ Z) a (big 4 (o .total) ++ big 4 (o .displayed)) ≡ H ++ nodes-bytes (A ++ o ∷ B) ++ Z
-  unfolding rows node-bytes
-  node-changed =
-      let e : H ++ nodes-bytes (A ++ y ∷ B) ++ Z ≡ (H ++ nodes-bytes A ++ big 4 (o .key)) ++ (big 4 (y .total) ++ big 4 (y .displayed)) ++ (nodes-bytes B ++ Z) =
-      rw (nodes-append A (y ∷ B), ← same) (simp append-assoc) in
-      let e′ : H ++ nodes-bytes (A ++ o ∷ B) ++ Z ≡ (H ++ nodes-bytes A ++ big 4 (o .key)) ++ (big 4 (o .total) ++ big 4 (o .displayed)) ++ (nodes-bytes B ++ Z) =
-      rw (nodes-append A (o ∷ B)) (simp append-assoc) in
-      let lp : length (H ++ nodes-bytes A ++ big 4 (o .key)) ≡ a = simp length-append (omega (arith, nodes-long A, length-big 4 (o .key))) in
-      let lm : length (big 4 (o .total) ++ big 4 (o .displayed)) ≡ length (big 4 (y .total) ++ big 4 (y .displayed)) =
-      simp length-append (omega (arith, length-big 4 (o .total), length-big 4 (o .displayed), length-big 4 (y .total), length-big 4 (y .displayed))) in
-      ap (λ (u : List ℕ). sets u a (big 4 (o .total) ++ big 4 (o .displayed))) e ∙ sets-middle (H ++ nodes-bytes A ++ big 4 (o .key)) (big 4 (y .total) ++ big 4 (y .displayed)) (nodes-bytes B ++ Z) (big 4 (o .total) ++ big 4 (o .displayed)) a lp lm ∙ sym e′
+-- A BLOCK with one node changed
+module _ (s : Sizes) (H Z : List ℕ) (A B : List Order) where
+  around : (x : Order) → H ++ nodes-bytes (row s) (A ++ x ∷ B) ++ Z ≡ (H ++ nodes-bytes (row s) A) ++ node-bytes (row s) x ++ (nodes-bytes (row s) B ++ Z)
+  unfolding rows
+  around x = rw (nodes-append s A (x ∷ B)) (simp append-assoc)
 
--- BOTH QUANTITIES of node m of partition f of level 1 are replaced
+  pub node-changed : (y o : Order) (a : ℕ) → a ≡ length H + row s * length A → sets (H ++ nodes-bytes (row s) (A ++ y ∷ B) ++ Z) a (node-bytes (row s) o) ≡ H ++ nodes-bytes (row s) (A ++ o ∷ B) ++ Z
+  node-changed y o a ea =
+      let long = node-long (row s) (row-least s) in
+      rw (around y, around o)
+      (sets-middle (H ++ nodes-bytes (row s) A) (node-bytes (row s) y) (nodes-bytes (row s) B ++ Z) (node-bytes (row s) o) a (length-append H (nodes-bytes (row s) A) ∙ omega (arith, length-nodes s A)) (long o ∙ sym (long y)))
+
+-- NODE m of partition f of level 1 is replaced
 unfoldable pub Replaces : Sizes → (f m : ℕ) → Order → (bs bs′ : List ℕ) → Type 0
 Replaces s f m o bs bs′ =
-    (F : Map) (n : ℕ) (hd : List ℕ) (ps : List Order) (y : Order) (qs : List Order) → Table s F n hd bs → Fine o → y .key ≡ o .key → m ≡ length ps →
-    length (ps ++ y ∷ qs) ≤ most-listed → Pieces F (s .nodes) 1 f 0 (ps ++ y ∷ qs) → Comes-in s F n hd bs′ 1 f (ps ++ y ∷ qs) (ps ++ o ∷ qs)
-
-pub replace-made : (bs bs₁ bs₂ : List ℕ) (a : ℕ) (o : Order) → bs₁ ≡ sets bs (a + 4) (big 4 (o .total)) → bs₂ ≡ sets bs₁ (a + 8) (big 4 (o .displayed)) → bs₂ ≡ replaced bs a o
-unfolding replaced
-replace-made bs bs₁ bs₂ a o e₁ e₂ = e₂ ∙ rw e₁
+    (F : Map) (n : ℕ) (hd : List ℕ) (ps : List Order) (y : Order) (qs : List Order) → Table s F n hd bs → Fine (row s) o → m ≡ length ps →
+    Pieces F (s .nodes) 1 f 0 (ps ++ y ∷ qs) → Comes-in s F n hd bs′ 1 f (ps ++ y ∷ qs) (ps ++ o ∷ qs)
 
 module _ (s : Sizes) (f m : ℕ) (o : Order) (bs : List ℕ) (two : 2 ≤ s .nodes) (a : ℕ) (w : Seated s bs 1 f m a) where
   abbrev i : ℕ
@@ -109,23 +105,12 @@ module _ (s : Sizes) (f m : ℕ) (o : Order) (bs : List ℕ) (two : 2 ≤ s .nod
   j = w .block
 
   abbrev bs₂ : List ℕ
-  bs₂ = replaced bs a o
+  bs₂ = replaced (row s) bs a o
 
   place : (F : Map) (ps : List Order) (y : Order) (qs : List Order) → m ≡ length ps → Pieces F (s .nodes) 1 f 0 (ps ++ y ∷ qs) → Split (s .nodes) i r ps (y ∷ qs) (F 1 f i)
   place F ps y qs em p = split-at (s .nodes) m i r ps (y ∷ qs) (F 1 f i) two refl refl em (pieces-at F (s .nodes) 1 f (ps ++ y ∷ qs) i p)
 
-  abbrev quantities : List ℕ
-  quantities = big 4 (o .total) ++ big 4 (o .displayed)
-
-  -- both writes at once, in the block
-  both : bs₂ ≡ sets bs (53 + j * block-long s + (8 + 12 * r + 4)) quantities
-  unfolding replaced
-  both =
-      let z : a + 4 ≡ 53 + j * block-long s + (8 + 12 * r + 4) = omega (arith, w .is) in
-      let u : a + 8 ≡ a + 4 + length (big 4 (o .total)) = omega (arith, length-big 4 (o .total)) in
-      rw u (sym (sets-append bs (a + 4) (big 4 (o .total)) (big 4 (o .displayed))) ∙ rw z refl)
-
-  module _ (F : Map) (n : ℕ) (hd : List ℕ) (ps : List Order) (y : Order) (qs : List Order) (t : Table s F n hd bs) (fo : Fine o) (key : y .key ≡ o .key)
+  module _ (F : Map) (n : ℕ) (hd : List ℕ) (ps : List Order) (y : Order) (qs : List Order) (t : Table s F n hd bs) (fo : Fine (row s) o)
       (p : Pieces F (s .nodes) 1 f 0 (ps ++ y ∷ qs)) (u : Split (s .nodes) i r ps (y ∷ qs) (F 1 f i)) (v : Stood s F (label 1 f i) bs j) where
     -- the nodes of the chunk
     abbrev now : List Order
@@ -140,24 +125,26 @@ module _ (s : Sizes) (f m : ℕ) (o : Order) (bs : List ℕ) (two : 2 ≤ s .nod
     long : length now ≡ length (F 1 f i)
     long = length-append (take r (F 1 f i)) (o ∷ drop (suc r) (F 1 f i)) ∙ sym (ap length as-was ∙ length-append (take r (F 1 f i)) (y ∷ drop (suc r) (F 1 f i)))
 
-    block-is : sets (block-in (block-long s) bs j) (8 + 12 * r + 4) quantities ≡ block-with (block-long s) (label 1 f i) (length (F 1 f i)) (nodes-bytes now)
+    block-is : sets (block-in (block-long s) bs j) (8 + row s * r) (node-bytes (row s) o) ≡ block-with (block-long s) (label 1 f i) (length now) (nodes-bytes (row s) now)
     unfolding block-with
     block-is =
         let la : length (take r (F 1 f i)) ≡ r = length-take-le r (F 1 f i) (omega arith) in
+        let l : length (nodes-bytes (row s) now) ≡ length (nodes-bytes (row s) (F 1 f i)) = length-nodes s now ∙ rw long (sym (length-nodes s (F 1 f i))) in
         let hb = head-bytes (label 1 f i) (length (F 1 f i)) in
-        let zs : List ℕ = replicate (block-long s - 8 - 12 * length (F 1 f i)) 0 in
-        ap (λ (z : List ℕ). sets z (8 + 12 * r + 4) quantities)
-        (v .is ∙ sym (block-written s (label 1 f i) (F 1 f i) (v .held .nodes)) ∙ ap (λ (z : List Order). hb ++ nodes-bytes z ++ zs) as-was)
-        ∙ node-changed hb zs (take r (F 1 f i)) (drop (suc r) (F 1 f i)) y o key (8 + 12 * r + 4) (omega (arith, length-head (label 1 f i) (length (F 1 f i))))
+        let zs : List ℕ = replicate (block-long s - 8 - length (nodes-bytes (row s) (F 1 f i))) 0 in
+        ap (λ (z : List ℕ). sets z (8 + row s * r) (node-bytes (row s) o))
+        (v .is ∙ sym (block-written s (label 1 f i) (F 1 f i) (v .held .nodes)) ∙ ap (λ (z : List Order). hb ++ nodes-bytes (row s) z ++ zs) as-was)
+        ∙ node-changed s hb zs (take r (F 1 f i)) (drop (suc r) (F 1 f i)) y o (8 + row s * r) (rw (length-head (label 1 f i) (length (F 1 f i)), la))
+        ∙ rw (l, long)
 
-    bytes-are : bs₂ ≡ put-block (block-long s) bs j (block-with (block-long s) (label 1 f i) (length now) (nodes-bytes now))
+    bytes-are : bs₂ ≡ put-block (block-long s) bs j (block-with (block-long s) (label 1 f i) (length now) (nodes-bytes (row s) now))
     unfolding put-block block-in
     bytes-are =
         let h = shaped s F n hd bs t in
-        let l : length quantities ≡ 8 = length-append (big 4 (o .total)) (big 4 (o .displayed)) ∙ omega (arith, length-big 4 (o .total), length-big 4 (o .displayed)) in
-        both
-        ∙ sets-inside bs (53 + j * block-long s) (8 + 12 * r + 4) (block-long s) quantities (omega (arith, block-end j (s .blocks) (block-long s) (v .below))) (omega arith)
-        ∙ rw (block-is, long) refl
+        ap (λ (z : ℕ). sets bs z (node-bytes (row s) o)) (w .is)
+        ∙ sets-inside bs (53 + j * block-long s) (8 + row s * r) (block-long s) (node-bytes (row s) o) (omega (arith, block-end j (s .blocks) (block-long s) (v .below)))
+        (omega (arith, node-long (row s) (row-least s) o, row-room (row s) r (s .nodes) (u .less)))
+        ∙ rw block-is refl
 
     kept : Table s (with-nodes (label 1 f i) now F) n hd bs₂
     kept =
@@ -167,7 +154,7 @@ module _ (s : Sizes) (f m : ℕ) (o : Order) (bs : List ℕ) (two : 2 ≤ s .nod
           level = v .held .level;
           first = v .held .first;
           number = v .held .number;
-          fine = fines-append (take r (F 1 f i)) (o ∷ drop (suc r) (F 1 f i)) (fines-take r (F 1 f i) (v .held .fine)) (fo, fines-drop (suc r) (F 1 f i) (v .held .fine));
+          fine = fines-append (row s) (take r (F 1 f i)) (o ∷ drop (suc r) (F 1 f i)) (fines-take (row s) r (F 1 f i) (v .held .fine)) (fo, fines-drop (row s) (suc r) (F 1 f i) (v .held .fine));
           nodes = omega (arith, long);
         })
         (not-none now (omega (arith, long))))
@@ -193,4 +180,4 @@ module _ (s : Sizes) (f m : ℕ) (o : Order) (bs : List ℕ) (two : 2 ≤ s .nod
 
   pub replace-at : Replaces s f m o bs bs₂
   unfolding Replaces
-  replace-at F n hd ps y qs t fo key em few p = comes F n hd ps y qs t fo key p (place F ps y qs em p) (some-found s F n hd bs t (label 1 f i) (omega arith) (At j) (sym (w .found)) j refl)
+  replace-at F n hd ps y qs t fo em p = comes F n hd ps y qs t fo p (place F ps y qs em p) (some-found s F n hd bs t (label 1 f i) (omega arith) (At j) (sym (w .found)) j refl)

@@ -106,7 +106,7 @@ module _ (s : Sizes) (os : List Order) (b : 0 < s .nodes) (u : Up 1 os) (k : ℕ
 -- THE WAY DOWN to a key
 module _ (s : Sizes) (bs : List ℕ) (y : ℕ) (xs zs : List Order) (w : Way s bs y xs zs) where
   pub rising : Up 1 (xs ++ zs)
-  rising = good-up 1 (xs ++ zs) (w .orders)
+  rising = good-up s 1 (xs ++ zs) (w .orders)
 
   module _ (k : ℕ) (lo : 0 < k) (hi : k ≤ beta s) (f : ℕ) (ef : f ≡ first-key (head-part s k xs)) where
     pub there : Pieces (map-of (chunks s (xs ++ zs))) (s .nodes) k f 0 (map (masked k) (head-part s k xs) ++ map (masked k) (tail-part s k zs))

@@ -10,10 +10,12 @@ use borrow.Author.Tests.{ltb-true, ne-eqb, le-ltb, lt-ltb}
 use lib.Dec.{ltb}
 use lib.ListN.{length, getD, take, drop, length-append, length-take, length-drop, take-append-drop, List·getD-append}
 use lib.Seq.{drop-append-le, drop-drop}
-use Rattle.sizes.specs.Numbers.{field}
+use Rattle.sizes.specs.Numbers.{field, rows-in}
+use Rattle.sizes.specs.Sizes.{row}
 use Rattle.sizes.specs.Header.{block-long}
 use Rattle.placement.specs.Blocks.{Block}
 use Rattle.placement.specs.Chunks.{Chunk}
+use Rattle.placement.specs.Decode.{node-of, nodes-from}
 use Rattle.placement.specs.Labels.{label}
 use Rattle.placement.specs.Place.{search-in}
 use Rattle.placement.specs.Maps.{Map, Table}
@@ -22,7 +24,7 @@ use Rattle.placement.specs.declared.Order.{Order}
 use Rattle.placement.specs.declared.Found.{Found}
 use Rattle.placement.specs.declared.Found.the-variants.{At, Nothing}
 use Rattle.sizes.proofs.Laws.Sizes.{some-nodes}
-use Rattle.placement.proofs.Laws.Reading.{node-at, key-read, total-read, displayed-read}
+use Rattle.placement.proofs.Laws.Reading.{node-at, key-of, nodes-read, node-read}
 use Rattle.skiplist.specs.Paths.{labels-from, stands-in}
 use Rattle.skiplist.proofs.Laws.Parts.{Up, below, up-front, and-left, and-right}
 use Rattle.skiplist.proofs.Laws.Count.{pieces}
@@ -36,8 +38,8 @@ use Rattle.levels.proofs.Laws.Takes.{none-found, some-found, counted}
 use Rattle.levels.proofs.Laws.Chunking.{pieces-none, pieces-full, drop-past}
 
 -- A NODE stands in bytes
-abbrev pub Node-at : List ℕ → (at : ℕ) → Order → Type 0
-Node-at bs a o = (0 < a) × (field a 4 bs ≡ o .key) × (field (a + 4) 4 bs ≡ o .total) × (field (a + 8) 4 bs ≡ o .displayed)
+abbrev pub Node-at : Sizes → List ℕ → (at : ℕ) → Order → Type 0
+Node-at s bs a o = (0 < a) × (node-of (row s) bs a ≡ o)
 
 -- the last of some nodes, z where there is none
 unfoldable pub last-of : (z : Order) → List Order → Order
@@ -79,21 +81,15 @@ take-both (suc m) (p ∷ ps) qs =
     ap (λ (l : List Order). p ∷ l) (take-both m ps qs) ∙ ap (λ (i : ℕ). p ∷ (take m ps ++ take i qs)) (sym z)
 
 -- as many nodes as their keys in the bytes tell
-upto-read : (bs : List ℕ) (y : ℕ) (ps qs : List Order) (a : ℕ) → below (suc y) ps ≡ true → Up (suc y) qs →
-    ((j : ℕ) → j < length (ps ++ qs) → field (a + 12 * j) 4 bs ≡ node-at (ps ++ qs) j .key) → upto-in bs (length (ps ++ qs)) a y ≡ length ps
-unfolding upto-in below
-upto-read bs y [] [] a e u h = refl
-upto-read bs y [] (q ∷ qs) a e u h =
-    let z : a + 12 * 0 ≡ a = omega arith in
-    rw (lt-ltb y (field a 4 bs) (omega (arith, rw z at (h 0 (omega arith)), u .0)))
-upto-read bs y (p ∷ ps) qs a e u h =
-    let z : a + 12 * 0 ≡ a = omega arith in
+upto-read : (w : ℕ) (bs : List ℕ) (y : ℕ) (ps qs : List Order) (a : ℕ) → below (suc y) ps ≡ true → Up (suc y) qs →
+    nodes-from w (length (ps ++ qs)) (drop a bs) ≡ ps ++ qs → upto-in w bs (length (ps ++ qs)) a y ≡ length ps
+unfolding upto-in below node-of rows-in
+upto-read w bs y [] [] a e u h = refl
+upto-read w bs y [] (q ∷ qs) a e u h = rw (lt-ltb y (field a 4 bs) (omega (arith, key-of w bs a, ap (λ (l : List Order). node-at l 0 .key) h, u .0)))
+upto-read w bs y (p ∷ ps) qs a e u h =
     let low = ltb-true (p .key) (suc y) (and-left (ltb (p .key) (suc y)) (below (suc y) ps) e) in
-    rw (le-ltb y (field a 4 bs) (omega (arith, rw z at (h 0 (omega arith)), low)))
-    (ap suc (upto-read bs y ps qs (a + 12) (and-right (ltb (p .key) (suc y)) (below (suc y) ps) e) u (λ j g. moved j (h (suc j) (omega arith)))))
-  where
-    moved : (j : ℕ) → field (a + 12 * suc j) 4 bs ≡ node-at (ps ++ qs) j .key → field (a + 12 + 12 * j) 4 bs ≡ node-at (ps ++ qs) j .key
-    moved j g = let e : a + 12 + 12 * j ≡ a + 12 * suc j = omega arith in ap (λ (q : ℕ). field q 4 bs) e ∙ g
+    rw (le-ltb y (field a 4 bs) (omega (arith, key-of w bs a, ap (λ (l : List Order). node-at l 0 .key) h, low)))
+    (ap suc (upto-read w bs y ps qs (a + w) (and-right (ltb (p .key) (suc y)) (below (suc y) ps) e) u (rw drop-drop at (ap (drop 1) h))))
 
 -- A CHUNK of a table
 module _ (s : Sizes) (F : Map) (n : ℕ) (hd bs : List ℕ) (t : Table s F n hd bs) (k f : ℕ) (pos : 0 < k) where
@@ -112,12 +108,7 @@ module _ (s : Sizes) (F : Map) (n : ℕ) (hd bs : List ℕ) (t : Table s F n hd 
             let v = some-found s F n hd bs t (label k f j) pos (At b) er b refl in
             let c : getD bs (53 + b * block-long s + 1) 0 ≡ length (ps ++ qs) = counted s F n hd bs t (label k f j) pos (At b) er b refl _ refl ∙ ap length e in
             rw (c, le-ltb (s .nodes) (length (ps ++ qs)) (omega (arith, v .held .nodes, ap length e)))
-            (upto-read bs y ps qs (53 + b * block-long s + 8) l u (λ i g. moved b i (key-read s bs b (label k f j) (F k f j) (v .is) (v .held .nodes) (v .held .fine) i (omega (arith, g, ap length e)))))
-          where
-            moved : (b i : ℕ) → field (53 + b * block-long s + (8 + (12 * i + 0))) 4 bs ≡ node-at (F k f j) i .key → field (53 + b * block-long s + 8 + 12 * i) 4 bs ≡ node-at (ps ++ qs) i .key
-            moved b i g =
-                let z : 53 + b * block-long s + 8 + 12 * i ≡ 53 + b * block-long s + (8 + (12 * i + 0)) = omega arith in
-                ap (λ (q : ℕ). field q 4 bs) z ∙ g ∙ ap (λ (l : List Order). node-at l i .key) e
+            (upto-read (row s) bs y ps qs (53 + b * block-long s + 8) l u (rw e at (nodes-read s bs b (label k f j) (F k f j) (v .is) (v .held .fine))))
 
     module _ (full : 0 < length (F k f j)) where
       there : (b : ℕ) × (sought j ≡ At b)
@@ -137,30 +128,23 @@ module _ (s : Sizes) (F : Map) (n : ℕ) (hd bs : List ℕ) (t : Table s F n hd 
       chunk-block = rw (there .1) (sym (found-stands s F n hd bs t (label k f j) (there .0) pos (there .1)))
 
       -- its nodes, counted from 1
-      chunk-node : (i : ℕ) → 0 < i → i ≤ length (F k f j) → Node-at bs (node-place s (found-block (sought j)) i) (node-at (F k f j) (i - 1))
+      chunk-node : (i : ℕ) → 0 < i → i ≤ length (F k f j) → Node-at s bs (node-place s (found-block (sought j)) i) (node-at (F k f j) (i - 1))
       unfolding found-block node-place
       chunk-node i h g =
           let b = there .0 in
           let v = some-found s F n hd bs t (label k f j) pos (sought j) refl b (there .1) in
-          rw (there .1) (
-            omega arith,
-            moved b 0 (omega arith) (key-read s bs b (label k f j) (F k f j) (v .is) (v .held .nodes) (v .held .fine) (i - 1) (omega arith)),
-            moved b 4 (omega arith) (total-read s bs b (label k f j) (F k f j) (v .is) (v .held .nodes) (v .held .fine) (i - 1) (omega arith)),
-            moved b 8 (omega arith) (displayed-read s bs b (label k f j) (F k f j) (v .is) (v .held .nodes) (v .held .fine) (i - 1) (omega arith)),
-          )
-        where
-          moved : (b a : ℕ) {q x : ℕ} → q ≡ 53 + b * block-long s + (8 + (12 * (i - 1) + a)) → field (53 + b * block-long s + (8 + (12 * (i - 1) + a))) 4 bs ≡ x → field q 4 bs ≡ x
-          moved b a e h = ap (λ (z : ℕ). field z 4 bs) e ∙ h
+          let z : 53 + b * block-long s + (8 + row s * (i - 1)) ≡ 53 + b * block-long s + 8 + row s * (i - 1) = omega arith in
+          rw (there .1) (omega arith, ap (node-of (row s) bs) z ∙ node-read s bs b (label k f j) (F k f j) (v .is) (v .held .fine) (i - 1) (omega arith))
 
 -- WHERE THE WAY ENDS: at a node, whose key it has
-abbrev pub Ends : List ℕ → Trail → Order → Type 0
-Ends bs x z = (x .first ≡ z .key) × Node-at bs (x .at) z
+abbrev pub Ends : Sizes → List ℕ → Trail → Order → Type 0
+Ends s bs x z = (x .first ≡ z .key) × Node-at s bs (x .at) z
 
 -- WHERE NODE m of partition f of level k stands, counted from 0: in the block of its chunk
 pub record Seated (s : Sizes) (bs : List ℕ) (k f m a : ℕ) : Type 0 where
   pub block : ℕ
   pub found : search-in s bs (label k f (m / s .nodes)) ≡ At block
-  pub is : a ≡ 53 + block * block-long s + (8 + 12 * (m % s .nodes))
+  pub is : a ≡ 53 + block * block-long s + (8 + row s * (m % s .nodes))
 
 -- .. as node n of chunk j, counted from 1
 seated : (s : Sizes) (bs : List ℕ) (k f j b n m : ℕ) → search-in s bs (label k f j) ≡ At b → 0 < n → n ≤ s .nodes → m + 1 ≡ j * s .nodes + n → Seated s bs k f m (node-place s b n)
@@ -177,7 +161,7 @@ pub record Landed (s : Sizes) (bs : List ℕ) (bl : List (Block Chunk)) (k f : �
   pub trail : Trail
   pub is : r ≡ trek trail (numbers-in o (x .count) (map (stands-in bl) (labels-from (pieces (s .nodes) (length ps)) k f j)))
   pub count : trail .count ≡ x .count + pieces (s .nodes) (length ps)
-  pub ends : (z : Order) → (length ps ≡ 0 → Ends bs x z) → Ends bs trail (last-of z ps)
+  pub ends : (z : Order) → (length ps ≡ 0 → Ends s bs x z) → Ends s bs trail (last-of z ps)
   pub seat : (m : ℕ) → (length ps ≡ 0 → Seated s bs k f m (x .at)) → (0 < length ps → m + 1 ≡ j * s .nodes + length ps) → Seated s bs k f m (trail .at)
 
 module _ (s : Sizes) (bs : List ℕ) (bl : List (Block Chunk)) (k f : ℕ) where
@@ -188,14 +172,14 @@ module _ (s : Sizes) (bs : List ℕ) (bl : List (Block Chunk)) (k f : ℕ) where
   -- one chunk more, in block i
   landed-more : (r : Trek) (j : ℕ) (own rest : List Order) (x : Trail) (o : List ℕ) (i : ℕ) → i ≡ stands-in bl (label k f j) → search-in s bs (label k f j) ≡ At i → 0 < length own →
       length own ≤ s .nodes → (0 < length rest → length own ≡ s .nodes) →
-      pieces (s .nodes) (length (own ++ rest)) ≡ suc (pieces (s .nodes) (length rest)) → Node-at bs (node-place s i (length own)) (node-at own (length own - 1)) →
+      pieces (s .nodes) (length (own ++ rest)) ≡ suc (pieces (s .nodes) (length rest)) → Node-at s bs (node-place s i (length own)) (node-at own (length own - 1)) →
       Landed s bs bl k f r (suc j) rest (trod s bs i (length own) (trek x o) .trail) (trod s bs i (length own) (trek x o) .path) → Landed s bs bl k f r j (own ++ rest) x o
   unfolding numbers-in labels-from trod
   landed-more r j own rest x o i ei found some few full e h w = record {
     trail = w .trail;
     is = w .is ∙ rw (e, ← ei);
     count = omega (arith, w .count, e);
-    ends = λ z q. rw (last-append z own rest, last-at z own some) (w .ends (node-at own (length own - 1)) (λ g. (h .1, h)));
+    ends = λ z q. rw (last-append z own rest, last-at z own some) (w .ends (node-at own (length own - 1)) (λ g. (sym (key-of (row s) bs (node-place s i (length own))) ∙ ap (λ (q : Order). q .key) (h .1), h)));
     seat = λ m z g.
         w .seat m
         (λ q. seated s bs k f j i (length own) m found some few (omega (arith, g (omega (arith, length-append own rest)), length-append own rest)))
@@ -250,9 +234,9 @@ module _ (s : Sizes) (F : Map) (n : ℕ) (hd bs : List ℕ) (t : Table s F n hd 
         chunk-upto s F n hd bs t k f pos j y own high is (below-cut (suc y) (s .nodes) ps l .0)
         (up-front high (drop (s .nodes - length ps) qs) (suc y) (rw take-append-drop u))
 
-    node : Node-at bs (node-place s block (length own)) (node-at own (length own - 1))
+    node : Node-at s bs (node-place s block (length own)) (node-at own (length own - 1))
     node =
-        subst (Node-at bs (node-place s block (length own)))
+        subst (Node-at s bs (node-place s block (length own)))
         (ap (λ (z : List Order). node-at z (length own - 1)) is ∙ List·getD-append own high _ (length own - 1) (omega (arith, own-some)))
         (chunk-node s F n hd bs t k f pos j (omega (arith, many, own-some)) (length own) own-some many)
 

@@ -7,6 +7,7 @@ use native.Mathlib.Numerals.{add-one}
 use native.Mathlib.Omega.{arith}
 use lib.ListN.{length, take, drop, length-append, length-drop, length-take, take-append-drop}
 use lib.Seq.{sets, take-all, take-nil, drop-nil, drop-append-le}
+use Rattle.sizes.specs.Sizes.{row}
 use Rattle.placement.specs.Labels.{label}
 use Rattle.placement.specs.Chunks.{node-bytes}
 use Rattle.placement.specs.Maps.{Map, Table, Fines, with-nodes, cleared}
@@ -16,10 +17,10 @@ use Rattle.placement.proofs.Laws.Tables.{count-most}
 use Rattle.skiplist.specs.Lists.{masked}
 use Rattle.skiplist.proofs.Laws.Count.{pieces, pieces-cut}
 use Rattle.levels.specs.declared.Spot.{Spot}
-use Rattle.levels.specs.Edit.{Pieces, Elsewhere-both, Splits, Enters-below, Cancels-below}
+use Rattle.levels.specs.Edit.{Pieces, Elsewhere-both, followed, Splits, Enters-below, Cancels-below}
 use Rattle.levels.specs.Pour.{Front, one, Reads, Taken, Takes, Pours}
 use Rattle.levels.specs.Shift.{Stored, Stores}
-use Rattle.levels.proofs.Laws.CarryFronts.{front-rest, front-none, front-more}
+use Rattle.levels.proofs.Laws.CarryFronts.{front-none, front-followed}
 use Rattle.levels.proofs.Laws.Takes.{one-some}
 use Rattle.levels.proofs.Laws.Flushes.{fines-drop, fines-append, fines-there, not-none}
 use Rattle.levels.proofs.Laws.Chunking.{pieces-next, pieces-at, pieces-from, pieces-join, chunk-same, pieces-none, pieces-skip, number-half, pieces-half, pieces-full, one-pieces, drop-past, take-past}
@@ -43,7 +44,7 @@ module _ (b i r : ℕ) (ps : List Order) (e : i * b + r ≡ length ps) (h : r < 
 -- SPLIT: ps stay, and o starts partition g with qs
 module _ (s : Sizes) (F : Map) (m : ℕ) (hd bs : List ℕ) (k f g i r n : ℕ) (ch : List ℕ) (ps qs : List Order) (o : Order) (t : Table s F m hd bs) (two : 2 ≤ s .nodes) (pos : 0 < k)
     (first : g < 4294967296) (ne : f ≡ g → ⊥) (p : Pieces F (s .nodes) k f 0 (ps ++ qs)) (p′ : Pieces F (s .nodes) k g 0 []) (few : length (ps ++ qs) ≤ 65536)
-    (u : Chunk-read s F k f i r n ch ps qs) (fine : Fines (o ∷ drop r (F k f i)))
+    (u : Chunk-read s F k f i r n ch ps qs) (fine : Fines (row s) (o ∷ drop r (F k f i)))
     (room : m + pieces (s .nodes) (length ps) + pieces (s .nodes) (suc (length qs)) ≤ s .blocks + pieces (s .nodes) (length (ps ++ qs)))
     (bs₁ : List ℕ) (st : Stored s F m hd (label k f i) (take r (F k f i)) bs₁) where
   is : (o ∷ drop r (F k f i)) ++ drop (suc i * s .nodes) (ps ++ qs) ≡ o ∷ qs
@@ -60,7 +61,7 @@ module _ (s : Sizes) (F : Map) (m : ℕ) (hd bs : List ℕ) (k f g i r n : ℕ) 
   new-pieces : pieces (s .nodes) (length ((o ∷ drop r (F k f i)) ++ drop (suc i * s .nodes) (ps ++ qs))) ≡ pieces (s .nodes) (suc (length qs))
   new-pieces = ap (λ (z : List Order). pieces (s .nodes) (length z)) is
 
-  pub split-made : (count : ℕ) → count ≡ pieces (s .nodes) (length (ps ++ qs)) - (i + 1) → (cs : List ℕ) → Front cs (o ∷ drop r (F k f i)) → (bs₂ : List ℕ)
+  pub split-made : (count : ℕ) → count ≡ pieces (s .nodes) (length (ps ++ qs)) - (i + 1) → (cs : List ℕ) → Front (row s) cs (o ∷ drop r (F k f i)) → (bs₂ : List ℕ)
       → Pours s k f (i + 1) count g 0 (n - r + 1) bs₁ bs₂ cs → Splits s F m hd bs₂ k f g ps (o ∷ qs) (pieces (s .nodes) (length (ps ++ qs)))
   unfolding Pieces Pours Elsewhere-both
   split-made count ec cs fr bs₂ pr =
@@ -142,8 +143,8 @@ module _ (s : Sizes) (F : Map) (m : ℕ) (hd bs : List ℕ) (k f g i r : ℕ) (p
       let z : suc (length qs) - s .nodes ≡ length rest = omega (arith, length-drop (suc 0 * s .nodes) (y ∷ qs)) in
       pieces-full (s .nodes) (suc (length qs)) some (omega arith) ∙ rw z (omega (arith, one-some second (not-none second (omega (arith, second-long)))))
 
-  pub join-made : s .nodes ≤ 32 → (count : ℕ) → count ≡ pieces (s .nodes) (suc (length qs)) - (0 + 1) → length ca ≡ 768 → (cs : List ℕ)
-      → cs ≡ sets ca (12 * m₁) (take (12 * (m₂ - 1)) (drop 12 ch)) → (bs₃ : List ℕ) → Pours s k g 1 count f i (m₁ + m₂ - 1) bs₂ bs₃ cs
+  pub join-made : s .nodes ≤ 32 → (count : ℕ) → count ≡ pieces (s .nodes) (suc (length qs)) - (0 + 1) → length ca ≡ 1024 → (cs : List ℕ)
+      → cs ≡ followed (row s) m₁ 1 m₂ ca ch → (bs₃ : List ℕ) → Pours s k g 1 count f i (m₁ + m₂ - 1) bs₂ bs₃ cs
       → Splits s F m hd bs₃ k f g (ps ++ qs) [] (pieces (s .nodes) (length ps) + pieces (s .nodes) (suc (length qs)))
   unfolding Pieces Pours Elsewhere-both
   join-made max count ec long cs ecs bs₃ pr =
@@ -151,14 +152,14 @@ module _ (s : Sizes) (F : Map) (m : ℕ) (hd bs : List ℕ) (k f g i r : ℕ) (p
       let l₂ = second-long in
       let ld = length-drop 1 second in
       let lc = length-append (F k f i) (drop 1 second) in
-      let fr = front-more ca cs (F k f i) (drop 1 second) (12 * m₁) _ (tk₁ .front) (omega (arith, tk₁ .size))
-      (front-rest ch second 1 (m₂ - 1) (tk₂ .front) (omega (arith, tk₂ .size))) ecs (omega (arith, tk₁ .size)) in
+      let fr = front-followed s ca cs ch (F k f i) second (drop 1 second) m₁ 1 m₂ (tk₁ .front) (tk₁ .size) (tk₂ .front) (omega (arith, tk₂ .size)) (omega (arith, tk₂ .size))
+      (take-all (m₂ - 1) (drop 1 second) (omega (arith, tk₂ .size))) ecs (omega (arith, tk₁ .size, tk₂ .size)) in
       let q = pr (cleared (label k g 0) (cleared (label k f i) F)) (tk₂ .full) hd carry rest (tk₂ .table) fr (omega (arith, tk₁ .size, tk₂ .size)) (record {
         level = pos;
         first = first;
         fine =
-            fines-append (F k f i) (drop 1 second) (fines-there s F m hd bs k f i t)
-            (fines-drop 1 second (fines-there s (cleared (label k f i) F) (tk₁ .full) hd bs₁ k g 0 (tk₁ .table)));
+            fines-append (row s) (F k f i) (drop 1 second) (fines-there s F m hd bs k f i t)
+            (fines-drop (row s) 1 second (fines-there s (cleared (label k f i) F) (tk₁ .full) hd bs₁ k g 0 (tk₁ .table)));
         few = omega (arith, joined-pieces, pieces-half (s .nodes) (length (ps ++ qs)) two, length-append ps qs, length-append ps (y ∷ qs));
         some = some;
         short = omega arith;
@@ -201,7 +202,7 @@ module _ (s : Sizes) (k f : ℕ) (x : Spot) (bs : List ℕ) (two : 2 ≤ s .node
   enter-below-short h F m hd ps qs t rm p ne p′ some room = let u = chunk-read s k f x bs two i r n ei er ch₀ ch rd F m hd ps qs o t rm p in absurd (omega arith)
 
   pub enter-below-made : (count : ℕ) → count ≡ pieces (s .nodes) (x .size) - (i + 1) → r ≤ n → (bs₁ : List ℕ) → Stores s (label k f i) r bs bs₁ ch → (ca₀ ca₁ ca₂ : List ℕ)
-      → ca₁ ≡ sets ca₀ (12 * 0) (node-bytes (masked k o)) → ca₂ ≡ sets ca₁ 12 (take (12 * (n - r)) (drop (12 * r) ch)) → length ca₀ ≡ 768 → (bs₂ : List ℕ)
+      → ca₁ ≡ sets ca₀ (row s * 0) (node-bytes (row s) (masked k o)) → ca₂ ≡ followed (row s) 1 r n ca₁ ch → length ca₀ ≡ 1024 → (bs₂ : List ℕ)
       → Pours s k f (i + 1) count (o .key) 0 (n - r + 1) bs₁ bs₂ ca₂ → Enters-below s k f x o bs bs₂
   unfolding Enters-below Stores
   enter-below-made count ec h bs₁ st ca₀ ca₁ ca₂ e₁ e₂ long bs₂ pr F m hd ps qs t rm p ne p′ some room =
@@ -213,8 +214,8 @@ module _ (s : Sizes) (k f : ℕ) (x : Spot) (bs : List ℕ) (two : 2 ≤ s .node
         room = λ g z. absurd (omega (arith, ap length z));
       }) in
       split-made s F m hd bs k f (o .key) i r n ch ps qs (masked k o) t two (rm .level) (rm .fine .key) ne p p′ (rm .few) u
-      (fine-masked k o (rm .fine), fines-drop r (F k f i) (u .fine)) room bs₁ kept
-      count (ec ∙ rw (rm .size) refl) ca₂ (carry-split ch ca₀ ca₁ ca₂ (F k f i) (masked k o) n r (u .front) (u .size) h (omega arith) (omega arith) e₁ e₂) bs₂ pr
+      (fine-masked (row s) k o (rm .fine), fines-drop (row s) r (F k f i) (u .fine)) room bs₁ kept
+      count (ec ∙ rw (rm .size) refl) ca₂ (carry-split s ch ca₀ ca₁ ca₂ (F k f i) (masked k o) n r (u .front) (u .size) h (omega arith) (omega arith) e₁ e₂) bs₂ pr
 
 -- AS `cancel_below` ASKS
 module _ (s : Sizes) (k f g m w : ℕ) (bs : List ℕ) (two : 2 ≤ s .nodes) (max : s .nodes ≤ 32) (i count r n : ℕ) (ei : i ≡ m / s .nodes)
@@ -222,16 +223,16 @@ module _ (s : Sizes) (k f g m w : ℕ) (bs : List ℕ) (two : 2 ≤ s .nodes) (m
   pub cancel-below-none : n ≡ 0 → Cancels-below s k f g m w bs bs₂
   unfolding Cancels-below Takes
   cancel-below-none z F a hd ps y qs t pos first ne few em ew some p p′ =
-      let u₁ = tk₁ F a hd [] t pos (front-none ca₀) refl in
-      let u₂ = tk₂ (cleared (label k f i) F) (u₁ .full) hd [] (u₁ .table) pos (front-none ch₀) refl in
+      let u₁ = tk₁ F a hd [] t pos (front-none s ca₀) refl in
+      let u₂ = tk₂ (cleared (label k f i) F) (u₁ .full) hd [] (u₁ .table) pos (front-none s ch₀) refl in
       absurd (omega (arith, u₂ .size, ap length (second-is s F k f g i (y ∷ qs) ne p′), length-take (s .nodes) (y ∷ qs)))
 
-  pub cancel-below-made : count ≡ pieces (s .nodes) w - (0 + 1) → length ca₁ ≡ 768 → (ca₂ : List ℕ) → ca₂ ≡ sets ca₁ (12 * r) (take (12 * (n - 1)) (drop 12 ch))
+  pub cancel-below-made : count ≡ pieces (s .nodes) w - (0 + 1) → length ca₁ ≡ 1024 → (ca₂ : List ℕ) → ca₂ ≡ followed (row s) r 1 n ca₁ ch
       → (bs₃ : List ℕ) → Pours s k g 1 count f i (r + n - 1) bs₂ bs₃ ca₂ → Cancels-below s k f g m w bs bs₃
   unfolding Cancels-below Takes
   cancel-below-made ec long ca₂ e₂ bs₃ pr F a hd ps y qs t pos first ne few em ew some p p′ =
-      let u₁ = tk₁ F a hd [] t pos (front-none ca₀) refl in
-      let u₂ = tk₂ (cleared (label k f i) F) (u₁ .full) hd [] (u₁ .table) pos (front-none ch₀) refl in
+      let u₁ = tk₁ F a hd [] t pos (front-none s ca₀) refl in
+      let u₂ = tk₂ (cleared (label k f i) F) (u₁ .full) hd [] (u₁ .table) pos (front-none s ch₀) refl in
       join-made s F a hd bs k f g i (m % s .nodes) ps y qs t two pos first ne p p′ few some (rw (ei, ← em) (div-add-mod' m (s .nodes)))
       (mod-lt m (omega arith)) bs₁ ca₁ r u₁ bs₂ ch n u₂
       max count (ec ∙ rw ew refl) long ca₂ e₂ bs₃ pr

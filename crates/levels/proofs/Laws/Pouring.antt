@@ -11,6 +11,7 @@ use mir.Syntax.{w32}
 use mir.Val.{Fits}
 use lib.ListN.{length, take, drop, length-append, length-drop, length-take}
 use lib.Seq.{take-append-le, drop-append-le, take-all, take-nil, drop-nil}
+use Rattle.sizes.specs.Sizes.{row}
 use Rattle.placement.specs.Labels.{label}
 use Rattle.placement.specs.Maps.{Map, Table, Fines, with-nodes, cleared}
 use Rattle.placement.specs.Place.{Shaped}
@@ -32,10 +33,10 @@ pub record Pouring (s : Sizes) (F : Map) (m : ℕ) (hd : List ℕ) (k f j g q : 
   pub done : ℕ
   pub next : v ≡ q + done
   pub carry : List Order
-  pub front : Front cs carry
+  pub front : Front (row s) cs carry
   pub size : left ≡ length carry
   pub most : length carry < 2 * s .nodes
-  pub fine : Fines carry
+  pub fine : Fines (row s) carry
   pub todo : carry ++ drop (t * s .nodes) rest ≡ drop (done * s .nodes) (c ++ rest)
   pub filled : done * s .nodes ≤ length (c ++ rest)
   pub written : (i : ℕ) → i < done → map k g (q + i) ≡ take (s .nodes) (drop (i * s .nodes) (c ++ rest))
@@ -46,7 +47,7 @@ pub record Pouring (s : Sizes) (F : Map) (m : ℕ) (hd : List ℕ) (k f j g q : 
   pub count : full + t ≡ m + done
 
 module _ (s : Sizes) (F : Map) (m : ℕ) (hd : List ℕ) (k f j count g q : ℕ) (c rest : List Order) (pb : Pourable s F m k f j count g q c rest) where
-  pub pouring-start : (n : ℕ) (bs cs : List ℕ) → Table s F m hd bs → Front cs c → n ≡ length c → Pouring s F m hd k f j g q c rest 0 q n bs cs
+  pub pouring-start : (n : ℕ) (bs cs : List ℕ) → Table s F m hd bs → Front (row s) cs c → n ≡ length c → Pouring s F m hd k f j g q c rest 0 q n bs cs
   unfolding Pieces
   pouring-start n bs cs t fr en = record {
     map = F;
@@ -111,7 +112,7 @@ module _ (s : Sizes) (F : Map) (m : ℕ) (hd : List ℕ) (k f j count g q : ℕ)
             front = tk .front;
             size = tk .size;
             most = rw (length-append, here, length-take) (omega (arith, p .size));
-            fine = fines-append (p .carry) (p .map k f (j + t)) (p .fine) (fines-there s (p .map) (p .full) hd bs k f (j + t) (p .table));
+            fine = fines-append (row s) (p .carry) (p .map k f (j + t)) (p .fine) (fines-there s (p .map) (p .full) hd bs k f (j + t) (p .table));
             todo = chunk-behind (s .nodes) t rest (p .carry) (p .map k f (j + t)) _ here (p .todo);
             filled = p .filled;
             written = λ i a. cleared-other (p .map) (λ x y w. pb .apart (sym y)) ∙ p .written i a;
@@ -172,7 +173,7 @@ module _ (s : Sizes) (F : Map) (m : ℕ) (hd : List ℕ) (k f j count g q : ℕ)
               front = fr;
               size = er;
               most = rw length-drop (omega (arith, p .most));
-              fine = fines-drop (s .nodes) (p .carry) (p .fine);
+              fine = fines-drop (row s) (s .nodes) (p .carry) (p .fine);
               todo =
                   sym (drop-append-le (s .nodes) (p .carry) (drop (t * s .nodes) rest) a) ∙ ap (drop (s .nodes)) (p .todo) ∙ drop-next (s .nodes) (p .done) (c ++ rest);
               filled = omega (arith, whole-long, suc-mul (p .done) (s .nodes), pb .some);
@@ -237,8 +238,10 @@ module _ (s : Sizes) (F : Map) (m : ℕ) (hd : List ℕ) (k f j count g q : ℕ)
 
 -- AS `pour` ASKS: what its loop keeps, from where it begins, after the first flush
 pub record Turning (s : Sizes) (k f j count g q v₀ left₀ : ℕ) (bs₀ cs₀ : List ℕ) (t v left : ℕ) (bs cs : List ℕ) : Type 0 where
+  pub two : 2 ≤ s .nodes
+  pub room : q + 1 + count < 4294967296
   pub shaped : Shaped s bs
-  pub long : length cs ≡ 768
+  pub long : length cs ≡ 1024
   pub within : t ≤ count
   pub short : left < s .nodes
   pub next : v ≤ q + 1 + t
@@ -250,9 +253,11 @@ pub first-fits : (q count b n : ℕ) → q + 1 + count < 4294967296 → 2 ≤ b 
 first-fits q count b n room two most = fits-under w32 (q + n / b) 4294967296 (omega (arith, quotient-most b n (omega arith) most)) tt
 
 module _ (s : Sizes) (k f j count g q : ℕ) where
-  pub turning-start : (n : ℕ) (cs₀ bs cs : List ℕ) (r : ℕ) → 2 ≤ s .nodes → n < 2 * s .nodes → length cs₀ ≡ 768 → Kept s bs cs₀ cs → (n < 2 * s .nodes → r < s .nodes)
+  pub turning-start : (n : ℕ) (cs₀ bs cs : List ℕ) (r : ℕ) → 2 ≤ s .nodes → q + 1 + count < 4294967296 → n < 2 * s .nodes → length cs₀ ≡ 1024 → Kept s bs cs₀ cs → (n < 2 * s .nodes → r < s .nodes)
       → Turning s k f j count g q (q + n / s .nodes) r bs cs 0 (q + n / s .nodes) r bs cs
-  turning-start n cs₀ bs cs r two most long kept less = record {
+  turning-start n cs₀ bs cs r two room most long kept less = record {
+    two = two;
+    room = room;
     shaped = kept .shaped;
     long = kept .long ∙ long;
     within = omega arith;
@@ -262,21 +267,23 @@ module _ (s : Sizes) (k f j count g q : ℕ) where
   }
 
   module _ (v₀ left₀ : ℕ) (bs₀ cs₀ : List ℕ) (t v left : ℕ) (bs cs : List ℕ) (i : Turning s k f j count g q v₀ left₀ bs₀ cs₀ t v left bs cs) where
-    pub next-fits : (r : ℕ) → q + 1 + count < 4294967296 → 2 ≤ s .nodes → t < count → r ≤ left + s .nodes → Fits w32 (v + r / s .nodes)
-    next-fits r room two h most =
-        fits-under w32 (v + r / s .nodes) 4294967296 (omega (arith, i .next, i .short, quotient-most (s .nodes) r (omega arith) (omega (arith, i .short)))) tt
+    pub next-fits : (r : ℕ) → t < count → r ≤ left + s .nodes → Fits w32 (v + r / s .nodes)
+    next-fits r h most =
+        fits-under w32 (v + r / s .nodes) 4294967296 (omega (arith, i .next, i .room, quotient-most (s .nodes) r (omega (arith, i .two)) (omega (arith, i .short)))) tt
 
-    pub turning-more : 2 ≤ s .nodes → t < count → (bs₁ cs₁ : List ℕ) (r : ℕ) → Kept s bs₁ cs cs₁ → r ≤ left + s .nodes
+    pub turning-more : t < count → (bs₁ cs₁ : List ℕ) (r : ℕ) → Kept s bs₁ cs cs₁ → r ≤ left + s .nodes
         → Takes s (label k f (j + t)) left bs bs₁ cs cs₁ r → (bs₂ cs₂ : List ℕ) (r₂ : ℕ) → Kept s bs₂ cs₁ cs₂ → (r < 2 * s .nodes → r₂ < s .nodes) → Flushes s (label k g v) r bs₁ bs₂ cs₁ cs₂ r₂
         → Turning s k f j count g q v₀ left₀ bs₀ cs₀ (t + 1) (v + r / s .nodes) r₂ bs₂ cs₂
-    turning-more two h bs₁ cs₁ r kept₁ most tk bs₂ cs₂ r₂ kept₂ less fl =
+    turning-more h bs₁ cs₁ r kept₁ most tk bs₂ cs₂ r₂ kept₂ less fl =
         let e : r < 2 * s .nodes = omega (arith, i .short) in
         record {
+          two = i .two;
+          room = i .room;
           shaped = kept₂ .shaped;
           long = kept₂ .long ∙ kept₁ .long ∙ i .long;
           within = omega arith;
           short = less e;
-          next = omega (arith, i .next, quotient-most (s .nodes) r (omega arith) e);
+          next = omega (arith, i .next, quotient-most (s .nodes) r (omega (arith, i .two)) e);
           on = λ F m hd c rest pb p₀.
               let p = pouring-take s F m hd k f j count g q c rest pb t v left bs cs (i .on F m hd c rest pb p₀) h (i .short) bs₁ cs₁ r tk in
               rw add-one (pouring-flush s F m hd k f j count g q c rest pb (suc t) v r bs₁ cs₁ p h bs₂ cs₂ r₂ fl);

@@ -8,6 +8,7 @@ use native.Mathlib.Numerals.{add-one}
 use native.Mathlib.Omega.{arith}
 use lib.ListN.{length, take, drop, length-append, length-drop, length-take}
 use lib.Seq.{drop-drop, take-append-le, drop-append-le, take-at, drop-at}
+use Rattle.sizes.specs.Sizes.{row}
 use Rattle.placement.specs.Maps.{Map, Table, Fines}
 use Rattle.sizes.specs.declared.Sizes.{Sizes}
 use Rattle.placement.specs.declared.Order.{Order}
@@ -66,7 +67,7 @@ behind-held b i r ps y qs c x =
 
 -- A PARTITION SHIFTED FROM CHUNK i ON: the nodes behind ps were x and are y, and the carry has those of chunk i
 module _ (s : Sizes) (F : Map) (n : ℕ) (hd bs : List ℕ) (k f i : ℕ) (ps x y c : List Order) (t : Table s F n hd bs) (two : 2 ≤ s .nodes) (pos : 0 < k) (first : f < 4294967296)
-    (p : Pieces F (s .nodes) k f 0 (ps ++ x)) (low : i * s .nodes ≤ length ps) (few : length (ps ++ y) ≤ 65537) (fine : Fines c) (short : length c ≤ s .nodes + 1)
+    (p : Pieces F (s .nodes) k f 0 (ps ++ x)) (low : i * s .nodes ≤ length ps) (few : length (ps ++ y) ≤ 65537) (fine : Fines (row s) c) (short : length c ≤ s .nodes + 1)
     (is : c ++ drop (suc i * s .nodes) (ps ++ x) ≡ drop (i * s .nodes) (ps ++ y))
     (room : n + pieces (s .nodes) (length (ps ++ y)) ≤ s .blocks + pieces (s .nodes) (length (ps ++ x))) where
   some : 0 < s .nodes
@@ -75,7 +76,7 @@ module _ (s : Sizes) (F : Map) (n : ℕ) (hd bs : List ℕ) (k f i : ℕ) (ps x 
   from-number : (z : List Order) → pieces (s .nodes) (length (ps ++ z)) ≡ i + pieces (s .nodes) (length (drop (i * s .nodes) (ps ++ z)))
   from-number z = pieces-skip (s .nodes) (length (ps ++ z)) i some (omega (arith, length-append ps z)) ∙ rw (length-drop (i * s .nodes) (ps ++ z)) refl
 
-  pub change-in : (count : ℕ) → count ≡ pieces (s .nodes) (length (ps ++ x)) - (i + 1) → (cs : List ℕ) → Front cs c → (m : ℕ) → m ≡ length c → (bs₂ : List ℕ)
+  pub change-in : (count : ℕ) → count ≡ pieces (s .nodes) (length (ps ++ x)) - (i + 1) → (cs : List ℕ) → Front (row s) cs c → (m : ℕ) → m ≡ length c → (bs₂ : List ℕ)
       → Shifts s k f i count m bs bs₂ cs
       → Comes-in s F n hd bs₂ k f (ps ++ x) (ps ++ y)
   unfolding Elsewhere Shifts

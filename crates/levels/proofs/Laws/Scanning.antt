@@ -4,15 +4,17 @@ use mathlib.Core.Logic.{_≢_}
 use mathlib.Core.Bool.{true}
 use mathlib.Core.List.{List, [], _∷_, _++_}
 use Prim.Native.Nat.{ℕ, zero, suc, _+_, _*_, _-_, _≤_, _<_}
-use native.Mathlib.Nat.{zero-mul, add-zero, sub-zero, suc-mul, mul-le-mul-right}
+use native.Mathlib.Nat.{zero-mul, mul-zero, add-zero, sub-zero, suc-mul, mul-le-mul-right}
 use native.Mathlib.Numerals.{add-one}
 use native.Mathlib.Omega.{arith}
 use borrow.Author.Tests.{ltb-true, lt-ltb, le-ltb}
 use lib.Dec.{ltb}
 use lib.ListN.{length, getD, take, drop, length-append, length-take, length-drop}
-use lib.Seq.{take-all, take-add}
-use Rattle.sizes.specs.Numbers.{field}
+use lib.Seq.{take-all, take-add, drop-drop}
+use Rattle.sizes.specs.Numbers.{field, rows-in}
+use Rattle.sizes.specs.Sizes.{row}
 use Rattle.sizes.specs.Header.{block-long}
+use Rattle.placement.specs.Decode.{node-of, nodes-from}
 use Rattle.placement.specs.Labels.{label}
 use Rattle.placement.specs.Place.{search-in, taken-out}
 use Rattle.placement.specs.Maps.{Map, Table, cleared}
@@ -22,7 +24,7 @@ use Rattle.placement.specs.declared.Found.{Found}
 use Rattle.placement.specs.declared.Found.the-variants.{At, Nothing}
 use Rattle.sizes.proofs.Laws.Sizes.{some-nodes}
 use Rattle.placement.proofs.Laws.Tables.{count-most, count-some, remove-keeps}
-use Rattle.placement.proofs.Laws.Reading.{node-at, key-read}
+use Rattle.placement.proofs.Laws.Reading.{key-of, nodes-read}
 use Rattle.skiplist.proofs.Laws.Parts.{Up, below, and-left, and-right}
 use Rattle.skiplist.proofs.Laws.Count.{pieces}
 use Rattle.skiplist.proofs.Laws.Descent.{last-from}
@@ -30,6 +32,7 @@ use Rattle.levels.specs.declared.Spot.{Spot}
 use Rattle.levels.specs.Edit.{Pieces, most-nodes, Scans}
 use Rattle.levels.specs.Scan.{passed, passes}
 use Rattle.levels.proofs.Laws.MapLabels.{cleared-other}
+use Rattle.levels.proofs.Laws.Ways.{rows-next}
 use Rattle.levels.proofs.Laws.Takes.{none-found, some-found, counted}
 use Rattle.levels.proofs.Laws.Chunking.{pieces-at, pieces-under, pieces-over}
 
@@ -43,40 +46,40 @@ module _ (key y : ℕ) (x : Spot) where
   unfolding passed
   passed-high h = rw (le-ltb key y h)
 
--- THE NODES of a chunk
-pub record Passing (bs : List ℕ) (n at y : ℕ) (x : Spot) (i : ℕ) (z : Spot) : Type 0 where
+-- THE NODES of a chunk, of w bytes each
+pub record Passing (w : ℕ) (bs : List ℕ) (n at y : ℕ) (x : Spot) (i : ℕ) (z : Spot) : Type 0 where
   pub within : i ≤ n
   pub few : z .below ≤ z .size
   pub long : z .size ≡ x .size + i
-  pub rest : passes bs n at y x ≡ passes bs (n - i) (at + 12 * i) y z
+  pub rest : passes w bs n at y x ≡ passes w bs (n - i) (at + w * i) y z
 
-module _ (bs : List ℕ) (n at y : ℕ) (x : Spot) where
-  pub passing-start : x .below ≤ x .size → Passing bs n at y x 0 x
-  passing-start h = record { within = omega arith; few = h; long = omega arith; rest = rw (sub-zero, add-zero) }
+module _ (w : ℕ) (bs : List ℕ) (n at y : ℕ) (x : Spot) where
+  pub passing-start : x .below ≤ x .size → Passing w bs n at y x 0 x
+  passing-start h = record { within = omega arith; few = h; long = omega arith; rest = rw (sub-zero, mul-zero, add-zero) }
 
-  module _ (i : ℕ) (z : Spot) (p : Passing bs n at y x i z) where
-    pub passing-more : i < n → (key : ℕ) (w : Spot) → key ≡ field (at + 12 * i) 4 bs → w ≡ passed key y z → w .below ≤ w .size → w .size ≡ z .size + 1 →
-        Passing bs n at y x (i + 1) w
+  module _ (i : ℕ) (z : Spot) (p : Passing w bs n at y x i z) where
+    pub passing-more : i < n → (key : ℕ) (v : Spot) → key ≡ field (at + w * i) 4 bs → v ≡ passed key y z → v .below ≤ v .size → v .size ≡ z .size + 1 →
+        Passing w bs n at y x (i + 1) v
     unfolding passes
-    passing-more h key w ek ew few long =
+    passing-more h key v ek ev few long =
         let e : n - i ≡ suc (n - (i + 1)) = omega arith in
-        let f : at + 12 * i + 12 ≡ at + 12 * (i + 1) = omega arith in
+        let f : at + w * i + w ≡ at + w * (i + 1) = omega (arith, rows-next w i) in
         record {
           within = omega arith;
           few = few;
           long = omega (arith, p .long);
           rest =
               p .rest
-              ∙ ap (λ (j : ℕ). passes bs j (at + 12 * i) y z) e
-              ∙ ap (λ (a : ℕ). passes bs (n - (i + 1)) a y (passed (field (at + 12 * i) 4 bs) y z)) f
-              ∙ ap (passes bs (n - (i + 1)) (at + 12 * (i + 1)) y) (sym (ew ∙ ap (λ (q : ℕ). passed q y z) ek));
+              ∙ ap (λ (j : ℕ). passes w bs j (at + w * i) y z) e
+              ∙ ap (λ (a : ℕ). passes w bs (n - (i + 1)) a y (passed (field (at + w * i) 4 bs) y z)) f
+              ∙ ap (passes w bs (n - (i + 1)) (at + w * (i + 1)) y) (sym (ev ∙ ap (λ (q : ℕ). passed q y z) ek));
         }
 
-    pub passing-end : n ≤ i → z ≡ passes bs n at y x
+    pub passing-end : n ≤ i → z ≡ passes w bs n at y x
     unfolding passes
     passing-end h =
         let e : n - i ≡ 0 = omega arith in
-        sym (p .rest ∙ ap (λ (j : ℕ). passes bs j (at + 12 * i) y z) e)
+        sym (p .rest ∙ ap (λ (j : ℕ). passes w bs j (at + w * i) y z) e)
 
 -- nodes as a list
 unfoldable pub passed-all : (y : ℕ) → List Order → Spot → Spot
@@ -120,18 +123,14 @@ passed-both y ps qs l u w ew =
     let m : w .size ≡ length (ps ++ qs) = rw length-append (omega (arith, b .2, r .2)) in
     λ i. record { below = n i; last = (r .1 ∙ b .1) i; size = m i }
 
--- the keys that stand in bytes are those of some nodes
-keys-read : (bs : List ℕ) (y : ℕ) (ns : List Order) (a : ℕ) (x : Spot) → ((j : ℕ) → j < length ns → field (a + 12 * j) 4 bs ≡ node-at ns j .key) →
-    passes bs (length ns) a y x ≡ passed-all y ns x
-unfolding passes passed-all
-keys-read bs y [] a x h = refl
-keys-read bs y (o ∷ ns) a x h =
-    let e : a ≡ a + 12 * 0 = omega arith in
-    ap (λ (q : ℕ). passes bs (length ns) (a + 12) y (passed q y x)) (ap (λ (q : ℕ). field q 4 bs) e ∙ h 0 (omega arith))
-    ∙ keys-read bs y ns (a + 12) (passed (o .key) y x) (λ j g. moved j (h (suc j) (omega arith)))
-  where
-    moved : (j : ℕ) → field (a + 12 * suc j) 4 bs ≡ node-at ns j .key → field (a + 12 + 12 * j) 4 bs ≡ node-at ns j .key
-    moved j g = let e : a + 12 + 12 * j ≡ a + 12 * suc j = omega arith in ap (λ (q : ℕ). field q 4 bs) e ∙ g
+-- the nodes that stand in bytes came by
+nodes-passed : (w : ℕ) (bs : List ℕ) (y n a : ℕ) (x : Spot) → passes w bs n a y x ≡ passed-all y (nodes-from w n (drop a bs)) x
+unfolding passes passed-all node-of rows-in
+nodes-passed w bs y zero a x = refl
+nodes-passed w bs y (suc n) a x =
+    nodes-passed w bs y n (a + w) (passed (field a 4 bs) y x)
+    ∙ ap (λ (k : ℕ). passed-all y (nodes-from w n (drop (a + w) bs)) (passed k y x)) (sym (key-of w bs a))
+    ∙ ap (λ (l : List ℕ). passed-all y (nodes-from w n l) (passed (node-of w bs a .key) y x)) (sym (drop-drop w a bs))
 
 -- no partition has more chunks than there are blocks
 module _ (s : Sizes) (k f : ℕ) (pos : 0 < k) where
@@ -193,14 +192,11 @@ module _ (s : Sizes) (bs : List ℕ) (k f y i : ℕ) (z : Spot) (p : Scanning s 
     scanning-none e = all-came s bs k f y i z p (λ F n hd ns t pos c. piece-gone s k f pos F n hd bs ns t c i (none-found s F n hd bs t (label k f i) pos r er e))
 
     module _ (b : ℕ) (eb : r ≡ At b) (n : ℕ) (en : n ≡ getD bs (53 + b * block-long s + 1) 0) where
-      came : (F : Map) (m : ℕ) (hd : List ℕ) → Table s F m hd bs → 0 < k → passes bs n (53 + b * block-long s + 8) y z ≡ passed-all y (F k f i) z
+      came : (F : Map) (m : ℕ) (hd : List ℕ) → Table s F m hd bs → 0 < k → passes (row s) bs n (53 + b * block-long s + 8) y z ≡ passed-all y (F k f i) z
       came F m hd t pos =
           let v = some-found s F m hd bs t (label k f i) pos r er b eb in
-          ap (λ (j : ℕ). passes bs j (53 + b * block-long s + 8) y z) (counted s F m hd bs t (label k f i) pos r er b eb n en)
-          ∙ keys-read bs y (F k f i) (53 + b * block-long s + 8) z (λ j g. moved j (key-read s bs b (label k f i) (F k f i) (v .is) (v .held .nodes) (v .held .fine) j g))
-        where
-          moved : (j : ℕ) {x : ℕ} → field (53 + b * block-long s + (8 + (12 * j + 0))) 4 bs ≡ x → field (53 + b * block-long s + 8 + 12 * j) 4 bs ≡ x
-          moved j g = let e : 53 + b * block-long s + 8 + 12 * j ≡ 53 + b * block-long s + (8 + (12 * j + 0)) = omega arith in ap (λ (q : ℕ). field q 4 bs) e ∙ g
+          nodes-passed (row s) bs y n (53 + b * block-long s + 8) z
+          ∙ rw (counted s F m hd bs t (label k f i) pos r er b eb n en) (ap (λ (l : List Order). passed-all y l z) (nodes-read s bs b (label k f i) (F k f i) (v .is) (v .held .fine)))
 
       -- a block with more nodes than fit is no table's
       pub scanning-wide : s .nodes < n → Scans s bs k f y z
@@ -208,9 +204,9 @@ module _ (s : Sizes) (bs : List ℕ) (k f y i : ℕ) (z : Spot) (p : Scanning s 
       scanning-wide h F m hd ps qs t pos c low high =
           absurd (omega (arith, some-found s F m hd bs t (label k f i) pos r er b eb .held .nodes, counted s F m hd bs t (label k f i) pos r er b eb n en))
 
-      pub scanning-more : i < s .blocks → n ≤ s .nodes → s .nodes ≤ 32 → (a : ℕ) (w : Spot) → a ≡ 53 + b * block-long s → w ≡ passes bs n (a + 8) y z → w .below ≤ w .size →
+      pub scanning-more : i < s .blocks → n ≤ s .nodes → s .nodes ≤ 32 → (a x : ℕ) (w : Spot) → a ≡ 53 + b * block-long s → x ≡ row s → w ≡ passes x bs n (a + 8) y z → w .below ≤ w .size →
           w .size ≡ z .size + n → Came s bs k f y i n w
-      scanning-more lt le few a w ea ew short long = record {
+      scanning-more lt le few a x w ea ex ew short long = record {
         next = next;
         stop = λ h. all-came s bs k f y (i + 1) w next (λ F m hd ns t pos c.
             omega (arith, h, step, simp (length-take, length-drop) at (counted s F m hd bs t (label k f i) pos r er b eb n en ∙ ap length (pieces-at F (s .nodes) k f ns i c))));
@@ -226,7 +222,7 @@ module _ (s : Sizes) (bs : List ℕ) (k f y i : ℕ) (z : Spot) (p : Scanning s 
             most = omega (arith, p .most);
             so-far = λ F m hd ns t pos c.
                 ew
-                ∙ ap (λ (q : ℕ). passes bs n (q + 8) y z) ea
+                ∙ rw (ex, ea) refl
                 ∙ came F m hd t pos
                 ∙ ap (λ (l : List Order). passed-all y l z) (pieces-at F (s .nodes) k f ns i c)
                 ∙ ap (passed-all y (take (s .nodes) (drop (i * s .nodes) ns))) (p .so-far F m hd ns t pos c)

@@ -7,6 +7,7 @@ use native.Mathlib.Nat.{suc-mul, zero-mul, mul-le-mul-right}
 use native.Mathlib.Numerals.{add-one}
 use native.Mathlib.Omega.{arith}
 use lib.ListN.{length, take, drop, length-append, length-drop, length-take}
+use Rattle.sizes.specs.Sizes.{row}
 use Rattle.placement.specs.Labels.{label}
 use Rattle.placement.specs.Maps.{Map, Table, Fines, with-nodes}
 use Rattle.placement.specs.Place.{Shaped}
@@ -32,9 +33,9 @@ pub record Shifting (s : Sizes) (F : Map) (m : ℕ) (hd : List ℕ) (k f q : ℕ
   pub full : ℕ
   pub table : Table s map full hd bs
   pub carry : List Order
-  pub front : Front cs carry
+  pub front : Front (row s) cs carry
   pub size : left ≡ length carry
-  pub fine : Fines carry
+  pub fine : Fines (row s) carry
   pub todo : carry ++ drop (suc t * s .nodes) old ≡ drop (t * s .nodes) new
   pub written : (i : ℕ) → i < t → map k f (q + i) ≡ take (s .nodes) (drop (i * s .nodes) new)
   pub elsewhere : (l h i : ℕ) → (l ≡ k → h ≡ f → q ≤ i → i < q + t → ⊥) → map l h i ≡ F l h i
@@ -45,7 +46,7 @@ module _ (s : Sizes) (F : Map) (m : ℕ) (hd : List ℕ) (k f q count : ℕ) (c 
   some : 0 < s .nodes
   some = omega (arith, sh .two)
 
-  pub shifting-start : (n : ℕ) (bs cs : List ℕ) → Table s F m hd bs → Front cs c → n ≡ length c → Shifting s F m hd k f q old new 0 n bs cs
+  pub shifting-start : (n : ℕ) (bs cs : List ℕ) → Table s F m hd bs → Front (row s) cs c → n ≡ length c → Shifting s F m hd k f q old new 0 n bs cs
   shifting-start n bs cs t fr en =
       let e : suc 0 * s .nodes ≡ s .nodes = omega arith in
       record {
@@ -85,8 +86,8 @@ module _ (s : Sizes) (F : Map) (m : ℕ) (hd : List ℕ) (k f q count : ℕ) (c 
         ∙ drop-past (s .nodes) (drop (suc t * s .nodes) old)
         (omega (arith, length-append (p .carry) (p .map k f (q + t + 1)), ap length here, length-take (s .nodes) (drop (suc t * s .nodes) old)))))
 
-    fine-now : Fines now
-    fine-now = fines-append (p .carry) (p .map k f (q + t + 1)) (p .fine) (fines-there s (p .map) (p .full) hd bs k f (q + t + 1) (p .table))
+    fine-now : Fines (row s) now
+    fine-now = fines-append (row s) (p .carry) (p .map k f (q + t + 1)) (p .fine) (fines-there s (p .map) (p .full) hd bs k f (q + t + 1) (p .table))
 
     -- what writing chunk t asks
     can : (r : ℕ) → r ≡ length now → Settable s (p .map) (p .full) (label k f (q + t)) r
@@ -130,7 +131,7 @@ module _ (s : Sizes) (F : Map) (m : ℕ) (hd : List ℕ) (k f q count : ℕ) (c 
           carry = drop (s .nodes) now;
           front = x .front;
           size = x .size;
-          fine = fines-drop (s .nodes) now fine-now;
+          fine = fines-drop (row s) (s .nodes) now fine-now;
           todo = halves .1 ∙ drop-next (s .nodes) t new;
           written = λ i a. with-number (p .map) _ (λ z. halves .0 ∙ chunk-same (s .nodes) new (omega arith)) (λ z. p .written i (omega (arith, z)));
           elsewhere = λ l h i a. with-other (p .map) (λ u v w. a u v (omega arith) (omega arith)) _ ∙ p .elsewhere l h i (λ u v w y. a u v w (omega arith));
@@ -185,14 +186,14 @@ module _ (s : Sizes) (F : Map) (m : ℕ) (hd : List ℕ) (k f q count : ℕ) (c 
 -- AS `shift` ASKS: what its loop keeps
 pub record Moving (s : Sizes) (k f q count n : ℕ) (bs₀ cs₀ : List ℕ) (t left : ℕ) (bs cs : List ℕ) : Type 0 where
   pub shaped : Shaped s bs
-  pub long : length cs ≡ 780
+  pub long : length cs ≡ 1040
   pub within : t ≤ count + 2
   pub short : left ≤ s .nodes + 1
-  pub on : (F : Map) (m : ℕ) (hd : List ℕ) (c old new : List Order) → Table s F m hd bs₀ → Front cs₀ c → n ≡ length c → Shiftable s F m k f q count c old new
+  pub on : (F : Map) (m : ℕ) (hd : List ℕ) (c old new : List Order) → Table s F m hd bs₀ → Front (row s) cs₀ c → n ≡ length c → Shiftable s F m k f q count c old new
       → Shifting s F m hd k f q old new t left bs cs
 
 module _ (s : Sizes) (k f q count n : ℕ) (bs₀ cs₀ : List ℕ) where
-  pub moving-start : Shaped s bs₀ → length cs₀ ≡ 780 → n ≤ s .nodes + 1 → Moving s k f q count n bs₀ cs₀ 0 n bs₀ cs₀
+  pub moving-start : Shaped s bs₀ → length cs₀ ≡ 1040 → n ≤ s .nodes + 1 → Moving s k f q count n bs₀ cs₀ 0 n bs₀ cs₀
   moving-start shaped long short = record {
     shaped = shaped;
     long = long;

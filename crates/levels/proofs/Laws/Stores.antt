@@ -5,6 +5,7 @@ use Prim.Native.Nat.{ℕ, _+_, _*_, _-_, _≤_, _<_}
 use native.Mathlib.Omega.{arith}
 use lib.ListN.{length, take, drop, length-drop}
 use lib.Seq.{sets, take-all, length-take-le}
+use Rattle.sizes.specs.Sizes.{row}
 use Rattle.sizes.specs.Header.{block-long}
 use Rattle.placement.specs.Chunks.{nodes-bytes}
 use Rattle.sizes.specs.Parts.{put-block}
@@ -47,7 +48,7 @@ module _ (s : Sizes) (w : Label) (n : ℕ) (bs cs : List ℕ) (r : Found) (er : 
         })
 
     -- .. or there, and written over
-    pub store-over : (n ≡ 0 → ⊥) → n ≤ s .nodes → (bs′ : List ℕ) → bs′ ≡ put-block (block-long s) bs i (block-with (block-long s) w n (take (12 * n) (drop 0 cs))) → Stores s w n bs bs′ cs
+    pub store-over : (n ≡ 0 → ⊥) → n ≤ s .nodes → (bs′ : List ℕ) → bs′ ≡ put-block (block-long s) bs i (block-with (block-long s) w n (take (row s * n) (drop 0 cs))) → Stores s w n bs bs′ cs
     unfolding Stores
     store-over z few bs′ eb F m hd c t f k fine can =
         let l : length (take n c) ≡ n = length-take-le n c k in
@@ -58,10 +59,10 @@ module _ (s : Sizes) (w : Label) (n : ℕ) (bs cs : List ℕ) (r : Found) (er : 
         record {
           full = m;
           table =
-              rw (eb, front-first cs c n f k)
-              (subst (λ (x : ℕ). Table s (with-nodes w (take n c) F) m hd (put-block (block-long s) bs i (block-with (block-long s) w x (nodes-bytes (take n c))))) l
+              rw (eb, front-first s cs c n f k)
+              (subst (λ (x : ℕ). Table s (with-nodes w (take n c) F) m hd (put-block (block-long s) bs i (block-with (block-long s) w x (nodes-bytes (row s) (take n c))))) l
               (write-keeps s F m hd bs t w i (take n c) (can .level) (sym er ∙ e)
-              (record { level = q .level; first = q .first; number = q .number; fine = fines-take n c fine; nodes = omega arith }) some));
+              (record { level = q .level; first = q .first; number = q .number; fine = fines-take (row s) n c fine; nodes = omega arith }) some));
           count = omega (arith, one-some (nodes-of F w) (v .full), one-some (take n c) some);
         }
 
@@ -74,16 +75,16 @@ module _ (s : Sizes) (w : Label) (n : ℕ) (bs bs′ cs : List ℕ) where
       let a : take n c ≡ take (s .nodes) c = take-all n c (omega arith) ∙ sym (take-all (s .nodes) c (omega arith)) in
       record {
         stored = subst (λ (x : List Order). Stored s F m hd w x bs′) a (st F m hd c t f (omega arith) fine can);
-        front = rw z (front-none cs);
+        front = rw z (front-none s cs);
         size = rw z refl;
       }
 
-  pub renew-first : s .nodes < n → (left : ℕ) (cs′ : List ℕ) → Stores s w (s .nodes) bs bs′ cs → left ≡ n - s .nodes → 12 * n ≤ length cs
-      → cs′ ≡ sets cs 0 (take (12 * left) (drop (12 * s .nodes) cs)) → Renews s w n bs bs′ cs cs′ left
+  pub renew-first : s .nodes < n → (left : ℕ) (cs′ : List ℕ) → Stores s w (s .nodes) bs bs′ cs → left ≡ n - s .nodes → 16 * n ≤ length cs
+      → cs′ ≡ sets cs 0 (take (row s * left) (drop (row s * s .nodes) cs)) → Renews s w n bs bs′ cs cs′ left
   unfolding Renews Stores
   renew-first h left cs′ st el room ec F m hd c t f en fine can =
       record {
         stored = st F m hd c t f (omega arith) fine (record { level = can .level; label = λ z. can .label (omega arith); room = λ z. can .room (omega arith) });
-        front = front-moved cs cs′ c (s .nodes) left f (omega arith) ec (omega arith);
+        front = front-moved s cs cs′ c (s .nodes) left f (omega arith) ec (omega arith);
         size = omega (arith, length-drop (s .nodes) c);
       }

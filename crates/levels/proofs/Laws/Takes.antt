@@ -8,6 +8,7 @@ use native.Mathlib.Omega.{arith}
 use lib.ListN.{length, getD, take, drop, replicate, length-append}
 use lib.Seq.{sets, take-at, drop-drop, take-take}
 use Rattle.sizes.specs.Numbers.{big}
+use Rattle.sizes.specs.Sizes.{row}
 use Rattle.placement.specs.Blocks.{holds}
 use Rattle.sizes.specs.Header.{block-long}
 use Rattle.sizes.specs.Parts.{block-in}
@@ -21,9 +22,11 @@ use Rattle.placement.specs.declared.Found.{Found}
 use Rattle.placement.specs.declared.Found.the-variants.{At, Nothing}
 use Rattle.placement.proofs.Laws.Tables.{find-told, remove-keeps, remove-none, count-some}
 use Rattle.placement.proofs.Laws.Reading.{count-read}
-use Rattle.placement.proofs.Laws.Bridge.{nodes-long}
+use Rattle.placement.proofs.Laws.Bridge.{length-nodes}
 use Rattle.levels.specs.Pour.{one, Read, Reads, Taken, Takes}
 use Rattle.sizes.proofs.Laws.Numbers.{drop-take}
+use Rattle.sizes.proofs.Laws.Sizes.{row-most}
+use Rattle.sizes.proofs.Laws.HeaderLoops.{rows-room, rows-most}
 use Rattle.levels.proofs.Laws.MapLabels.{cleared-is, with-none}
 use Rattle.levels.proofs.Laws.CarryFronts.{front-more}
 
@@ -38,14 +41,14 @@ one-none ns e = ap one e
 
 -- the bytes of the nodes in a block that was found
 nodes-read : (s : Sizes) (bs : List ℕ) (i : ℕ) (w : Label) (ns : List Order) → block-in (block-long s) bs i ≡ block-bytes s (holds (labelled w ns)) → length ns ≤ s .nodes
-    → take (12 * length ns) (drop (53 + i * block-long s + 8) bs) ≡ nodes-bytes ns
+    → take (row s * length ns) (drop (53 + i * block-long s + 8) bs) ≡ nodes-bytes (row s) ns
 unfolding block-in block-long block-bytes big
 nodes-read s bs i w ns e h =
     let d = drop (53 + i * block-long s) bs in
-    let few : 12 * length ns ≤ 12 * s .nodes = omega arith in
+    let few = rows-room (row s) (length ns) (s .nodes) h in
     rw (← drop-drop)
-    (sym (take-take (12 * length ns) (12 * s .nodes) (drop 8 d) few) ∙ ap (take (12 * length ns)) (sym (drop-take 8 (12 * s .nodes) d) ∙ ap (drop 8) e)
-    ∙ take-at (nodes-bytes ns) (replicate (12 * (s .nodes - length ns)) 0) (12 * length ns) (nodes-long ns))
+    (sym (take-take (row s * length ns) (row s * s .nodes) (drop 8 d) few) ∙ ap (take (row s * length ns)) (sym (drop-take 8 (row s * s .nodes) d) ∙ ap (drop 8) e)
+    ∙ take-at (nodes-bytes (row s) ns) (replicate (row s * (s .nodes - length ns)) 0) (row s * length ns) (length-nodes s ns))
 
 -- WHAT A SEARCH FOUND: nothing where the map has nothing, or the block with the label and its nodes
 pub record Stood (s : Sizes) (F : Map) (w : Label) (bs : List ℕ) (b : ℕ) : Type 0 where
@@ -70,9 +73,12 @@ module _ (s : Sizes) (F : Map) (m : ℕ) (hd bs : List ℕ) (t : Table s F m hd 
 
     -- how many nodes it has
     pub counted : (n : ℕ) → n ≡ getD bs (53 + b * block-long s + 1) 0 → n ≡ length (nodes-of F w)
-    counted n en = let v = some-found in en ∙ count-read s bs b w (nodes-of F w) (v .is) (v .held .nodes) (v .held .fine)
+    counted n en = let v = some-found in en ∙ count-read s bs b w (nodes-of F w) (v .is)
 
--- A CHUNK READ
+-- A CHUNK READ: there is room in a carry
+pub read-room : (s : Sizes) (n more k y l : ℕ) → k ≤ 16 * n → y ≡ row s * more → more ≤ s .nodes → 16 * (n + s .nodes) ≤ l → k + y ≤ l
+read-room s n more k y l hk ey few room = omega (arith, rows-most (row s) more (row-most s))
+
 module _ (s : Sizes) (w : Label) (n : ℕ) (bs cs : List ℕ) (r : Found) (er : r ≡ search-in s bs w) where
   pub read-none : r ≡ Nothing → Reads s w n bs cs cs n
   unfolding Reads
@@ -83,16 +89,16 @@ module _ (s : Sizes) (w : Label) (n : ℕ) (bs cs : List ℕ) (r : Found) (er : 
     unfolding Reads
     read-over h F m hd c t pos f en = absurd (omega (arith, some-found s F m hd bs t w pos r er i e .held .nodes, counted s F m hd bs t w pos r er i e more em))
 
-    pub read-some : (at k : ℕ) (cs′ : List ℕ) → at ≡ 53 + i * block-long s → k ≡ 12 * n → more ≤ s .nodes → 12 * (n + s .nodes) ≤ length cs
-        → cs′ ≡ sets cs k (take (12 * more) (drop (at + 8) bs)) → Reads s w n bs cs cs′ (n + more)
+    pub read-some : (at x k y : ℕ) (cs′ : List ℕ) → at ≡ 53 + i * block-long s → x ≡ row s → k ≡ x * n → y ≡ row s * more → more ≤ s .nodes → 16 * (n + s .nodes) ≤ length cs
+        → cs′ ≡ sets cs k (take y (drop (at + 8) bs)) → Reads s w n bs cs cs′ (n + more)
     unfolding Reads
-    read-some at k cs′ ea ek few room ec F m hd c t pos f en =
+    read-some at x k y cs′ ea ex ek ey few room ec F m hd c t pos f en =
         let v = some-found s F m hd bs t w pos r er i e in
         let lm = counted s F m hd bs t w pos r er i e more em in
         record {
           front =
-              front-more cs cs′ c (nodes-of F w) k (take (12 * more) (drop (at + 8) bs)) f (omega arith)
-              (rw (lm, ea) (nodes-read s bs i w (nodes-of F w) (v .is) (v .held .nodes))) ec (omega arith);
+              front-more s cs cs′ c (nodes-of F w) k (take y (drop (at + 8) bs)) f (ek ∙ rw (ex, en))
+              (rw (ey, lm, ea) (nodes-read s bs i w (nodes-of F w) (v .is) (v .held .nodes))) ec (omega arith);
           size = omega (arith, length-append c (nodes-of F w));
         }
 
@@ -101,7 +107,7 @@ pub take-made : (s : Sizes) (w : Label) (n : ℕ) (bs bs′ cs cs′ : List ℕ)
 unfolding Takes Reads
 take-made s w n bs bs′ cs cs′ r rd eb F m hd c t pos f en = go (nodes-of F w) refl
   where
-    u : Read F w c cs′ r
+    u : Read s F w c cs′ r
     u = rd F m hd c t pos f en
 
     go : (ns : List Order) → nodes-of F w ≡ ns → Taken s F m hd w c bs′ cs′ r

@@ -2,13 +2,15 @@
 use mathlib.Core.Path.{_≡_, refl, sym, ap, _∙_}
 use mathlib.Core.List.{List, [], _∷_}
 use Prim.Native.Nat.{ℕ, suc, _+_, _*_, _-_, _≤_, _<_}
-use native.Mathlib.Nat.{zero-add}
+use native.Mathlib.Nat.{zero-add, add-zero, sub-zero, mul-zero, mul-suc}
+use native.Mathlib.Numerals.{add-one}
 use native.Mathlib.Omega.{arith}
 use borrow.Author.Tests.{ne-eqb, le-leb, lt-leb, le-ltb, lt-ltb}
 use lib.Dec.{leb}
 use lib.ListN.{length, getD}
 use lib.Seq.{sets, length-sets}
 use Rattle.sizes.specs.Numbers.{big, field}
+use Rattle.sizes.specs.Sizes.{row}
 use Rattle.sizes.specs.Header.{block-long}
 use Rattle.sizes.specs.Hash.{hash-from}
 use Rattle.placement.specs.Labels.{label, home}
@@ -18,46 +20,55 @@ use Rattle.placement.specs.declared.Label.{Label}
 use Rattle.placement.specs.declared.Found.{Found}
 use Rattle.placement.specs.declared.Found.the-variants.{At, Nothing}
 use Rattle.sizes.proofs.Laws.Hashes.{hash-below}
+use Rattle.sizes.proofs.Laws.HeaderLoops.{rows-room, row-room}
 use Rattle.placement.proofs.Laws.Cells.{cond-valid}
 use Rattle.placement.proofs.Laws.Loops.{search-below}
 use Rattle.placement.proofs.Laws.Behind.{search-behind}
 use Rattle.levels.specs.declared.Trail.{Trail}
 use Rattle.levels.specs.Ways.{Trek, trek, coming, starting, number-in, upto-in, reached-in, found-upto, found-block, node-place, trod, chunks-in, along-in, down-in, way-down}
 
--- THE NODES of a chunk
-pub record Upto (bs : List ℕ) (n at y i : ℕ) : Type 0 where
+-- one row more
+pub rows-next : (w i : ℕ) → w * (i + 1) ≡ w * i + w
+rows-next w i = rw add-one (mul-suc w i)
+
+-- A KEY of a row
+pub key-room : (w at n i x l : ℕ) → 12 ≤ w → at + w * n ≤ l → i < n → x ≡ w * i → at + x + 4 ≤ l
+key-room w at n i x l least room h e = omega (arith, row-room w i n h)
+
+pub key-is : (w at i x k : ℕ) (bs : List ℕ) → x ≡ w * i → k ≡ field (at + x) 4 bs → k ≡ field (at + w * i) 4 bs
+key-is w at i x k bs e ek = ek ∙ rw e
+
+-- THE NODES of a chunk, of w bytes each
+pub record Upto (w : ℕ) (bs : List ℕ) (n at y i : ℕ) : Type 0 where
   pub within : i ≤ n
-  pub rest : upto-in bs n at y ≡ i + upto-in bs (n - i) (at + 12 * i) y
+  pub rest : upto-in w bs n at y ≡ i + upto-in w bs (n - i) (at + w * i) y
 
-module _ (bs : List ℕ) (n at y : ℕ) where
-  pub upto-start : Upto bs n at y 0
-  upto-start =
-      let c : n - 0 ≡ n = omega arith in
-      let d : at + 12 * 0 ≡ at = omega arith in
-      record { within = omega arith; rest = rw (c, d, zero-add) }
+module _ (w : ℕ) (bs : List ℕ) (n at y : ℕ) where
+  pub upto-start : Upto w bs n at y 0
+  upto-start = record { within = omega arith; rest = rw (sub-zero, mul-zero, add-zero, zero-add) }
 
-  module _ (i : ℕ) (p : Upto bs n at y i) where
-    module _ (h : i < n) (k : ℕ) (e : k ≡ field (at + 12 * i) 4 bs) where
-      pub upto-stop : y < k → i ≡ upto-in bs n at y
+  module _ (i : ℕ) (p : Upto w bs n at y i) where
+    module _ (h : i < n) (k : ℕ) (e : k ≡ field (at + w * i) 4 bs) where
+      pub upto-stop : y < k → i ≡ upto-in w bs n at y
       unfolding upto-in
       upto-stop l =
           let c : n - i ≡ suc (n - (i + 1)) = omega arith in
-          let q : upto-in bs (n - i) (at + 12 * i) y ≡ 0 = rw (c, lt-ltb y (field (at + 12 * i) 4 bs) (omega arith)) in
+          let q : upto-in w bs (n - i) (at + w * i) y ≡ 0 = rw (c, lt-ltb y (field (at + w * i) 4 bs) (omega arith)) in
           omega (arith, p .rest, q)
 
-      pub upto-more : k ≤ y → Upto bs n at y (i + 1)
+      pub upto-more : k ≤ y → Upto w bs n at y (i + 1)
       unfolding upto-in
       upto-more l =
           let c : n - i ≡ suc (n - (i + 1)) = omega arith in
-          let d : at + 12 * i + 12 ≡ at + 12 * (i + 1) = omega arith in
-          let q : upto-in bs (n - i) (at + 12 * i) y ≡ suc (upto-in bs (n - (i + 1)) (at + 12 * (i + 1)) y) = rw (c, le-ltb y (field (at + 12 * i) 4 bs) (omega arith), d) in
+          let d : at + w * i + w ≡ at + w * (i + 1) = omega (arith, rows-next w i) in
+          let q : upto-in w bs (n - i) (at + w * i) y ≡ suc (upto-in w bs (n - (i + 1)) (at + w * (i + 1)) y) = rw (c, le-ltb y (field (at + w * i) 4 bs) (omega arith), d) in
           record { within = omega arith; rest = omega (arith, p .rest, q) }
 
-    pub upto-end : n ≤ i → i ≡ upto-in bs n at y
+    pub upto-end : n ≤ i → i ≡ upto-in w bs n at y
     unfolding upto-in
     upto-end h =
         let c : n - i ≡ 0 = omega arith in
-        omega (arith, p .rest, ap (λ (q : ℕ). upto-in bs q (at + 12 * i) y) c)
+        omega (arith, p .rest, ap (λ (q : ℕ). upto-in w bs q (at + w * i) y) c)
 
 -- .. of the chunk in a block
 module _ (s : Sizes) (bs : List ℕ) (i y : ℕ) (c : ℕ) (e : c ≡ getD bs (53 + i * block-long s + 1) 0) where
@@ -65,16 +76,21 @@ module _ (s : Sizes) (bs : List ℕ) (i y : ℕ) (c : ℕ) (e : c ≡ getD bs (5
   unfolding reached-in
   reached-wide h = rw (lt-ltb (s .nodes) (getD bs (53 + i * block-long s + 1) 0) (omega (arith, h, e)))
 
-  pub reached-all : c ≤ s .nodes → (a : ℕ) → a ≡ 53 + i * block-long s → (r : ℕ) → r ≡ upto-in bs c (a + 8) y → r ≡ reached-in s bs i y
+  pub reached-all : c ≤ s .nodes → (a : ℕ) → a ≡ 53 + i * block-long s → (w r : ℕ) → w ≡ row s → r ≡ upto-in w bs c (a + 8) y → r ≡ reached-in s bs i y
   unfolding reached-in
-  reached-all h a ea r er = er ∙ rw (ea, ← e, le-ltb _ _ h)
+  reached-all h a ea w r ew er = er ∙ rw (ew, ea, ← e, le-ltb _ _ h)
 
 -- there is room for the nodes
-pub reached-room : (s : Sizes) (bs : List ℕ) → Shaped s bs → (a c : ℕ) → a + block-long s ≤ 53 + s .blocks * block-long s → c ≤ s .nodes → a + 8 + 12 * c ≤ length bs
-reached-room s bs h a c q l = omega (arith, q, h .long, h .width)
+module _ (s : Sizes) (bs : List ℕ) (h : Shaped s bs) (a : ℕ) (q : a + block-long s ≤ 53 + s .blocks * block-long s) where
+  pub reached-room : (c w : ℕ) → c ≤ s .nodes → w ≡ row s → a + 8 + w * c ≤ length bs
+  reached-room c w l e = rw e (omega (arith, q, h .long, h .width, rows-room (row s) c (s .nodes) l))
 
-pub tread-room : (s : Sizes) (bs : List ℕ) → Shaped s bs → (a n : ℕ) → a + block-long s ≤ 53 + s .blocks * block-long s → 0 < n → n ≤ s .nodes → a + (8 + 12 * (n - 1)) + 12 ≤ length bs
-tread-room s bs h a n q p l = omega (arith, q, h .long, h .width)
+  module _ (n u : ℕ) (p : 0 < n) (l : n ≤ s .nodes) (e : u ≡ row s * (n - 1)) where
+    pub tread-room : a + (8 + u) + row s ≤ length bs
+    tread-room = omega (arith, q, h .long, h .width, row-room (row s) (n - 1) (s .nodes) (omega arith))
+
+    pub tread-key : a + (8 + u) + 4 ≤ length bs
+    tread-key = omega (arith, tread-room, h .least)
 
 -- A NUMBER of the path
 module _ (o : List ℕ) (c i : ℕ) where
@@ -91,10 +107,10 @@ module _ (o : List ℕ) (c i : ℕ) where
   number-long = cond-valid (λ (x : List ℕ). length x ≡ length o) (leb (2 * c + 2) (length o)) (length-sets o (2 * c) (big 2 i)) refl
 
 -- A BLOCK
-pub trod-is : (s : Sizes) (bs : List ℕ) (i n : ℕ) (t : Trail) (o : List ℕ) (a : ℕ) → a ≡ 53 + i * block-long s → (k : ℕ) → k ≡ field (a + (8 + 12 * (n - 1))) 4 bs →
-    (z : List ℕ) → z ≡ number-in o (t .count) i → _≡_ {A = Trek} (trek (record { count = t .count + 1; first = k; at = a + (8 + 12 * (n - 1)) }) z) (trod s bs i n (trek t o))
+pub trod-is : (s : Sizes) (bs : List ℕ) (i n : ℕ) (t : Trail) (o : List ℕ) (a : ℕ) → a ≡ 53 + i * block-long s → (u : ℕ) → u ≡ row s * (n - 1) → (k : ℕ) → k ≡ field (a + (8 + u)) 4 bs →
+    (z : List ℕ) → z ≡ number-in o (t .count) i → _≡_ {A = Trek} (trek (record { count = t .count + 1; first = k; at = a + (8 + u) }) z) (trod s bs i n (trek t o))
 unfolding trod node-place
-trod-is s bs i n t o a ea k ek z ez = rw (ek, ez, ea)
+trod-is s bs i n t o a ea u eu k ek z ez = rw (ek, ez, ea, eu)
 
 -- the search for the next chunk
 search-next : (s : Sizes) (bs : List ℕ) (l f l′ f′ j i start : ℕ) → l′ ≡ l → f′ ≡ f → 0 < l → l ≤ 19 → j + 1 ≤ 65535 → search-in s bs (label l f j) ≡ At i
@@ -108,7 +124,7 @@ pub record Along (s : Sizes) (bs : List ℕ) (l y c f : ℕ) (o : List ℕ) (v :
   pub first : v .first ≡ f
   pub within : v .number ≤ s .blocks
   pub few : w .count ≤ c + v .number
-  pub inside : w .at + 12 ≤ length bs
+  pub inside : w .at + row s ≤ length bs
   pub long : length z ≡ length o
   pub rest : along-in s bs l y (trek (coming c f) o) ≡ chunks-in s bs l f y (s .blocks - v .number) (v .number) (trek w z)
   pub below : start < s .blocks
@@ -117,14 +133,14 @@ pub record Along (s : Sizes) (bs : List ℕ) (l y c f : ℕ) (o : List ℕ) (v :
 module _ (s : Sizes) (bs : List ℕ) (l y : ℕ) (t : Trail) (o : List ℕ) (g : Shaped s bs) where
   -- what is said of the way when the level is done
   abbrev Gone : (r : Trail) → (z : List ℕ) → Type 0
-  Gone r z = (trek r z ≡ along-in s bs l y (trek t o)) × (r .count ≤ t .count + 65535) × (r .at + 12 ≤ length bs)
+  Gone r z = (trek r z ≡ along-in s bs l y (trek t o)) × (r .count ≤ t .count + 65535) × (r .at + row s ≤ length bs)
 
   pub along-start : (start : ℕ) → start ≡ home s (label l (t .first) 0) → start < s .blocks
       → Along s bs l y (t .count) (t .first) o (label l (t .first) 0) start (coming (t .count) (t .first)) o
   unfolding along-in search-in
   along-start start e h =
       let c : s .blocks - 0 ≡ s .blocks = omega arith in
-      record { level = refl; first = refl; within = omega arith; few = omega arith; inside = omega (arith, g .long); long = refl; rest = rw c; below = h; next = rw e }
+      record { level = refl; first = refl; within = omega arith; few = omega arith; inside = omega (arith, g .long, g .wide); long = refl; rest = rw c; below = h; next = rw e }
 
   module _ (v : Label) (start : ℕ) (w : Trail) (z : List ℕ) (p : Along s bs l y (t .count) (t .first) o v start w z) where
     stop : chunks-in s bs l (t .first) y (s .blocks - v .number) (v .number) (trek w z) ≡ trek w z → Gone w z
@@ -163,7 +179,7 @@ module _ (s : Sizes) (bs : List ℕ) (l y : ℕ) (t : Trail) (o : List ℕ) (g :
           unfolding chunks-in found-upto
           along-short q = stop (rw (step, ← er, e, ← en, q))
 
-          module _ (q : n ≡ 0 → ⊥) (w′ : Trail) (z′ : List ℕ) (ew : trek w′ z′ ≡ trod s bs i n (trek w z)) (c : w′ .count ≡ w .count + 1) (a : w′ .at + 12 ≤ length bs) where
+          module _ (q : n ≡ 0 → ⊥) (w′ : Trail) (z′ : List ℕ) (ew : trek w′ z′ ≡ trod s bs i n (trek w z)) (c : w′ .count ≡ w .count + 1) (a : w′ .at + row s ≤ length bs) where
             -- the output keeps its length
             pub trod-long : length z′ ≡ length o
             unfolding trod
@@ -195,19 +211,19 @@ module _ (s : Sizes) (bs : List ℕ) (l y : ℕ) (t : Trail) (o : List ℕ) (g :
 pub record Down (s : Sizes) (bs : List ℕ) (top l y : ℕ) (o : List ℕ) (k : ℕ) (t : Trail) (z : List ℕ) : Type 0 where
   pub within : k ≤ top
   pub few : t .count ≤ 65535 * (top - k)
-  pub inside : t .at + 12 ≤ length bs
+  pub inside : t .at + row s ≤ length bs
   pub long : length z ≡ length o
   pub rest : down-in s bs l y (top - l) (trek starting o) ≡ down-in s bs l y (k - l) (trek t z)
 
 module _ (s : Sizes) (bs : List ℕ) (top l y : ℕ) (o : List ℕ) where
   pub down-start : Shaped s bs → Down s bs top l y o top starting o
-  down-start h = record { within = omega arith; few = omega arith; inside = omega (arith, h .long); long = refl; rest = refl }
+  down-start h = record { within = omega arith; few = omega arith; inside = omega (arith, h .long, h .wide); long = refl; rest = refl }
 
   module _ (k : ℕ) (t : Trail) (z : List ℕ) (p : Down s bs top l y o k t z) where
     pub down-room : top ≤ 19 → t .count + 65535 ≤ 4294967295
     down-room h = omega (arith, p .few)
 
-    pub down-more : l < k → (t′ : Trail) (z′ : List ℕ) → trek t′ z′ ≡ along-in s bs k y (trek t z) → t′ .count ≤ t .count + 65535 → t′ .at + 12 ≤ length bs → length z′ ≡ length z →
+    pub down-more : l < k → (t′ : Trail) (z′ : List ℕ) → trek t′ z′ ≡ along-in s bs k y (trek t z) → t′ .count ≤ t .count + 65535 → t′ .at + row s ≤ length bs → length z′ ≡ length z →
         Down s bs top l y o (k - 1) t′ z′
     unfolding down-in
     down-more h t′ z′ e c a g =

@@ -1,7 +1,7 @@
--- This version's blocks in bytes: a head of 8 bytes with the label, nodes of 12 bytes each, and zeros. The laws of bytes over any width are in Rows and Coded; here the width is fixed.
+-- Blocks in bytes: a head of 8 bytes with the label, nodes of w bytes each, and zeros. The laws of bytes over any coding are in Rows and Coded; here a node's is fixed, but for its width.
 use mathlib.Core.Path.{_≡_, refl}
 use mathlib.Core.List.{List, [], append-assoc}
-use Prim.Native.Nat.{ℕ, suc, _+_, _*_}
+use Prim.Native.Nat.{ℕ, suc, _+_, _*_, _≤_}
 use native.Mathlib.Omega.{arith}
 use lib.ListN.{length, getD, set, length-append, length-replicate}
 use Rattle.sizes.specs.declared.Sizes.{Sizes}
@@ -15,7 +15,10 @@ use Rattle.placement.specs.Chunks.{Chunk, block-bytes, all-bytes, nodes-
 use Rattle.placement.specs.Decode.{head-label}
 use Rattle.placement.specs.Place.{Store}
 use Rattle.placement.specs.Maps.{Holdable}
-use Rattle.sizes.proofs.Laws.Numbers.{field-big}
+use Rattle.sizes.proofs.Laws.Numbers.{field-big, length-big}
+use Rattle.sizes.proofs.Laws.Sizes.{row-least}
+use Rattle.sizes.proofs.Laws.HeaderLoops.{rows-left, rows-room}
+use Rattle.sizes.specs.Sizes.{row}
 use Rattle.placement.proofs.Laws.Rows.{length-rows}
 use Rattle.placement.proofs.Laws.Coded.{Coding, All, listed}
 use Rattle.placement.proofs.Laws.Coded
@@ -38,12 +41,13 @@ All-good s bl = All (Good s) bl
 abbrev pub places : Store (List (Block Chunk))
 places = listed label-of
 
-pub node-long : (o : Order) → length (node-bytes o) ≡ 12
-unfolding node-bytes big
-node-long o = refl
+module _ (w : ℕ) (least : 12 ≤ w) where
+  pub node-long : (o : Order) → length (node-bytes w o) ≡ w
+  unfolding node-bytes big
+  node-long o = simp (length-append, length-big) (omega arith)
 
-pub nodes-long : (os : List Order) → length (nodes-bytes os) ≡ 12 * length os
-nodes-long os = length-rows 12 node-bytes node-long os
+  pub nodes-long : (os : List Order) → length (nodes-bytes w os) ≡ w * length os
+  nodes-long os = length-rows w (node-bytes w) node-long os
 
 module _ (s : Sizes) where
   number-of : (c : Chunk) → Holdable s c → field 2 2 (block-bytes s (holds c)) ≡ c .label .number
@@ -57,20 +61,20 @@ module _ (s : Sizes) where
   pub head-of : {b : Block Chunk} → Good s b → head-label (block-bytes s b) ≡ label-of b
   unfolding head-label block-bytes block-long field value-from
   head-of free =
-      let e : 8 + 12 * s .nodes ≡ suc (suc (suc (suc (suc (suc (suc (suc (12 * s .nodes)))))))) = omega arith in
+      let e : 8 + row s * s .nodes ≡ suc (suc (suc (suc (suc (suc (suc (suc (row s * s .nodes)))))))) = omega arith in
       rw e
   head-of (held {c = c} k) = rw (number-of c k, first-of c k)
 
-  pub length-nodes : (os : List Order) → length (nodes-bytes os) ≡ 12 * length os
-  length-nodes os = nodes-long os
+  pub length-nodes : (os : List Order) → length (nodes-bytes (row s) os) ≡ row s * length os
+  length-nodes os = nodes-long (row s) (row-least s) os
 
   pub length-block : {b : Block Chunk} → Good s b → length (block-bytes s b) ≡ block-long s
   unfolding block-bytes block-long big
   length-block free = length-replicate _ 0
   length-block (held {c = c} k) =
-      simp (length-append, nodes-long, length-replicate) (omega (arith, k .nodes))
+      simp (length-append, length-nodes, length-replicate) (omega (arith, rows-left (row s) (length (c .nodes)) (s .nodes), rows-room (row s) (length (c .nodes)) (s .nodes) (k .nodes)))
 
-  -- the coding of a block, in 8 bytes and 12 for each node
+  -- the coding of a block, in 8 bytes and a row for each node
   pub coding : Coding (block-long s) (block-bytes s) label-of (Good s)
   unfolding block-bytes block-long
   coding = record { wide = omega arith; clear = refl; free = free; long = λ k. length-block k; head = λ k. head-of k }

@@ -13,7 +13,10 @@ use lib.Seq.{drop-drop, length-take-le}
 use Rattle.sizes.specs.Numbers.{big, field, rows, rows-in}
 use Rattle.placement.specs.Decode.{node-in, nodes-from, head-label, chunk-of, block-of, cut, blocks-in}
 use Rattle.placement.specs.Chunks.{node-bytes, nodes-bytes, block-bytes, all-bytes, Chunk}
+use Rattle.sizes.specs.Sizes.{row}
 use Rattle.sizes.specs.Header.{block-long}
+use Rattle.sizes.proofs.Laws.Sizes.{row-least}
+use Rattle.sizes.proofs.Laws.HeaderLoops.{rows-room}
 use Rattle.sizes.specs.Parts.{block-in}
 use Rattle.placement.specs.Blocks.{Block, empty, holds}
 use Rattle.sizes.specs.declared.Sizes.{Sizes}
@@ -23,26 +26,34 @@ use Rattle.placement.proofs.Laws.Rows.{rows-count, rows-some, rows-agai
 use Rattle.sizes.proofs.Laws.Numbers.{Bytes, bytes-take, bytes-drop, take-more, field-again, field-less}
 use Rattle.placement.specs.Maps.{Fine}
 
-pub node-again : (xs : List ℕ) → 12 ≤ length xs → Bytes xs → node-bytes (node-in xs) ≡ take 12 xs
-unfolding node-bytes node-in
-node-again xs h b =
-    rw (field-again 0 4 xs (omega arith) b, field-again 4 4 xs (omega arith) b, field-again 8 4 xs (omega arith) b, take-more 4 4 xs, take-more 8 4 xs)
+module _ (w : ℕ) (least : 12 ≤ w) where
+  pub node-again : (xs : List ℕ) → w ≤ length xs → Bytes xs → node-bytes w (node-in w xs) ≡ take w xs
+  unfolding node-bytes node-in
+  node-again xs h b =
+      let e : 12 + (w - 12) ≡ w = omega arith in
+      rw (field-again 0 4 xs (omega arith) b, field-again 4 4 xs (omega arith) b, field-again 8 4 xs (omega arith) b, field-again 12 (w - 12) xs (omega arith) b, take-more 4 4 xs, take-more 8 4 xs, take-more 12 (w - 12) xs, e)
 
-pub nodes-again : (k : ℕ) (xs : List ℕ) → 12 * k ≤ length xs → Bytes xs → nodes-bytes (nodes-from k xs) ≡ take (12 * k) xs
-nodes-again = rows-again 12 node-in node-bytes node-again
+  pub nodes-again : (k : ℕ) (xs : List ℕ) → w * k ≤ length xs → Bytes xs → nodes-bytes w (nodes-from w k xs) ≡ take (w * k) xs
+  nodes-again = rows-again w (node-in w) (node-bytes w) node-again
 
--- a node read from bytes is of numbers of four bytes
-fine-read : (xs : List ℕ) → 12 ≤ length xs → Bytes xs → Fine (node-in xs)
-unfolding node-in
-fine-read xs h b = record { key = field-less 0 4 xs (omega arith) b; total = field-less 4 4 xs (omega arith) b; displayed = field-less 8 4 xs (omega arith) b }
+  -- a node read from bytes is one that bytes can hold
+  fine-read : (xs : List ℕ) → w ≤ length xs → Bytes xs → Fine w (node-in w xs)
+  unfolding node-in
+  fine-read xs h b =
+      record {
+        key = field-less 0 4 xs (omega arith) b;
+        total = field-less 4 4 xs (omega arith) b;
+        displayed = field-less 8 4 xs (omega arith) b;
+        price = field-less 12 (w - 12) xs (omega arith) b;
+      }
 
-pub nodes-count : (k : ℕ) (xs : List ℕ) → length (nodes-from k xs) ≡ k
-nodes-count = rows-count 12 node-in
+pub nodes-count : (w k : ℕ) (xs : List ℕ) → length (nodes-from w k xs) ≡ k
+nodes-count w = rows-count w (node-in w)
 
 -- what is asked of the bytes of one block: all zero, or a label, nodes and zeros
 pub data Clean (s : Sizes) (x : List ℕ) : Type 0 where
   zeros : getD x 0 0 ≡ 0 → x ≡ replicate (block-long s) 0 → Clean s x
-  filled : 0 < getD x 0 0 → 0 < getD x 1 0 → getD x 1 0 ≤ s .nodes → drop (8 + 12 * getD x 1 0) x ≡ replicate (12 * (s .nodes - getD x 1 0)) 0 → Clean s x
+  filled : 0 < getD x 0 0 → 0 < getD x 1 0 → getD x 1 0 ≤ s .nodes → drop (8 + row s * getD x 1 0) x ≡ replicate (row s * (s .nodes - getD x 1 0)) 0 → Clean s x
 
 front-two : (x : List ℕ) → 2 ≤ length x → getD x 0 0 ∷ getD x 1 0 ∷ [] ≡ take 2 x
 front-two [] h = absurd (omega arith)
@@ -52,51 +63,51 @@ front-two (a ∷ b ∷ x) h = refl
 five-parts : (k : ℕ) (a b c n z x : List ℕ) → a ≡ take 2 x → b ≡ take 2 (drop 2 x) → c ≡ take 4 (drop 4 x) → n ≡ take k (drop 8 x) → z ≡ drop (8 + k) x → a ++ b ++ c ++ n ++ z ≡ x
 five-parts k a b c n z x ea eb ec en ez = rw (ea, eb, ec, en, ez, take-more 2 2 x, take-more 4 4 x, take-more 8 k x) (take-append-drop (8 + k) x)
 
-chunk-again : (s : Sizes) (x : List ℕ) → length x ≡ 8 + 12 * s .nodes → Bytes x → getD x 1 0 ≤ s .nodes → drop (8 + 12 * getD x 1 0) x ≡ replicate (12 * (s .nodes - getD x 1 0)) 0
-    → block-bytes s (holds (chunk-of x)) ≡ x
+chunk-again : (s : Sizes) (x : List ℕ) → length x ≡ 8 + row s * s .nodes → Bytes x → getD x 1 0 ≤ s .nodes → drop (8 + row s * getD x 1 0) x ≡ replicate (row s * (s .nodes - getD x 1 0)) 0
+    → block-bytes s (holds (chunk-of (row s) x)) ≡ x
 unfolding block-bytes chunk-of head-label
 chunk-again s x long b few rest =
-    let n : length (nodes-from (getD x 1 0) (drop 8 x)) ≡ getD x 1 0 = nodes-count (getD x 1 0) (drop 8 x) in
-    let d : length (drop 8 x) ≡ 12 * s .nodes = simp length-drop (omega arith) in
-    five-parts (12 * getD x 1 0) (getD x 0 0 ∷ length (nodes-from (getD x 1 0) (drop 8 x)) ∷ []) (big 2 (field 2 2 x)) (big 4 (field 4 4 x))
-    (nodes-bytes (nodes-from (getD x 1 0) (drop 8 x))) (replicate (12 * (s .nodes - length (nodes-from (getD x 1 0) (drop 8 x)))) 0) x
+    let n : length (nodes-from (row s) (getD x 1 0) (drop 8 x)) ≡ getD x 1 0 = nodes-count (row s) (getD x 1 0) (drop 8 x) in
+    let d : length (drop 8 x) ≡ row s * s .nodes = simp length-drop (omega arith) in
+    five-parts (row s * getD x 1 0) (getD x 0 0 ∷ length (nodes-from (row s) (getD x 1 0) (drop 8 x)) ∷ []) (big 2 (field 2 2 x)) (big 4 (field 4 4 x))
+    (nodes-bytes (row s) (nodes-from (row s) (getD x 1 0) (drop 8 x))) (replicate (row s * (s .nodes - length (nodes-from (row s) (getD x 1 0) (drop 8 x)))) 0) x
     (ap (λ (k : ℕ). getD x 0 0 ∷ k ∷ []) n ∙ front-two x (omega arith)) (field-again 2 2 x (omega arith) b) (field-again 4 4 x (omega arith) b)
-    (nodes-again (getD x 1 0) (drop 8 x) (omega arith) (bytes-drop 8 x b)) (ap (λ (k : ℕ). replicate (12 * (s .nodes - k)) 0) n ∙ sym rest)
+    (nodes-again (row s) (row-least s) (getD x 1 0) (drop 8 x) (omega (arith, rows-room (row s) (getD x 1 0) (s .nodes) few)) (bytes-drop 8 x b)) (ap (λ (k : ℕ). replicate (row s * (s .nodes - k)) 0) n ∙ sym rest)
 
 empty-again : (s : Sizes) → block-bytes s empty ≡ replicate (block-long s) 0
 unfolding block-bytes
 empty-again s = refl
 
 -- BYTES OF A BLOCK are those of the block read back
-pub block-again : (s : Sizes) (x : List ℕ) → length x ≡ block-long s → Bytes x → Clean s x → block-bytes s (block-of x) ≡ x
+pub block-again : (s : Sizes) (x : List ℕ) → length x ≡ block-long s → Bytes x → Clean s x → block-bytes s (block-of (row s) x) ≡ x
 unfolding block-of block-long
-block-again s x long b (zeros z e) = ap (λ (t : Bool). block-bytes s (cond t empty (holds (chunk-of x)))) (eq-eqb (getD x 0 0) 0 z) ∙ empty-again s ∙ sym e
+block-again s x long b (zeros z e) = ap (λ (t : Bool). block-bytes s (cond t empty (holds (chunk-of (row s) x)))) (eq-eqb (getD x 0 0) 0 z) ∙ empty-again s ∙ sym e
 block-again s x long b (filled l one few rest) = rw (ne-eqb (getD x 0 0) 0 (omega arith)) (chunk-again s x long b few rest)
 
 -- .. and that block is one that bytes can hold
-pub block-holdable : (s : Sizes) (x : List ℕ) → length x ≡ block-long s → Bytes x → Clean s x → Good s (block-of x)
+pub block-holdable : (s : Sizes) (x : List ℕ) → length x ≡ block-long s → Bytes x → Clean s x → Good s (block-of (row s) x)
 unfolding block-of block-long chunk-of head-label
 block-holdable s x long b (zeros z e) = rw (eq-eqb (getD x 0 0) 0 z) free
 block-holdable s x long b (filled l one few rest) =
     rw (ne-eqb (getD x 0 0) 0 (omega arith))
-    (held {c = chunk-of x} (record {
+    (held {c = chunk-of (row s) x} (record {
       level = l;
       first = field-less 4 4 x (omega arith) b;
       number = field-less 2 2 x (omega arith) b;
-      fine = each-read 12 node-in Fine fine-read (getD x 1 0) (drop 8 x) (simp length-drop (omega arith)) (bytes-drop 8 x b);
+      fine = each-read (row s) (node-in (row s)) (Fine (row s)) (fine-read (row s) (row-least s)) (getD x 1 0) (drop 8 x) (simp length-drop (omega (arith, rows-room (row s) (getD x 1 0) (s .nodes) few))) (bytes-drop 8 x b);
       nodes = rw nodes-count few;
     }))
 
 -- .. and its chunk has nodes
-pub block-full : (s : Sizes) (x : List ℕ) → Clean s x → (c : Chunk) → block-of x ≡ holds c → c .nodes ≢ []
+pub block-full : (s : Sizes) (x : List ℕ) → Clean s x → (c : Chunk) → block-of (row s) x ≡ holds c → c .nodes ≢ []
 unfolding block-of chunk-of
 block-full s x (zeros z e) c h =
-    let f : cond (eqb (getD x 0 0) 0) empty (holds (chunk-of x)) ≡ empty = rw (eq-eqb (getD x 0 0) 0 z) in
+    let f : cond (eqb (getD x 0 0) 0) empty (holds (chunk-of (row s) x)) ≡ empty = rw (eq-eqb (getD x 0 0) 0 z) in
     absurd (true≢false (cc (f, h)))
 block-full s x (filled l one few rest) c h =
-    let f : cond (eqb (getD x 0 0) 0) empty (holds (chunk-of x)) ≡ holds (chunk-of x) = rw (ne-eqb (getD x 0 0) 0 (omega arith)) in
-    let g : chunk-of x ≡ c = cc (f, h) in
-    subst (λ (d : Chunk). d .nodes ≢ []) g (rows-some 12 node-in (getD x 1 0) (drop 8 x) one)
+    let f : cond (eqb (getD x 0 0) 0) empty (holds (chunk-of (row s) x)) ≡ holds (chunk-of (row s) x) = rw (ne-eqb (getD x 0 0) 0 (omega arith)) in
+    let g : chunk-of (row s) x ≡ c = cc (f, h) in
+    subst (λ (d : Chunk). d .nodes ≢ []) g (rows-some (row s) (node-in (row s)) (getD x 1 0) (drop 8 x) one)
 
 -- ALL BLOCKS
 module _ (s : Sizes) where
@@ -120,7 +131,7 @@ module _ (s : Sizes) where
     good : All-good s bl
     full : Full bl
 
-  cut-read : (m : ℕ) (l : List ℕ) → length l ≡ m * block-long s → Bytes l → Cut-clean m l → Read l (map block-of (cut (block-long s) m l))
+  cut-read : (m : ℕ) (l : List ℕ) → length l ≡ m * block-long s → Bytes l → Cut-clean m l → Read l (map (block-of (row s)) (cut (block-long s) m l))
   unfolding rows rows-in
   cut-read zero l e b c = record { again = sym (length-zero l (e ∙ zero-mul (block-long s))); good = good-none; full = λ i c h. absurd (true≢false cc) }
   cut-read (suc m) l e b c =
@@ -136,8 +147,8 @@ module _ (s : Sizes) where
         full = full (block-full s x clean) (r .full);
       }
     where
-      full : ((c : Chunk) → block-of (take (block-long s) l) ≡ holds c → c .nodes ≢ []) → Full (map block-of (cut (block-long s) m (drop (block-long s) l)))
-          → Full (map block-of (cut (block-long s) (suc m) l))
+      full : ((c : Chunk) → block-of (row s) (take (block-long s) l) ≡ holds c → c .nodes ≢ []) → Full (map (block-of (row s)) (cut (block-long s) m (drop (block-long s) l)))
+          → Full (map (block-of (row s)) (cut (block-long s) (suc m) l))
       full one others zero c h = one c h
       full one others (suc i) c h = others i c h
 
@@ -159,7 +170,7 @@ module _ (s : Sizes) where
 
     pub blocks-many : length (blocks-in s bs) ≡ s .blocks
     unfolding blocks-in
-    blocks-many = length-map (cut (block-long s) (s .blocks) (drop 53 bs)) block-of ∙ cut-length (block-long s) (s .blocks) (drop 53 bs)
+    blocks-many = length-map (cut (block-long s) (s .blocks) (drop 53 bs)) (block-of (row s)) ∙ cut-length (block-long s) (s .blocks) (drop 53 bs)
 
     pub blocks-full : Full (blocks-in s bs)
     blocks-full = read .full

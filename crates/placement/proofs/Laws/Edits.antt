@@ -25,7 +25,9 @@ use Rattle.placement.proofs.Laws.Placed.{First, lands}
 use Rattle.placement.proofs.Laws.Removal.{removed-at, distance-steps}
 use Rattle.placement.proofs.Laws.Insertion.{insert-from, carry-start}
 use Rattle.placement.proofs.Laws.Labels.{home-inside}
-use Rattle.placement.proofs.Laws.Bridge.{Good, held, All-good, label-of, good-at, good-set, coding}
+use Rattle.placement.proofs.Laws.Bridge.{Good, held, All-good, label-of, length-nodes, good-at, good-set, coding}
+use Rattle.sizes.proofs.Laws.HeaderLoops.{rows-left}
+use Rattle.sizes.specs.Sizes.{row}
 use Rattle.placement.proofs.Laws.Coded.{block-read, block-write, pull-blocks, settle-blocks, label-blocks, probe-blocks}
 use Rattle.placement.proofs.Laws.Pulling.{pull-removed}
 use Rattle.placement.proofs.Laws.Settling.{Ahead, Carried, settle-theory, free-first}
@@ -37,11 +39,11 @@ full-label s (holds c) (held q) n e = omega (arith, q .level)
 
 -- the bytes of a chunk's block, as the code writes them
 pub block-written : (s : Sizes) (w : Label) (ns : List Order) → length ns ≤ s .nodes
-    → block-with (block-long s) w (length ns) (nodes-bytes ns) ≡ block-bytes s (holds (labelled w ns))
+    → block-with (block-long s) w (length ns) (nodes-bytes (row s) ns) ≡ block-bytes s (holds (labelled w ns))
 unfolding block-with head-bytes block-bytes block-long
 block-written s w ns h =
-    let e : 8 + 12 * s .nodes - 8 - 12 * length ns ≡ 12 * (s .nodes - length ns) = omega arith in
-    rw e
+    let e : 8 + row s * s .nodes - 8 - row s * length ns ≡ row s * (s .nodes - length ns) = omega (arith, rows-left (row s) (length ns) (s .nodes)) in
+    rw (length-nodes s ns, e)
 
 -- a table of sizes s: a header and blocks
 module _ (s : Sizes) (some : 0 < s .blocks) (hd : List ℕ) (eh : length hd ≡ 53) (bl : List (Block Chunk)) (v : All-good s bl) (long : length bl ≡ s .blocks) where
@@ -109,6 +111,6 @@ module _ (s : Sizes) (some : 0 < s .blocks) (hd : List ℕ) (eh : length hd ≡ 
         ∙ ap (λ (x : List (Block Chunk)). hd ++ all-bytes s x) (settle-theory s some e inside (first .steps) (s .blocks) start (labelled w ns) bl carry ahead))
 
     pub insert-at : (r : Found) → r ≡ free-in (label-in (block-long s) (hd ++ all-bytes s bl)) (s .blocks) (s .blocks) start
-        → inserted s r w (length ns) (nodes-bytes ns) (hd ++ all-bytes s bl) ≡ hd ++ all-bytes s (insert-from chunk-before (s .blocks) start (s .blocks) (labelled w ns) bl)
+        → inserted s r w (length ns) (nodes-bytes (row s) ns) (hd ++ all-bytes s bl) ≡ hd ++ all-bytes s (insert-from chunk-before (s .blocks) start (s .blocks) (labelled w ns) bl)
     unfolding inserted
     insert-at r h = rw (h ∙ found, block-written s w ns (q .nodes), steps-is) insert-here

@@ -7,7 +7,7 @@ use native.Mathlib.Nat.{le-refl, add-zero, sub-zero, sub-eq-zero-of-le, pos-of-n
 use native.Mathlib.Omega.{arith}
 use native.Mathlib.Numerals.{towards-suc, add-one}
 use lib.Dec.{ltb, leb, eqb}
-use lib.ListN.{length, getD, replicate, length-append}
+use lib.ListN.{length, getD, take, drop, replicate, length-append}
 use lib.Seq.{sets}
 use borrow.Author.Tests.{eq-eqb, ne-eqb, le-ltb, lt-ltb, eqb-true}
 use mir.Val.{Fits}
@@ -20,7 +20,7 @@ use Rattle.placement.specs.declared.Label.{Label}
 use Rattle.placement.specs.declared.Found.{Found}
 use Rattle.placement.specs.declared.Found.the-variants.{At, Nothing}
 use Rattle.placement.specs.Place.{Shaped, label-in, passes-label, probe, is-lower, four-lower, past-lower, search-in, behind, distance-of, stays-at, bytes, Pulled, pull, settle, found-at, taken-out, free-in, head-bytes, block-with, inserted}
-use Rattle.sizes.proofs.Laws.Parts.{sets-append}
+use Rattle.sizes.proofs.Laws.Parts.{sets-append, length-part}
 use Rattle.sizes.proofs.Laws.Sizes.{and-parts}
 use Rattle.placement.specs.Labels.{before, same-label, home}
 use Rattle.sizes.specs.Hash.{hash-from, g}
@@ -287,7 +287,7 @@ pub record Pulling (g : Sizes) (at : ℕ) (bs₀ bs : List ℕ) (hole k : ℕ) :
 
 pub shaped-same : (g : Sizes) (bs₀ bs : List ℕ) → Shaped g bs₀ → length bs ≡ length bs₀ → Shaped g bs
 shaped-same g bs₀ bs s e =
-    record { long = e ∙ s .long; width = s .width; few = s .few; some = s .some; most = s .most; seeds = s .seeds }
+    record { long = e ∙ s .long; width = s .width; least = s .least; wide = s .wide; few = s .few; some = s .some; most = s .most; seeds = s .seeds }
 
 module _ (g : Sizes) (at : ℕ) (bs₀ : List ℕ) where
   pub pulling-start : Shaped g bs₀ → at < g .blocks → Pulling g at bs₀ bs₀ at 1
@@ -465,12 +465,18 @@ unfolding head-bytes big
 length-head l n = refl
 
 pub block-made : (w v : ℕ) (bs s₁ s₂ s₃ : List ℕ) (e a : ℕ) (l : Label) (n u : ℕ) (xs : List ℕ) → s₁ ≡ sets bs a (head-bytes l n) → s₂ ≡ sets s₁ (a + 8) xs
-    → s₃ ≡ sets s₂ (a + 8 + u) (replicate (v - 8 - u) 0) → a ≡ 53 + e * w → v ≡ w → u ≡ 12 * n → length xs ≡ u → s₃ ≡ put-block w bs e (block-with w l n xs)
+    → s₃ ≡ sets s₂ (a + 8 + u) (replicate (v - 8 - u) 0) → a ≡ 53 + e * w → v ≡ w → length xs ≡ u → s₃ ≡ put-block w bs e (block-with w l n xs)
 unfolding put-block block-with
-block-made w v bs s₁ s₂ s₃ e a l n u xs e₁ e₂ e₃ ea ev eu el =
+block-made w v bs s₁ s₂ s₃ e a l n u xs e₁ e₂ e₃ ea ev el =
     let k : length (head-bytes l n ++ xs) ≡ 8 + u = length-append (head-bytes l n) xs ∙ rw (length-head l n, el) in
     let f : a + (8 + u) ≡ a + 8 + u = omega arith in
-    e₃ ∙ rw (ev, ← ea, ← eu, sets-append bs a (head-bytes l n ++ xs), k, sets-append bs a (head-bytes l n), length-head l n, f, e₂, e₁)
+    e₃ ∙ rw (ev, ← ea, el, sets-append bs a (head-bytes l n ++ xs), k, sets-append bs a (head-bytes l n), length-head l n, f, e₂, e₁)
+
+pub block-brought : (w v : ℕ) (bs s₁ s₂ s₃ : List ℕ) (e a : ℕ) (l : Label) (n u x : ℕ) (ys : List ℕ) (start : ℕ) → s₁ ≡ sets bs a (head-bytes l n) → s₂ ≡ sets s₁ (a + 8) (take u (drop start ys))
+    → s₃ ≡ sets s₂ (a + 8 + u) (replicate (v - 8 - u) 0) → a ≡ 53 + e * w → v ≡ w → u ≡ x → start + x ≤ length ys → s₃ ≡ put-block w bs e (block-with w l n (take x (drop start ys)))
+block-brought w v bs s₁ s₂ s₃ e a l n u x ys start e₁ e₂ e₃ ea ev eu h =
+    let k : length (take x (drop start ys)) ≡ u = length-part x start ys h ∙ sym eu in
+    block-made w v bs s₁ s₂ s₃ e a l n u (take x (drop start ys)) e₁ (e₂ ∙ ap (λ (z : ℕ). sets s₁ (a + 8) (take z (drop start ys))) eu) e₃ ea ev k
 
 pub mod-below : (a m x : ℕ) → x < m → a % m < m
 mod-below a m x h = mod-lt a (omega arith)

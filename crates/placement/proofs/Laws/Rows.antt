@@ -1,32 +1,21 @@
--- Rows of any width w, by any coding of a row in w bytes: how long they are, a field of one, and rows read back. This version's nodes have w = 12.
+-- Rows of any width w, by any coding of a row in w bytes: how long they are, one of them, and rows read back. Seeds, nodes of 12 or 16 bytes and blocks are such rows.
 use mathlib.Core.Path.{_≡_, refl, sym, ap, _∙_}
 use mathlib.Core.Logic.{_≢_}
 use mathlib.Core.Bool.{true≢false}
 use mathlib.Core.List.{List, [], _∷_, _++_, append-assoc}
 use Prim.Native.Nat.{ℕ, zero, suc, _+_, _*_, _≤_, _<_}
-use native.Mathlib.Nat.{mul-zero, mul-suc, zero-add, add-comm}
+use native.Mathlib.Nat.{mul-zero, mul-suc, add-comm}
 use native.Mathlib.Omega.{arith}
 use lib.ListN.{length, getD, take, drop, length-append, length-drop}
-use lib.Seq.{drop-at}
-use Rattle.sizes.specs.Numbers.{field, rows, rows-in, Each}
-use Rattle.sizes.proofs.Laws.Numbers.{Bytes, bytes-drop, take-more, field-head, field-past}
+use lib.Seq.{drop-at, drop-drop}
+use Rattle.sizes.specs.Numbers.{rows, rows-in, Each}
+use Rattle.sizes.proofs.Laws.Numbers.{Bytes, bytes-drop, take-more}
 
 module _ {A : Type 0} (w : ℕ) (f : A → List ℕ) (long : (x : A) → length (f x) ≡ w) where
   pub length-rows : (xs : List A) → length (rows f xs) ≡ w * length xs
   unfolding rows
   length-rows [] = sym (mul-zero w)
   length-rows (x ∷ xs) = length-append (f x) (rows f xs) ∙ rw (long x, length-rows xs, mul-suc) (add-comm _ _)
-
-  -- a field of row j
-  pub row-field : (xs : List A) (d : A) (r : List ℕ) (j a n : ℕ) → j < length xs → a + n ≤ w → field (w * j + a) n (rows f xs ++ r) ≡ field a n (f (getD xs j d))
-  unfolding rows
-  row-field [] d r j a n h k = absurd (omega arith)
-  row-field (x ∷ xs) d r zero a n h k =
-      let e : w * zero + a ≡ a = rw mul-zero (zero-add a) in
-      rw (e, append-assoc) (field-head a n (f x) (rows f xs ++ r) (omega (arith, long x)))
-  row-field (x ∷ xs) d r (suc j) a n h k =
-      let e : w * suc j + a ≡ length (f x) + (w * j + a) = omega (arith, long x, mul-suc w j) in
-      rw (e, append-assoc, field-past (f x) (rows f xs ++ r) (w * j + a) n) (row-field xs d r j a n (omega arith) k)
 
   -- rows written and read back, where one row is
   pub rows-back : (g : List ℕ → A) (P : A → Type 0) → ((x : A) (r : List ℕ) → P x → g (f x ++ r) ≡ x) → (xs : List A) (r : List ℕ) → Each P xs → rows-in w g (length xs) (rows f xs ++ r) ≡ xs
@@ -41,6 +30,12 @@ module _ {A : Type 0} (w : ℕ) (g : List ℕ → A) where
   unfolding rows-in
   rows-count zero xs = refl
   rows-count (suc k) xs = ap suc (rows-count k (drop w xs))
+
+  pub rows-at : (k j : ℕ) (xs : List ℕ) (d : A) → j < k → getD (rows-in w g k xs) j d ≡ g (drop (w * j) xs)
+  unfolding rows-in
+  rows-at zero j xs d h = absurd (omega arith)
+  rows-at (suc k) zero xs d h = rw mul-zero
+  rows-at (suc k) (suc j) xs d h = rows-at k j (drop w xs) d (omega arith) ∙ rw (drop-drop, mul-suc w j, add-comm (w * j) w)
 
   pub rows-some : (k : ℕ) (xs : List ℕ) → 0 < k → rows-in w g k xs ≢ []
   unfolding rows-in

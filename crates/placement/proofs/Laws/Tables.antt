@@ -15,6 +15,7 @@ use Rattle.placement.specs.declared.Order.{Order}
 use Rattle.placement.specs.Labels.{label, home}
 use Rattle.placement.specs.Chunks.{Chunk, chunk-home, chunk-before, block-bytes, all-bytes, nodes-bytes}
 use Rattle.sizes.specs.Numbers.{big}
+use Rattle.sizes.specs.Sizes.{row}
 use Rattle.sizes.specs.Header.{sizes-in, block-long}
 use Rattle.sizes.specs.Parts.{put-block}
 use Rattle.placement.specs.Place.{Shaped, label-in, search-in, bytes, pull, found-at, taken-out, free-in, block-with, inserted}
@@ -23,7 +24,7 @@ use Rattle.placement.specs.declared.Label.{Label}
 use Rattle.placement.specs.declared.Found.{Found}
 use Rattle.placement.specs.declared.Found.the-variants.{At, Nothing}
 use Rattle.placement.proofs.Laws.Labels.{Label-is, is, isnt, label-is}
-use Rattle.sizes.proofs.Laws.Sizes.{some-blocks, limits}
+use Rattle.sizes.proofs.Laws.Sizes.{some-blocks, limits, row-least, row-most}
 use Rattle.placement.proofs.Laws.Blocks.{around-inside}
 use Rattle.placement.proofs.Laws.Kinds.{kept-once, put-in, take-out, change}
 use Rattle.placement.proofs.Laws.Maps.{lawful}
@@ -169,18 +170,18 @@ module _ (s : Sizes) (F : Map) (n : ℕ) (hd bs : List ℕ) (t : Table s F n hd 
   -- INSERTION of a chunk whose label is absent
   pub insert-keeps : (w : Label) (ns : List Order) → Holdable s (labelled w ns) → nodes-of F w ≡ [] → ns ≢ [] → n < s .blocks
       → (r : Found) (bs′ : List ℕ) → r ≡ free-in (label-in (block-long s) bs) (s .blocks) (s .blocks) (home s w)
-      → bs′ ≡ inserted s r w (length ns) (nodes-bytes ns) bs → Table s (with-nodes w ns F) (suc n) hd bs′
+      → bs′ ≡ inserted s r w (length ns) (nodes-bytes (row s) ns) bs → Table s (with-nodes w ns F) (suc n) hd bs′
   unfolding with-chunk
   insert-keeps w ns q gone full room r bs′ er eb =
       now-keeps (with-nodes w ns F) (suc n) (insert-from chunk-before (s .blocks) (home s w) (s .blocks) (labelled w ns) (t .blocks)) bs′
-      (eb ∙ ap (inserted s r w (length ns) (nodes-bytes ns)) (t .is)
+      (eb ∙ ap (inserted s r w (length ns) (nodes-bytes (row s) ns)) (t .is)
       ∙ insert-at s some hd (t .head) (t .blocks) all (t .keeps .long) F n (t .keeps) w ns q gone room r
       (er ∙ ap (λ (x : List ℕ). free-in (label-in (block-long s) x) (s .blocks) (s .blocks) (home s w)) (t .is)))
       (sound-with s F (labelled w ns) (t .sound) q) (put-in (lawful s some) (labelled w ns) (t .keeps) gone full room)
 
   -- CHANGE of the nodes in a block that was found
   pub write-keeps : (w : Label) (i : ℕ) (ns : List Order) → 0 < w .level → search-in s bs w ≡ At i → Holdable s (labelled w ns) → ns ≢ []
-      → Table s (with-nodes w ns F) n hd (put-block (block-long s) bs i (block-with (block-long s) w (length ns) (nodes-bytes ns)))
+      → Table s (with-nodes w ns F) n hd (put-block (block-long s) bs i (block-with (block-long s) w (length ns) (nodes-bytes (row s) ns)))
   unfolding with-chunk
   write-keeps w i ns pos e q full =
       let f = found-there w i pos e in
@@ -200,6 +201,8 @@ module _ (s : Sizes) (F : Map) (n : ℕ) (hd bs : List ℕ) (t : Table s F n hd 
       record {
         long = ap length (t .is) ∙ length-append hd (all-bytes s (t .blocks)) ∙ rw (t .head, blocks-long s all, t .keeps .long);
         width = refl;
+        least = row-least s;
+        wide = row-most s;
         few = l .nodes-most;
         some = some;
         most = l .blocks-most;

@@ -8,9 +8,9 @@ use native.Mathlib.Omega.{arith}
 use lib.ListN.{length, getD, take, drop, length-map, length-take}
 use lib.Seq.{drop-drop}
 use Rattle.sizes.specs.Numbers.{rows-in}
-use Rattle.sizes.specs.Sizes.{made, beta}
+use Rattle.sizes.specs.Sizes.{made, beta, row}
 use Rattle.sizes.specs.Header.{header, block-long}
-use Rattle.placement.specs.Decode.{node-in, nodes-from}
+use Rattle.placement.specs.Decode.{node-in, node-of, nodes-from}
 use Rattle.placement.specs.Place.{search-in}
 use Rattle.placement.specs.Labels.{label}
 use Rattle.placement.specs.Maps.{Map, map-of, Table, Finds, is-at, is-none}
@@ -27,20 +27,20 @@ use Rattle.skiplist.specs.Image.{image, orders-in, orders-good, fits}
 use Rattle.skiplist.proofs.Laws.Parts.{Up, good-up, part}
 use Rattle.skiplist.proofs.Laws.Faithful.{map-is}
 use Rattle.skiplist.proofs.Laws.Image.{image-keeps}
-use Rattle.table.specs.Walk.{node-of, spot, chunk-spot, count-in}
+use Rattle.table.specs.Walk.{spot, chunk-spot, count-in}
 use Rattle.table.proofs.Laws.Came.{chunk-read as nodes-read}
 use Rattle.table.proofs.Laws.Complete.{table-finds}
 use Rattle.readings.specs.Visit.{Known}
 
 -- nodes read one after the other
-pub nodes-split : (bs : List ℕ) (a j : ℕ) → nodes-from (suc j) (drop a bs) ≡ node-of bs a ∷ nodes-from j (drop (a + 12) bs)
+pub nodes-split : (w : ℕ) (bs : List ℕ) (a j : ℕ) → nodes-from w (suc j) (drop a bs) ≡ node-of w bs a ∷ nodes-from w j (drop (a + w) bs)
 unfolding rows-in node-of
-nodes-split bs a j = ap (λ (z : List ℕ). node-in (drop a bs) ∷ nodes-from j z) (drop-drop 12 a bs)
+nodes-split w bs a j = ap (λ (z : List ℕ). node-in w (drop a bs) ∷ nodes-from w j z) (drop-drop w a bs)
 
-pub nodes-first : (bs : List ℕ) (a j : ℕ) → 0 < j → nodes-from j (drop a bs) ≡ node-of bs a ∷ nodes-from (j - 1) (drop (a + 12) bs)
-nodes-first bs a j h =
+pub nodes-first : (w : ℕ) (bs : List ℕ) (a j : ℕ) → 0 < j → nodes-from w j (drop a bs) ≡ node-of w bs a ∷ nodes-from w (j - 1) (drop (a + w) bs)
+nodes-first w bs a j h =
     let e : j ≡ suc (j - 1) = omega arith in
-    ap (λ (i : ℕ). nodes-from i (drop a bs)) e ∙ nodes-split bs a (j - 1)
+    ap (λ (i : ℕ). nodes-from w i (drop a bs)) e ∙ nodes-split w bs a (j - 1)
 
 none-left : (l b : ℕ) (d : List Order) → 0 < b → map (masked l) (take b d) ≡ [] → d ≡ []
 none-left l (suc b) [] h e = refl
@@ -51,12 +51,12 @@ none-left l zero d h e = absurd (omega arith)
 pub record Read (s : Sizes) (bs : List ℕ) (l b : ℕ) (own : List Order) : Type 0 where
   pub few : length own ≤ s .nodes
   pub count : getD bs (53 + b * block-long s + 1) 0 ≡ length own
-  pub nodes : nodes-from (length own) (drop (53 + b * block-long s + 8) bs) ≡ map (masked l) own
+  pub nodes : nodes-from (row s) (length own) (drop (53 + b * block-long s + 8) bs) ≡ map (masked l) own
 
 abbrev pub told-by : Sizes → List ℕ → Map
 told-by s bs = map-of (chunks s (orders-in bs))
 
-pub kept-by : (s : Sizes) (bs : List ℕ) → made s ≡ true → orders-good 1 (orders-in bs) ≡ true → fits s (orders-in bs) ≡ true → image s (orders-in bs) ≡ bs →
+pub kept-by : (s : Sizes) (bs : List ℕ) → made s ≡ true → orders-good s 1 (orders-in bs) ≡ true → fits s (orders-in bs) ≡ true → image s (orders-in bs) ≡ bs →
     Table s (told-by s bs) (length (chunks s (orders-in bs))) (header s (length (orders-in bs))) bs
 kept-by s bs m g f e = rw e at (image-keeps s (orders-in bs) m g f)
 
@@ -66,7 +66,7 @@ piece s bs l f i = take (s .nodes) (drop (i * s .nodes) (part s (orders-in bs) l
 
 module _ (s : Sizes) (bs : List ℕ) (w : Known s bs) where
   pub orders-up : Up 1 (orders-in bs)
-  orders-up = good-up 1 (orders-in bs) (w .good)
+  orders-up = good-up s 1 (orders-in bs) (w .good)
 
   pub kept : Table s (told-by s bs) (length (chunks s (orders-in bs))) (header s (length (orders-in bs))) bs
   kept = kept-by s bs (w .sizes-made) (w .good) (w .fit) (w .bytes)
@@ -101,7 +101,7 @@ module _ (s : Sizes) (bs : List ℕ) (w : Known s bs) where
         go : Finds s (told-by s bs) (label l f i) bs (At b) → Read s bs l b (piece s bs l f i)
         go (is-at h full is) =
             let some : 0 < length (told-by s bs l f i) = pos-of-ne-zero (λ z. full (length-zero (told-by s bs l f i) z)) in
-            let read : nodes-from (getD bs (53 + b * block-long s + 1) 0) (drop (53 + b * block-long s + 8) bs) ≡ map (masked l) (piece s bs l f i) =
+            let read : nodes-from (row s) (getD bs (53 + b * block-long s + 1) 0) (drop (53 + b * block-long s + 8) bs) ≡ map (masked l) (piece s bs l f i) =
             (rw (sym e ∙ q) at (table-finds s (told-by s bs) _ _ bs kept l f i low .there some .1)) ∙ told in
-            let many : getD bs (53 + b * block-long s + 1) 0 ≡ length (piece s bs l f i) = sym (nodes-count _ _) ∙ ap length read ∙ length-map (piece s bs l f i) (masked l) in
+            let many : getD bs (53 + b * block-long s + 1) 0 ≡ length (piece s bs l f i) = sym (nodes-count (row s) _ _) ∙ ap length read ∙ length-map (piece s bs l f i) (masked l) in
             record { few = omega (arith, length-take (s .nodes) (drop (i * s .nodes) (part s (orders-in bs) l f))); count = many; nodes = rw (← many) read }

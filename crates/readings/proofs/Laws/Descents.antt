@@ -8,13 +8,12 @@ use native.Mathlib.Omega.{arith}
 use borrow.Author.Tests.{ltb-true, lt-ltb, eq-eqb, ne-eqb, le-leb, lt-leb}
 use lib.Dec.{ltb, eqb}
 use lib.ListN.{length, take, drop, length-map}
-use lib.Seq.{drop-drop, sets, sets-eq, take-at}
-use Rattle.sizes.specs.Numbers.{field}
-use Rattle.sizes.specs.Sizes.{beta}
+use lib.Seq.{sets, sets-eq, take-at}
+use Rattle.sizes.specs.Sizes.{beta, row}
 use Rattle.sizes.specs.Geometry.{Reckoned}
 use Rattle.sizes.specs.declared.Sizes.{Sizes}
 use Rattle.sizes.specs.declared.Geometry.{Geometry}
-use Rattle.placement.specs.Decode.{node-in}
+use Rattle.placement.specs.Decode.{node-of}
 use Rattle.placement.specs.declared.Order.{Order}
 use Rattle.sizes.proofs.Laws.Sizes.{and-parts}
 use Rattle.skiplist.specs.Lists.{front}
@@ -26,7 +25,6 @@ use Rattle.skiplist.proofs.Laws.Shapes.{Place, there, absent, place, up-behind}
 use Rattle.skiplist.proofs.Laws.Segment.{between-above}
 use Rattle.skiplist.proofs.Laws.Descent.{below-both, start-top}
 use Rattle.skiplist.proofs.Laws.Nodes.{below-more}
-use Rattle.table.specs.Walk.{node-of}
 use Rattle.table.proofs.Laws.Descents.{path-long}
 use Rattle.levels.specs.declared.Trail.{Trail}
 use Rattle.levels.specs.Edit.{Way}
@@ -75,28 +73,21 @@ unfolding below
 below-one k y h = rw (lt-ltb (y .key) k h)
 
 -- what stands where a way has ended
-node-there : (bs : List ℕ) (a : ℕ) (o : Order) → field a 4 bs ≡ o .key → field (a + 4) 4 bs ≡ o .total → field (a + 8) 4 bs ≡ o .displayed → node-of bs a ≡ o
-unfolding node-of node-in field
-node-there bs a o k t d =
-    let t′ : node-of bs a .total ≡ o .total = rw (drop-drop 4 a bs) t in
-    let d′ : node-of bs a .displayed ≡ o .displayed = rw (drop-drop 8 a bs) d in
-    λ i. record { key = k i; total = t′ i; displayed = d′ i }
-
-landed-is : (bs : List ℕ) (k : ℕ) (t : Trail) (o : Order) → Ends bs t o → landed bs (t .at) k ≡ cond (eqb (o .key) k) (Is o) Nothing
+landed-is : (s : Sizes) (bs : List ℕ) (k : ℕ) (t : Trail) (o : Order) → Ends s bs t o → landed (row s) bs (t .at) k ≡ cond (eqb (o .key) k) (Is o) Nothing
 unfolding landed
-landed-is bs k t o e = rw (ne-eqb (t .at) 0 (omega (arith, e .1 .0)), node-there bs (t .at) o (e .1 .1) (e .1 .2) (e .1 .3))
+landed-is s bs k t o e = rw (ne-eqb (t .at) 0 (omega (arith, e .1 .0)), e .1 .1)
 
-module _ (bs : List ℕ) (a k : ℕ) where
-  pub landed-none : a ≡ 0 → Nothing ≡ landed bs a k
+module _ (w : ℕ) (bs : List ℕ) (a k : ℕ) where
+  pub landed-none : a ≡ 0 → Nothing ≡ landed w bs a k
   unfolding landed
   landed-none e = rw e
 
-  module _ (h : a ≡ 0 → ⊥) (o : Order) (eo : o ≡ node-of bs a) where
-    pub landed-other : (o .key ≡ k → ⊥) → Nothing ≡ landed bs a k
+  module _ (h : a ≡ 0 → ⊥) (o : Order) (eo : o ≡ node-of w bs a) where
+    pub landed-other : (o .key ≡ k → ⊥) → Nothing ≡ landed w bs a k
     unfolding landed
     landed-other n = rw (ne-eqb a 0 h, ← eo, ne-eqb (o .key) k n)
 
-    pub landed-found : o .key ≡ k → Is o ≡ landed bs a k
+    pub landed-found : o .key ≡ k → Is o ≡ landed w bs a k
     unfolding landed
     landed-found e = rw (ne-eqb a 0 h, ← eo, eq-eqb (o .key) k e)
 
@@ -145,7 +136,7 @@ module _ (s : Sizes) (bs : List ℕ) (w : Known s bs) (k : ℕ) (pos : 1 ≤ k) 
       pub trail : Trail
       pub is : way q bs k o ≡ trek trail (numbers-in o 0 (descent-path s (orders-in bs) k))
       pub count : trail .count ≡ length (descent-path s (orders-in bs) k)
-      pub ends : Ends bs trail z
+      pub ends : Ends s bs trail z
 
     by-cut : (xs zs : List Order) → orders-in bs ≡ xs ++ zs → below (suc k) xs ≡ true → Up (suc k) zs → (o : List ℕ) → Reached o (last-of front xs)
     unfolding descent-path
@@ -181,12 +172,12 @@ module _ (s : Sizes) (bs : List ℕ) (w : Known s bs) (k : ℕ) (pos : 1 ≤ k) 
           rw (ne-eqb (last-of front xs .key) k (λ h. omega (arith, last-low k xs (omega arith) b)), e) (sym (found-absent k xs zs b u)),
         )
 
-    pub order-right : (o : List ℕ) (t : Trail) (z : List ℕ) → trek t z ≡ way q bs k o → (r : Sought) → r ≡ landed bs (t .at) k → r ≡ first-of (between k k (orders-in bs))
+    pub order-right : (o : List ℕ) (t : Trail) (z : List ℕ) → trek t z ≡ way q bs k o → (r : Sought) → r ≡ landed (row (q .sizes)) bs (t .at) k → r ≡ first-of (between k k (orders-in bs))
     order-right o t z e r er =
         let v = ends-right o in
-        er ∙ ap (λ (x : Trek). landed bs (x .trail .at) k) (e ∙ v .1 .is) ∙ landed-is bs k (v .1 .trail) (v .0) (v .1 .ends) ∙ v .2
+        er ∙ ap (λ (x : Sizes). landed (row x) bs (t .at) k) eq ∙ ap (λ (x : Trek). landed (row s) bs (x .trail .at) k) (e ∙ v .1 .is) ∙ landed-is s bs k (v .1 .trail) (v .0) (v .1 .ends) ∙ v .2
 
     -- .. by the way alone
-    pub order-alone : (t : Trail) → t ≡ way-down (q .sizes) bs (q .top) 0 k → (r : Sought) → r ≡ landed bs (t .at) k → r ≡ first-of (between k k (orders-in bs))
+    pub order-alone : (t : Trail) → t ≡ way-down (q .sizes) bs (q .top) 0 k → (r : Sought) → r ≡ landed (row (q .sizes)) bs (t .at) k → r ≡ first-of (between k k (orders-in bs))
     unfolding way-down
     order-alone t e r er = order-right (0 ∷ []) t (way q bs k (0 ∷ []) .path) (ap (λ (x : Trail). trek x (way q bs k (0 ∷ []) .path)) e) r er

@@ -7,7 +7,9 @@ use native.Mathlib.Omega.{arith}
 use lib.Dec.{ltb, leb, eqb}
 use lib.ListN.{length}
 use borrow.Author.Tests.{leb-true, eq-eqb, ne-eqb, le-leb, lt-leb}
-use Rattle.sizes.specs.Sizes.{prime}
+use Rattle.sizes.specs.Sizes.{prime, row}
+use Rattle.sizes.specs.Header.{sizes-in}
+use Rattle.sizes.specs.declared.Sizes.{Sizes}
 use Rattle.sizes.proofs.Laws.Sizes.{and-parts}
 use Rattle.placement.specs.declared.Order.{Order}
 use Rattle.skiplist.specs.Image.{is-image, orders-in}
@@ -22,7 +24,7 @@ use Rattle.readings.specs.declared.calls.Sought.{Sought}
 use Rattle.readings.specs.declared.calls.Sought.the-variants.{Is, Nothing}
 use Rattle.table.specs.Calls.{reply, gives, check-number, order-of, Look-as, Look-says, Span-as, Span-says, Seek-as, Seek-says}
 use Rattle.readings.specs.Visit.{scan, starting, steps, first-of}
-use Rattle.readings.proofs.Laws.Answers.{counted-all, written-all}
+use Rattle.readings.proofs.Laws.Answers.{width, counted-all, written-all}
 
 -- QUESTION 4
 pub checked-yes : (bs : List ℕ) (n : ℕ) → n ≡ check-number bs → n ≡ 0 → is-image bs ≡ true
@@ -71,21 +73,21 @@ module _ (bs : List ℕ) (k : ℕ) (r : Reply) where
   unfolding Look-says refusal asks first-no asks-image asks-key
   look-by a b c ea eb ec h = rw (ea, eb, ec) h
 
-  pub look-4 : is-image bs ≡ false → r ≡ reply 4 0 0 0 0 → Look-says bs k r
+  pub look-4 : is-image bs ≡ false → r ≡ reply 4 0 0 0 0 0 → Look-says bs k r
   unfolding Look-as gives
   look-4 e h = look-by false _ _ e refl refl h
 
   module _ (image : is-image bs ≡ true) (b : Bool) (eb : b ≡ is-key k) where
-    pub look-5 : b ≡ false → r ≡ reply 5 0 0 0 0 → Look-says bs k r
+    pub look-5 : b ≡ false → r ≡ reply 5 0 0 0 0 0 → Look-says bs k r
     unfolding Look-as gives
     look-5 e h = look-by true false _ image (sym eb ∙ e) refl h
 
     module _ (e : b ≡ true) (q : Sought) (eq : q ≡ first-of (between k k (orders-in bs))) where
-      pub look-9 : q ≡ Nothing → r ≡ reply 9 0 0 0 0 → Look-says bs k r
+      pub look-9 : q ≡ Nothing → r ≡ reply 9 0 0 0 0 0 → Look-says bs k r
       unfolding Look-as gives
       look-9 z h = look-by true true false image (sym eb ∙ e) (sought-absent k (orders-in bs) q eq z) h
 
-      pub look-found : (o : Order) → q ≡ Is o → r ≡ reply 0 (o .key) (o .total) (o .displayed) 0 → Look-says bs k r
+      pub look-found : (o : Order) → q ≡ Is o → r ≡ reply 0 (o .key) (o .total) (o .displayed) (o .price) 0 → Look-says bs k r
       unfolding Look-as gives
       look-found o z h = let t = sought-there k (orders-in bs) q eq o z in look-by true true true image (sym eb ∙ e) (t .0) (rw (h, t .1))
 
@@ -125,52 +127,58 @@ module _ (bs : List ℕ) (lo hi least : ℕ) (r : Reply) (n : ℕ) (en : n ≡ f
   unfolding Seek-says Seek-as refusal asks asks-seek
   seek-by i e h = h ∙ ap (λ (j : ℕ). gives j 0 (lowest fitting)) (sym (range-more bs lo hi n en 12 _ ∙ e))
 
-  refused-seek : (i : ℕ) → (i ≡ 0 → ⊥) → r ≡ reply i 0 0 0 0 → r ≡ gives i 0 (lowest fitting)
+  refused-seek : (i : ℕ) → (i ≡ 0 → ⊥) → r ≡ reply i 0 0 0 0 0 → r ≡ gives i 0 (lowest fitting)
   unfolding gives
   refused-seek zero z h = absurd (z refl)
   refused-seek (suc i) z h = h
 
-  pub seek-turned : (n ≡ 0 → ⊥) → r ≡ reply n 0 0 0 0 → Seek-says bs lo hi least r
+  pub seek-turned : (n ≡ 0 → ⊥) → r ≡ reply n 0 0 0 0 0 → Seek-says bs lo hi least r
   seek-turned z h = seek-by n (rw (ne-eqb n 0 z)) (refused-seek n z h)
 
   module _ (z : n ≡ 0) (q : Sought) (eq : q ≡ first-of fitting) where
-    pub seek-12 : q ≡ Nothing → r ≡ reply 12 0 0 0 0 → Seek-says bs lo hi least r
+    pub seek-12 : q ≡ Nothing → r ≡ reply 12 0 0 0 0 0 → Seek-says bs lo hi least r
     unfolding any-order
     seek-12 e h = seek-by 12 (rw (eq-eqb n 0 z, first-empty fitting (sym e ∙ eq))) (refused-seek 12 (omega arith) h)
 
-    pub seek-found : (o : Order) → q ≡ Is o → r ≡ reply 0 (o .key) (o .total) (o .displayed) 0 → Seek-says bs lo hi least r
+    pub seek-found : (o : Order) → q ≡ Is o → r ≡ reply 0 (o .key) (o .total) (o .displayed) (o .price) 0 → Seek-says bs lo hi least r
     unfolding gives
     seek-found o e h = let g = first-is fitting o (sym e ∙ eq) in seek-by 0 (rw (eq-eqb n 0 z, g .0)) (rw (h, g .1))
 
 -- SPAN
 module _ (bs : List ℕ) (lo hi : ℕ) (r : Reply) (x : List ℕ) (n : ℕ) (en : n ≡ first-no (asks-image bs ++ asks-range lo hi)) where
-  span-by : (z : List ℕ) (i : ℕ) → cond (eqb n 0) (cond (leb (12 * length (between lo hi (orders-in bs))) (length x)) 0 11) n ≡ i →
-      Span-as i (between lo hi (orders-in bs)) r x z → Span-says bs lo hi r x z
-  unfolding Span-says refusal asks asks-span
-  span-by z i e h = subst (λ (j : ℕ). Span-as j (between lo hi (orders-in bs)) r x z) (sym (range-more bs lo hi n en 11 _ ∙ e)) h
+  abbrev inside : List Order
+  inside = between lo hi (orders-in bs)
 
-  refused-span : (i : ℕ) → (i ≡ 0 → ⊥) → r ≡ reply i 0 0 0 0 → (z : List ℕ) → z ≡ x → Span-as i (between lo hi (orders-in bs)) r x z
+  span-by : (z : List ℕ) (i : ℕ) → cond (eqb n 0) (cond (leb (width bs * length inside) (length x)) 0 11) n ≡ i → Span-as (width bs) i inside r x z → Span-says bs lo hi r x z
+  unfolding Span-says refusal asks asks-span
+  span-by z i e h = subst (λ (j : ℕ). Span-as (width bs) j inside r x z) (sym (range-more bs lo hi n en 11 _ ∙ e)) h
+
+  refused-span : (i : ℕ) → (i ≡ 0 → ⊥) → r ≡ reply i 0 0 0 0 0 → (z : List ℕ) → z ≡ x → Span-as (width bs) i inside r x z
   unfolding Span-as
   refused-span zero p h z e = absurd (p refl)
   refused-span (suc i) p h z e = (h, e)
 
-  pub span-turned : (n ≡ 0 → ⊥) → r ≡ reply n 0 0 0 0 → Span-says bs lo hi r x x
+  pub span-turned : (n ≡ 0 → ⊥) → r ≡ reply n 0 0 0 0 0 → Span-says bs lo hi r x x
   span-turned p h = span-by x n (rw (ne-eqb n 0 p)) (refused-span n p h x refl)
 
   -- it counts, and then writes into the output that it has left as it was
-  module _ (p : n ≡ 0) (v : Visit) (y : List ℕ) (ev : scan v y ≡ steps (orders-in bs) (scan (starting lo hi 0 false false) x)) where
-    many : (v .found ≡ length (between lo hi (orders-in bs))) × (y ≡ x)
+  module _ (p : n ≡ 0) (v : Visit) (y : List ℕ) (ev : scan (width bs) v y ≡ steps (orders-in bs) (scan (width bs) (starting lo hi 0 false false) x))
+      (s : Sizes) (es : s ≡ sizes-in bs) (u : ℕ) (eu : u ≡ row s) (m : ℕ) (em : m ≡ u * v .found) where
+    many : (v .found ≡ length inside) × (y ≡ x)
     many = counted-all bs (range-asked bs lo hi n en p .0) lo hi v x y ev
 
-    pub span-11 : length y < 12 * v .found → r ≡ reply 11 0 0 0 0 → Span-says bs lo hi r x y
+    wanted : m ≡ width bs * length inside
+    wanted = em ∙ ap (λ (i : ℕ). i * v .found) (eu ∙ ap row es) ∙ ap (λ (i : ℕ). width bs * i) (many .0)
+
+    pub span-11 : length y < m → r ≡ reply 11 0 0 0 0 0 → Span-says bs lo hi r x y
     span-11 h g =
-        let short : length x < 12 * length (between lo hi (orders-in bs)) = omega (arith, many .0, ap length (many .1)) in
+        let short : length x < width bs * length inside = omega (arith, wanted, ap length (many .1)) in
         span-by y 11 (rw (eq-eqb n 0 p, lt-leb _ _ short)) (refused-span 11 (omega arith) g y (many .1))
 
-    pub span-written : 12 * v .found ≤ length y → (w : Visit) (z : List ℕ) → scan w z ≡ steps (orders-in bs) (scan (starting lo hi 0 true false) y) →
-        r ≡ reply 0 0 0 0 (w .found) → Span-says bs lo hi r x z
+    pub span-written : m ≤ length y → (w : Visit) (z : List ℕ) → scan (width bs) w z ≡ steps (orders-in bs) (scan (width bs) (starting lo hi 0 true false) y) →
+        r ≡ reply 0 0 0 0 0 (w .found) → Span-says bs lo hi r x z
     unfolding Span-as
     span-written h w z ew er =
-        let room : 12 * length (between lo hi (orders-in bs)) ≤ length x = omega (arith, many .0, ap length (many .1)) in
+        let room : width bs * length inside ≤ length x = omega (arith, wanted, ap length (many .1)) in
         let g = written-all bs (range-asked bs lo hi n en p .0) lo hi w x z room (rw (many .1) at ew) in
         span-by z 0 (rw (eq-eqb n 0 p, le-leb _ _ room)) (rw (er, g .0), g .1)

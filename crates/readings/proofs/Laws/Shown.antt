@@ -10,6 +10,7 @@ use lib.Dec.{leb, eqb}
 use lib.ListN.{length, drop}
 use lib.Seq.{sets-eq}
 use Rattle.sizes.specs.Numbers.{rows}
+use Rattle.sizes.specs.Sizes.{row}
 use Rattle.sizes.specs.Header.{sizes-in, rule-1}
 use Rattle.sizes.specs.Geometry.{Reckoned}
 use Rattle.sizes.specs.declared.Geometry.{Geometry}
@@ -52,24 +53,24 @@ module _ (bs : List ℕ) (k : ℕ) (o : List ℕ) where
 
   module _ (r : Reply) where
     -- a refusal that shows no path
-    refused-as : (n : ℕ) → n ≡ 5 ⊎ n ≡ 11 → r ≡ reply n 0 0 0 0 → refusal (descent k o) bs ≡ n → Descent-as (refusal (descent k o) bs) k (orders-in bs) path r o o
+    refused-as : (n : ℕ) → n ≡ 5 ⊎ n ≡ 11 → r ≡ reply n 0 0 0 0 0 → refusal (descent k o) bs ≡ n → Descent-as (refusal (descent k o) bs) k (orders-in bs) path r o o
     unfolding Descent-as Look-as gives shown path-bytes rows
     refused-as n (inl e) h q = rw (q, e) (rw e at h, refl)
     refused-as n (inr e) h q = rw (q, e) (rw e at h, refl)
 
     -- 4 and 5
-    pub descent-4 : (a : Bool) → a ≡ rule-1 bs → a ≡ false → r ≡ reply 4 0 0 0 0 → Descent-says bs k r o o
+    pub descent-4 : (a : Bool) → a ≡ rule-1 bs → a ≡ false → r ≡ reply 4 0 0 0 0 0 → Descent-says bs k r o o
     descent-4 a ea e h = record {
       turned-down = λ z. (rw (first false (is-key k) (sym ea ∙ e) refl) h, refl);
       on-image = λ i. absurd (false≢true (sym e ∙ ea ∙ image-rule bs i));
       within = within-none r o (rw h);
     }
 
-    pub descent-short : length bs < 53 → r ≡ reply 4 0 0 0 0 → Descent-says bs k r o o
+    pub descent-short : length bs < 53 → r ≡ reply 4 0 0 0 0 0 → Descent-says bs k r o o
     descent-short l h = descent-4 false (rule-short bs l) refl h
 
     module _ (a : Bool) (ea : a ≡ rule-1 bs) (ra : a ≡ true) (b : Bool) (eb : b ≡ is-key k) where
-      pub descent-5 : b ≡ false → r ≡ reply 5 0 0 0 0 → Descent-says bs k r o o
+      pub descent-5 : b ≡ false → r ≡ reply 5 0 0 0 0 0 → Descent-says bs k r o o
       descent-5 e h = record {
         turned-down = λ z. (rw (first true false (sym ea ∙ ra) (sym eb ∙ e)) h, refl);
         on-image = λ i. refused-as 5 (inl refl) h (number i false _ _ (sym eb ∙ e) refl refl);
@@ -91,7 +92,7 @@ module _ (bs : List ℕ) (k : ℕ) (o : List ℕ) where
           long : t .count ≡ length path
           long = let v = reached x in ap (λ (z : Trek). z .trail .count) (et ∙ v .1 .is) ∙ v .1 .count
 
-          order : (f : Sought) → f ≡ landed bs (t .at) k → f ≡ first-of (between k k (orders-in bs))
+          order : (f : Sought) → f ≡ landed (row (q .sizes)) bs (t .at) k → f ≡ first-of (between k k (orders-in bs))
           order f ef = order-right (sizes-in bs) bs (known-image bs i) k (key-least k b eb rb) q eq rk x t x′ et f ef
 
           written : 2 * t .count ≤ length o → (z : List ℕ) → z ≡ way q bs k o .path → z ≡ path-bytes path ++ drop (2 * length path) o
@@ -102,7 +103,7 @@ module _ (bs : List ℕ) (k : ℕ) (o : List ℕ) where
               ez ∙ ap (λ (w : Trek). w .path) (v .1 .is) ∙ numbers-room o 0 path room ∙ sets-eq (path-bytes path) o 0 (omega (arith, path-long path, room))
               ∙ ap (λ (j : ℕ). path-bytes path ++ drop j o) n
 
-        pub descent-11 : length o < 2 * t .count → r ≡ reply 11 0 0 0 0 → Descent-says bs k r o o
+        pub descent-11 : length o < 2 * t .count → r ≡ reply 11 0 0 0 0 0 → Descent-says bs k r o o
         descent-11 l h = record {
           turned-down = λ z. passed z;
           on-image = λ i. refused-as 11 (inr refl) h (number i true false _ (sym eb ∙ rb) (lt-leb (2 * length path) (length o) (omega (arith, long i))) refl);
@@ -122,8 +123,8 @@ module _ (bs : List ℕ) (k : ℕ) (o : List ℕ) where
           room-yes : is-image bs ≡ true → leb (2 * length path) (length o) ≡ true
           room-yes i = le-leb (2 * length path) (length o) (omega (arith, long i))
 
-          module _ (f : Sought) (ef : f ≡ landed bs (t .at) k) where
-            pub descent-9 : f ≡ Nothing → r ≡ reply 9 0 0 0 (t .count) → Descent-says bs k r o z
+          module _ (f : Sought) (ef : f ≡ landed (row (q .sizes)) bs (t .at) k) where
+            pub descent-9 : f ≡ Nothing → r ≡ reply 9 0 0 0 0 (t .count) → Descent-says bs k r o z
             unfolding Descent-as Look-as gives shown
             descent-9 e h = record {
               turned-down = λ z. passed z;
@@ -135,7 +136,7 @@ module _ (bs : List ℕ) (k : ℕ) (o : List ℕ) where
               within = inside (rw h);
             }
 
-            pub descent-found : (y : Order) → f ≡ Is y → r ≡ reply 0 (y .key) (y .total) (y .displayed) (t .count) → Descent-says bs k r o z
+            pub descent-found : (y : Order) → f ≡ Is y → r ≡ reply 0 (y .key) (y .total) (y .displayed) (y .price) (t .count) → Descent-says bs k r o z
             unfolding Descent-as Look-as gives shown
             descent-found y e h = record {
               turned-down = λ z. passed z;

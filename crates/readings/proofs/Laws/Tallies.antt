@@ -22,7 +22,7 @@ use Rattle.readings.proofs.Laws.Wholes.{Within, rowed, steps-whole}
 
 -- what a seek has found
 abbrev pub answer-of : Visit → Sought
-answer-of v = cond (eqb (v .found) 0) Nothing (Is (record { key = v .key; total = v .total; displayed = v .displayed }))
+answer-of v = cond (eqb (v .found) 0) Nothing (Is (record { key = v .key; total = v .total; displayed = v .displayed; price = v .price }))
 
 -- THE ORDERS IN THE RANGE alone leave the same, but for whether the visit has ended
 pub record Alike (y z : Scan) : Type 0 where
@@ -37,9 +37,9 @@ steps-past : (o : Order) (os : List Order) (x : Scan) → x .visit .hi < o .key 
 unfolding step-by ended-visit
 steps-past o os x h = rw (lt-ltb (x .visit .hi) (o .key) h) (go (x .visit .ended) refl)
   where
-    go : (t : Bool) → x .visit .ended ≡ t → Alike x (steps os (cond t x (scan (ended-visit (x .visit)) (x .output))))
+    go : (t : Bool) → x .visit .ended ≡ t → Alike x (steps os (cond t x (scan (x .row) (ended-visit (x .visit)) (x .output))))
     go true e = rw (steps-ended os x e) (alike x)
-    go false e = rw (steps-ended os (scan (ended-visit (x .visit)) (x .output)) refl) (record { found = refl; output = refl; answer = refl })
+    go false e = rw (steps-ended os (scan (x .row) (ended-visit (x .visit)) (x .output)) refl) (record { found = refl; output = refl; answer = refl })
 
 module _ (lo hi : ℕ) where
   pub steps-between : (os : List Order) (a : ℕ) → Up a os → (x : Scan) → x .visit .lo ≡ lo → x .visit .hi ≡ hi → Alike (steps (between lo hi os) x) (steps os x)
@@ -67,45 +67,45 @@ module _ (lo hi : ℕ) where
       go ih false e c f = ih
 
 -- COUNTING AND WRITING
-pub record Tallied (v : Visit) (x : List ℕ) (ns : List Order) (y : Scan) : Type 0 where
+pub record Tallied (w : ℕ) (v : Visit) (x : List ℕ) (ns : List Order) (y : Scan) : Type 0 where
   pub found : y .visit .found ≡ v .found + length ns
-  pub output : y .output ≡ rowed (v .writes) x (12 * v .found) ns
+  pub output : y .output ≡ rowed w (v .writes) x (w * v .found) ns
 
-module _ (v : Visit) (x : List ℕ) (goes-on : v .ended ≡ false) where
-  tally-within : (ns : List Order) → Within (v .lo) (v .hi) ns → v .seeks ≡ false → v .found + length ns ≤ 65535 → (v .writes ≡ true → 12 * (v .found + length ns) ≤ length x) →
-      Tallied v x ns (steps ns (scan v x))
+module _ (w : ℕ) (least : 12 ≤ w) (v : Visit) (x : List ℕ) (goes-on : v .ended ≡ false) where
+  tally-within : (ns : List Order) → Within (v .lo) (v .hi) ns → v .seeks ≡ false → v .found + length ns ≤ 65535 → (v .writes ≡ true → w * (v .found + length ns) ≤ length x) →
+      Tallied w v x ns (steps ns (scan w v x))
   unfolding steps rows
-  tally-within [] w p h r = record { found = sym (add-zero (v .found)); output = none (v .writes) }
+  tally-within [] q p h r = record { found = sym (add-zero (v .found)); output = none (v .writes) }
     where
-      none : (b : Bool) → x ≡ rowed b x (12 * v .found) []
+      none : (b : Bool) → x ≡ rowed w b x (w * v .found) []
       none true = refl
       none false = refl
-  tally-within (n ∷ ns) w p h r =
-      let e = steps-whole n ns v x (v .writes) refl p goes-on w h r in
+  tally-within (n ∷ ns) q p h r =
+      let e = steps-whole w least n ns v x (v .writes) refl p goes-on q h r in
       record { found = ap (λ (y : Scan). y .visit .found) e; output = ap (λ (y : Scan). y .output) e }
 
   pub tally : (os : List Order) (a : ℕ) → Up a os → v .seeks ≡ false → v .found + length (between (v .lo) (v .hi) os) ≤ 65535 →
-      (v .writes ≡ true → 12 * (v .found + length (between (v .lo) (v .hi) os)) ≤ length x) → Tallied v x (between (v .lo) (v .hi) os) (steps os (scan v x))
+      (v .writes ≡ true → w * (v .found + length (between (v .lo) (v .hi) os)) ≤ length x) → Tallied w v x (between (v .lo) (v .hi) os) (steps os (scan w v x))
   tally os a u p h r =
-      let w = steps-between (v .lo) (v .hi) os a u (scan v x) refl refl in
+      let b = steps-between (v .lo) (v .hi) os a u (scan w v x) refl refl in
       let t = tally-within (between (v .lo) (v .hi) os) (all-within (v .lo) (v .hi) os) p h r in
-      record { found = w .found ∙ t .found; output = w .output ∙ t .output }
+      record { found = b .found ∙ t .found; output = b .output ∙ t .output }
 
   -- SEEKING
   module _ (p : v .seeks ≡ true) (f : v .found ≡ 0) where
-    sought-within : (ns : List Order) → Within (v .lo) (v .hi) ns → answer-of (steps ns (scan v x) .visit) ≡ first-of (enough (v .least) ns)
+    sought-within : (ns : List Order) → Within (v .lo) (v .hi) ns → answer-of (steps ns (scan w v x) .visit) ≡ first-of (enough (v .least) ns)
     unfolding steps enough first-of more-found
-    sought-within [] w = rw (eq-eqb (v .found) 0 f)
-    sought-within (o ∷ os) w = go (sought-within os (w .2)) (leb (v .least) (reserve o)) refl
+    sought-within [] q = rw (eq-eqb (v .found) 0 f)
+    sought-within (o ∷ os) r = go (sought-within os (r .2)) (leb (v .least) (reserve o)) refl
       where
-        go : answer-of (steps os (scan v x) .visit) ≡ first-of (enough (v .least) os) → (t : Bool) → leb (v .least) (reserve o) ≡ t →
-            answer-of (steps os (step-by o (scan v x)) .visit) ≡ first-of (cond t (o ∷ enough (v .least) os) (enough (v .least) os))
-        go ih false q = rw (told o v x false false false _ goes-on (le-ltb _ _ (w .1)) (sym (wanted-some v o (w .0) p (reserve o) refl) ∙ q) refl) ih
+        go : answer-of (steps os (scan w v x) .visit) ≡ first-of (enough (v .least) os) → (t : Bool) → leb (v .least) (reserve o) ≡ t →
+            answer-of (steps os (step-by o (scan w v x)) .visit) ≡ first-of (cond t (o ∷ enough (v .least) os) (enough (v .least) os))
+        go ih false q = rw (told w o v x false false false _ goes-on (le-ltb _ _ (r .1)) (sym (wanted-some v o (r .0) p (reserve o) refl) ∙ q) refl) ih
         go ih true q =
             let n : next-found (v .found) ≡ 1 = ap next-found f ∙ sym (next-more 0 (omega arith)) in
             ap (λ (y : Scan). answer-of (y .visit))
-            (ap (steps os) (told o v x false false true _ goes-on (le-ltb _ _ (w .1)) (sym (wanted-some v o (w .0) p (reserve o) refl) ∙ q) refl) ∙ steps-ended os _ p)
+            (ap (steps os) (told w o v x false false true _ goes-on (le-ltb _ _ (r .1)) (sym (wanted-some v o (r .0) p (reserve o) refl) ∙ q) refl) ∙ steps-ended os _ p)
             ∙ rw n
 
-    pub sought : (os : List Order) (a : ℕ) → Up a os → answer-of (steps os (scan v x) .visit) ≡ first-of (enough (v .least) (between (v .lo) (v .hi) os))
-    sought os a u = steps-between (v .lo) (v .hi) os a u (scan v x) refl refl .answer ∙ sought-within (between (v .lo) (v .hi) os) (all-within (v .lo) (v .hi) os)
+    pub sought : (os : List Order) (a : ℕ) → Up a os → answer-of (steps os (scan w v x) .visit) ≡ first-of (enough (v .least) (between (v .lo) (v .hi) os))
+    sought os a u = steps-between (v .lo) (v .hi) os a u (scan w v x) refl refl .answer ∙ sought-within (between (v .lo) (v .hi) os) (all-within (v .lo) (v .hi) os)

@@ -4,16 +4,16 @@ use mathlib.Core.Bool.{Bool, true, false, cond}
 use mathlib.Core.List.{List, [], _∷_, _++_, map}
 use Prim.Native.Nat.{ℕ, zero, suc, _+_, _*_, _-_, _≤_, _<_}
 use native.Mathlib.Omega.{arith}
-use native.Mathlib.Nat.{zero-mul, suc-mul}
+use native.Mathlib.Nat.{zero-mul, suc-mul, mul-zero, mul-suc, pos-of-ne-zero}
 use native.Mathlib.Numerals.{add-one}
 use lib.Dec.{ltb}
 use borrow.Author.Tests.{ltb-false}
 use lib.ListN.{length, getD, drop, length-take, take-append-drop, drop-of-length-le}
 use lib.Seq.{drop-drop}
 use Rattle.sizes.specs.Numbers.{field, rows-in}
-use Rattle.sizes.specs.Sizes.{beta}
+use Rattle.sizes.specs.Sizes.{beta, row}
 use Rattle.sizes.specs.Header.{block-long}
-use Rattle.placement.specs.Decode.{nodes-from}
+use Rattle.placement.specs.Decode.{node-of, nodes-from}
 use Rattle.placement.specs.Place.{search-in}
 use Rattle.sizes.specs.declared.Sizes.{Sizes}
 use Rattle.placement.specs.declared.Order.{Order}
@@ -25,8 +25,8 @@ use Rattle.skiplist.proofs.Laws.Parts.{part}
 use Rattle.skiplist.proofs.Laws.Walk.{each, spread, each-append, each-one}
 use Rattle.levels.specs.Ways.{upto-in}
 use Rattle.readings.specs.declared.Visit.{Visit}
-use Rattle.table.specs.Walk.{node-of}
-use Rattle.table.proofs.Laws.Steps.{node-key}
+use Rattle.sizes.proofs.Laws.HeaderLoops.{rows-one, rows-room}
+use Rattle.placement.proofs.Laws.Reading.{key-of}
 use Rattle.readings.specs.Visit.{Scan, scan, step-by, steps, Known, Row, passed-front, under, all-under}
 use Rattle.readings.proofs.Laws.Visits.{steps-append, steps-ended, Keeps, keeps-all, keeps-on, steps-keep, steps-below}
 use Rattle.readings.proofs.Laws.Rows.{row-piece, row-tail, row-below, each-masked}
@@ -54,128 +54,155 @@ module _ (os : List Order) (x : Scan) (ps : List Order) (y : Scan) (l : Left os 
     rest = l .rest ∙ ap (λ (q : List Order). steps q y) e ∙ steps-append qs rs y ∙ ap (steps rs) (sym ez);
   }
 
-pub length-kept : (os : List Order) (v w : Visit) (x z : List ℕ) → scan w z ≡ steps os (scan v x) → length z ≡ length x
-length-kept os v w x z e = ap (λ (q : Scan). length (q .output)) e ∙ steps-keep os (scan v x) .long
+pub length-kept : (k : ℕ) (os : List Order) (v w : Visit) (x z : List ℕ) → scan k w z ≡ steps os (scan k v x) → length z ≡ length x
+length-kept k os v w x z e = ap (λ (q : Scan). length (q .output)) e ∙ steps-keep os (scan k v x) .long
 
 pub row-one : (s : Sizes) (os : List Order) (l : ℕ) (ns : List Order) → l ≡ 1 → Row s os l ns → Row s os 1 ns
 row-one s os l ns e r = rw e at r
 
+-- the bytes of a row, by another name
+pub width-room : (u w a j n : ℕ) → u ≡ w → a + w * j ≤ n → a + u * j ≤ n
+width-room u w a j n e h = rw e h
+
 -- where the next node is not above the lowest key, nothing under this one is in the range
 module _ (s : Sizes) (bs : List ℕ) (l a j : ℕ) (x : Scan) (k : Known s bs) (low : 1 ≤ l) (range : x .visit .lo ≤ x .visit .hi)
-    (row : Row s (orders-in bs) l (nodes-from j (drop a bs))) (more : 2 ≤ j) (next : field (a + 12) 4 bs ≤ x .visit .lo) where
-  two : nodes-from j (drop a bs) ≡ node-of bs a ∷ node-of bs (a + 12) ∷ nodes-from (j - 1 - 1) (drop (a + 12 + 12) bs)
-  two =
-      nodes-first bs a j (omega arith)
-      ∙ ap (λ (ns : List Order). node-of bs a ∷ ns) (nodes-first bs (a + 12) (j - 1) (omega arith))
+    (nodes : Row s (orders-in bs) l (nodes-from (row s) j (drop a bs))) (more : 2 ≤ j) (next : field (a + row s) 4 bs ≤ x .visit .lo) where
+  abbrev one : Order
+  one = node-of (row s) bs a
 
-  nothing-under : steps (under s bs (l - 1) (node-of bs a)) x ≡ x
+  abbrev other : Order
+  other = node-of (row s) bs (a + row s)
+
+  two : nodes-from (row s) j (drop a bs) ≡ one ∷ other ∷ nodes-from (row s) (j - 1 - 1) (drop (a + row s + row s) bs)
+  two =
+      nodes-first (row s) bs a j (omega arith)
+      ∙ ap (λ (ns : List Order). one ∷ ns) (nodes-first (row s) bs (a + row s) (j - 1) (omega arith))
+
+  nothing-under : steps (under s bs (l - 1) one) x ≡ x
   unfolding under
   nothing-under =
       let e : l ≡ suc (l - 1) = omega arith in
-      let r : Row s (orders-in bs) (suc (l - 1)) (nodes-from j (drop a bs)) = subst (λ (i : ℕ). Row s (orders-in bs) i (nodes-from j (drop a bs))) e row in
-      steps-below (spread s (orders-in bs) (l - 1) (node-of bs a)) (node-of bs (a + 12) .key) x range (omega (arith, node-key bs (a + 12) _ refl))
-      (row-below s (orders-in bs) (orders-up s bs k) (l - 1) (node-of bs a) (node-of bs (a + 12)) _ (subst (Row s (orders-in bs) (suc (l - 1))) two r))
+      let r : Row s (orders-in bs) (suc (l - 1)) (nodes-from (row s) j (drop a bs)) = subst (λ (i : ℕ). Row s (orders-in bs) i (nodes-from (row s) j (drop a bs))) e nodes in
+      steps-below (spread s (orders-in bs) (l - 1) one) (other .key) x range (omega (arith, key-of (row s) bs (a + row s)))
+      (row-below s (orders-in bs) (orders-up s bs k) (l - 1) one other _ (subst (Row s (orders-in bs) (suc (l - 1))) two r))
 
--- NODES in a loop: k of the j nodes from a on are left, from a place on; F is what nodes open
-pub record Nodding (F : List Order → List Order) (bs : List ℕ) (a j : ℕ) (x : Scan) (k place : ℕ) (y : Scan) : Type 0 where
-  pub room : place + 12 * k ≤ length bs
-  pub left : Left (F (nodes-from j (drop a bs))) x (F (nodes-from k (drop place bs))) y
+-- NODES in a loop: k of the j nodes of w bytes from a on are left, from a place on; F is what nodes open
+pub record Nodding (w : ℕ) (F : List Order → List Order) (bs : List ℕ) (a j : ℕ) (x : Scan) (k place : ℕ) (y : Scan) : Type 0 where
+  pub room : place + w * k ≤ length bs
+  pub left : Left (F (nodes-from w j (drop a bs))) x (F (nodes-from w k (drop place bs))) y
 
-module _ (F : List Order → List Order) (bs : List ℕ) (a j : ℕ) (x : Scan) where
-  pub nodding-start : a + 12 * j ≤ length bs → Nodding F bs a j x j a x
-  nodding-start h = record { room = h; left = left-start (F (nodes-from j (drop a bs))) x }
+module _ (w : ℕ) (F : List Order → List Order) (bs : List ℕ) (a j : ℕ) (x : Scan) where
+  pub nodding-start : a + w * j ≤ length bs → Nodding w F bs a j x j a x
+  nodding-start h = record { room = h; left = left-start (F (nodes-from w j (drop a bs))) x }
 
-  module _ (k place : ℕ) (y : Scan) (p : Nodding F bs a j x k place y) where
-    nodding-none : F [] ≡ [] → k ≤ 0 → y ≡ steps (F (nodes-from j (drop a bs))) x
+  module _ (k place : ℕ) (y : Scan) (p : Nodding w F bs a j x k place y) where
+    nodding-none : F [] ≡ [] → k ≤ 0 → y ≡ steps (F (nodes-from w j (drop a bs))) x
     unfolding rows-in
     nodding-none f h =
         let e : k ≡ 0 = omega arith in
-        left-none _ _ _ _ (p .left) (ap (λ (i : ℕ). F (nodes-from i (drop place bs))) e ∙ f)
+        left-none _ _ _ _ (p .left) (ap (λ (i : ℕ). F (nodes-from w i (drop place bs))) e ∙ f)
 
-    nodding-next : 0 < k → (qs : List Order) → F (node-of bs place ∷ nodes-from (k - 1) (drop (place + 12) bs)) ≡ qs ++ F (nodes-from (k - 1) (drop (place + 12) bs)) →
-        (z : Scan) → z ≡ steps qs y → Nodding F bs a j x (k - 1) (place + 12) z
-    nodding-next h qs f z ez =
-        record { room = omega (arith, p .room); left = left-more _ _ _ _ (p .left) qs _ (ap F (nodes-first bs place k h) ∙ f) z ez }
+    -- a node has room, and so have those behind it
+    pub nodding-room : 0 < k → place + w ≤ length bs
+    nodding-room h = omega (arith, p .room, rows-one w k h)
+
+    nodding-next : 0 < k → (u : ℕ) → u ≡ w → (qs : List Order) → F (node-of w bs place ∷ nodes-from w (k - 1) (drop (place + w) bs)) ≡ qs ++ F (nodes-from w (k - 1) (drop (place + w) bs)) →
+        (z : Scan) → z ≡ steps qs y → Nodding w F bs a j x (k - 1) (place + u) z
+    nodding-next h u eu qs f z ez =
+        subst (λ (i : ℕ). Nodding w F bs a j x (k - 1) (place + i) z) (sym eu)
+        (record { room = omega (arith, p .room, rows-one w k h); left = left-more _ _ _ _ (p .left) qs _ (ap F (nodes-first w bs place k h) ∙ f) z ez })
 
 -- nodes that are orders
-module _ (bs : List ℕ) (a j : ℕ) (x : Scan) (k place : ℕ) (y : Scan) (p : Nodding (λ ns. ns) bs a j x k place y) where
-  pub orders-more : 0 < k → (n : Order) → n ≡ node-of bs place → (z : Scan) → z ≡ step-by n y → Nodding (λ ns. ns) bs a j x (k - 1) (place + 12) z
+module _ (w : ℕ) (bs : List ℕ) (a j : ℕ) (x : Scan) (k place : ℕ) (y : Scan) (p : Nodding w (λ ns. ns) bs a j x k place y) where
+  pub orders-more : 0 < k → (u : ℕ) → u ≡ w → (n : Order) → n ≡ node-of w bs place → (z : Scan) → z ≡ step-by n y → Nodding w (λ ns. ns) bs a j x (k - 1) (place + u) z
   unfolding steps
-  orders-more h n en z ez = nodding-next (λ ns. ns) bs a j x k place y p h (node-of bs place ∷ []) refl z (ez ∙ ap (λ (o : Order). step-by o y) en)
+  orders-more h u eu n en z ez = nodding-next w (λ ns. ns) bs a j x k place y p h u eu (node-of w bs place ∷ []) refl z (ez ∙ ap (λ (o : Order). step-by o y) en)
 
-  pub orders-end : (s : Sizes) → k ≤ 0 → y ≡ steps (all-under s bs 0 (nodes-from j (drop a bs))) x
+  pub orders-end : (s : Sizes) → k ≤ 0 → y ≡ steps (all-under s bs 0 (nodes-from w j (drop a bs))) x
   unfolding all-under spread
-  orders-end s h = nodding-none (λ ns. ns) bs a j x k place y p refl h ∙ ap (λ (ns : List Order). steps ns x) (sym (each-one (nodes-from j (drop a bs))))
+  orders-end s h = nodding-none w (λ ns. ns) bs a j x k place y p refl h ∙ ap (λ (ns : List Order). steps ns x) (sym (each-one (nodes-from w j (drop a bs))))
 
 -- nodes that open their partitions
-module _ (s : Sizes) (bs : List ℕ) (l a j : ℕ) (x : Scan) (k place : ℕ) (y : Scan) (p : Nodding (all-under s bs (l - 1)) bs a j x k place y) where
-  pub nodding-orders : l ≡ 1 → (z : Scan) → z ≡ steps (all-under s bs 0 (nodes-from k (drop place bs))) y → z ≡ steps (all-under s bs (l - 1) (nodes-from j (drop a bs))) x
+module _ (s : Sizes) (bs : List ℕ) (l a j : ℕ) (x : Scan) (k place : ℕ) (y : Scan) (p : Nodding (row s) (all-under s bs (l - 1)) bs a j x k place y) where
+  abbrev all : List Order
+  all = nodes-from (row s) j (drop a bs)
+
+  pub nodding-orders : l ≡ 1 → (z : Scan) → z ≡ steps (all-under s bs 0 (nodes-from (row s) k (drop place bs))) y → z ≡ steps (all-under s bs (l - 1) all) x
   nodding-orders e z h =
       let o : 0 ≡ l - 1 = omega arith in
-      h ∙ ap (λ (i : ℕ). steps (all-under s bs i (nodes-from k (drop place bs))) y) o ∙ sym (p .left .rest)
+      h ∙ ap (λ (i : ℕ). steps (all-under s bs i (nodes-from (row s) k (drop place bs))) y) o ∙ sym (p .left .rest)
 
-  pub nodding-end : k ≤ 0 → y ≡ steps (all-under s bs (l - 1) (nodes-from j (drop a bs))) x
+  pub nodding-end : k ≤ 0 → y ≡ steps (all-under s bs (l - 1) all) x
   unfolding all-under each
-  nodding-end h = nodding-none (all-under s bs (l - 1)) bs a j x k place y p refl h
+  nodding-end h = nodding-none (row s) (all-under s bs (l - 1)) bs a j x k place y p refl h
 
-  pub nodding-more : 0 < k → (n : Order) → n ≡ node-of bs place → (z : Scan) → z ≡ steps (under s bs (l - 1) n) y →
-      Nodding (all-under s bs (l - 1)) bs a j x (k - 1) (place + 12) z
+  pub nodding-more : 0 < k → (u : ℕ) → u ≡ row s → (n : Order) → n ≡ node-of (row s) bs place → (z : Scan) → z ≡ steps (under s bs (l - 1) n) y →
+      Nodding (row s) (all-under s bs (l - 1)) bs a j x (k - 1) (place + u) z
   unfolding all-under each under
-  nodding-more h n en z ez =
-      nodding-next (all-under s bs (l - 1)) bs a j x k place y p h (under s bs (l - 1) (node-of bs place)) refl z
+  nodding-more h u eu n en z ez =
+      nodding-next (row s) (all-under s bs (l - 1)) bs a j x k place y p h u eu (under s bs (l - 1) (node-of (row s) bs place)) refl z
       (ez ∙ ap (λ (o : Order). steps (under s bs (l - 1) o) y) en)
 
 -- .. past the nodes at the front that end before the range starts
 pub record Begun (s : Sizes) (bs : List ℕ) (l a j : ℕ) (x : Scan) (k place : ℕ) : Type 0 where
-  pub row : Row s (orders-in bs) l (nodes-from k (drop place bs))
-  pub nodes : Nodding (all-under s bs (l - 1)) bs a j x k place x
+  pub listed : Row s (orders-in bs) l (nodes-from (row s) k (drop place bs))
+  pub nodes : Nodding (row s) (all-under s bs (l - 1)) bs a j x k place x
 
 module _ (s : Sizes) (bs : List ℕ) (l a j : ℕ) (x : Scan) (known : Known s bs) (low : 1 ≤ l) (range : x .visit .lo ≤ x .visit .hi) where
-  begun-passed : (k place : ℕ) → Begun s bs l a j x (suc (suc k)) place → field (place + 12) 4 bs ≤ x .visit .lo → Begun s bs l a j x (suc k) (place + 12)
+  abbrev w : ℕ
+  w = row s
+
+  begun-passed : (k place : ℕ) → Begun s bs l a j x (suc (suc k)) place → field (place + w) 4 bs ≤ x .visit .lo → Begun s bs l a j x (suc k) (place + w)
   begun-passed k place b t =
       let c : suc (suc k) - 1 ≡ suc k = omega arith in
-      let w : Begun s bs l a j x (suc (suc k) - 1) (place + 12) = record {
-        row = row-tail s (orders-in bs) l (node-of bs place) _ (subst (Row s (orders-in bs) l) (nodes-first bs place (suc (suc k)) (omega arith)) (b .row));
-        nodes = nodding-more s bs l a j x (suc (suc k)) place x (b .nodes) (omega arith) _ refl x (sym (nothing-under s bs l place (suc (suc k)) x known low range (b .row) (omega arith) t));
+      let next : Begun s bs l a j x (suc (suc k) - 1) (place + w) = record {
+        listed = row-tail s (orders-in bs) l (node-of w bs place) _ (subst (Row s (orders-in bs) l) (nodes-first w bs place (suc (suc k)) (omega arith)) (b .listed));
+        nodes = nodding-more s bs l a j x (suc (suc k)) place x (b .nodes) (omega arith) w refl _ refl x (sym (nothing-under s bs l place (suc (suc k)) x known low range (b .listed) (omega arith) t));
       } in
-      rw c at w
+      rw c at next
 
   begun-front : (k place : ℕ) → Begun s bs l a j x k place →
-      Begun s bs l a j x (k - passed-front bs k place (x .visit .lo)) (place + 12 * passed-front bs k place (x .visit .lo))
+      Begun s bs l a j x (k - passed-front w bs k place (x .visit .lo)) (place + w * passed-front w bs k place (x .visit .lo))
   unfolding passed-front upto-in
-  begun-front zero place b = let e : place + 12 * 0 ≡ place = omega arith in rw e b
-  begun-front (suc zero) place b = let e : place + 12 * 0 ≡ place = omega arith in rw e b
-  begun-front (suc (suc k)) place b = go (λ c. begun-front (suc k) (place + 12) c) (ltb (x .visit .lo) (field (place + 12) 4 bs)) refl
+  begun-front zero place b = let e : place + w * 0 ≡ place = omega (arith, mul-zero w) in rw e b
+  begun-front (suc zero) place b = let e : place + w * 0 ≡ place = omega (arith, mul-zero w) in rw e b
+  begun-front (suc (suc k)) place b = go (λ c. begun-front (suc k) (place + w) c) (ltb (x .visit .lo) (field (place + w) 4 bs)) refl
     where
       n : ℕ
-      n = upto-in bs k (place + 12 + 12) (x .visit .lo)
+      n = upto-in w bs k (place + w + w) (x .visit .lo)
 
-      go : (Begun s bs l a j x (suc k) (place + 12) → Begun s bs l a j x (suc k - n) (place + 12 + 12 * n)) →
-          (t : Bool) → ltb (x .visit .lo) (field (place + 12) 4 bs) ≡ t → Begun s bs l a j x (suc (suc k) - cond t 0 (suc n)) (place + 12 * cond t 0 (suc n))
+      go : (Begun s bs l a j x (suc k) (place + w) → Begun s bs l a j x (suc k - n) (place + w + w * n)) →
+          (t : Bool) → ltb (x .visit .lo) (field (place + w) 4 bs) ≡ t → Begun s bs l a j x (suc (suc k) - cond t 0 (suc n)) (place + w * cond t 0 (suc n))
       go on true e =
           let c : suc (suc k) - 0 ≡ suc (suc k) = omega arith in
-          let h : place + 12 * 0 ≡ place = omega arith in
+          let h : place + w * 0 ≡ place = omega (arith, mul-zero w) in
           rw (c, h) b
       go on false e =
           let d : suc (suc k) - suc n ≡ suc k - n = omega arith in
-          let f : place + 12 * suc n ≡ place + 12 + 12 * n = omega arith in
-          rw (d, f) (on (begun-passed k place b (ltb-false (x .visit .lo) (field (place + 12) 4 bs) e)))
+          let f : place + w * suc n ≡ place + w + w * n = omega (arith, mul-suc w n) in
+          rw (d, f) (on (begun-passed k place b (ltb-false (x .visit .lo) (field (place + w) 4 bs) e)))
 
-  pub begun : a + 12 * j ≤ length bs → Row s (orders-in bs) l (nodes-from j (drop a bs)) → (n : ℕ) → n ≡ passed-front bs j a (x .visit .lo) →
-      Begun s bs l a j x (j - n) (a + 12 * n)
-  begun h r n e = rw e (begun-front j a (record { row = r; nodes = nodding-start (all-under s bs (l - 1)) bs a j x h }))
+  pub begun : a + w * j ≤ length bs → Row s (orders-in bs) l (nodes-from w j (drop a bs)) → (u : ℕ) → u ≡ w → (n : ℕ) → n ≡ passed-front u bs j a (x .visit .lo) → (m : ℕ) → m ≡ u * n →
+      Begun s bs l a j x (j - n) (a + m)
+  begun h r u eu n e m em =
+      let q : m ≡ w * n = em ∙ ap (λ (i : ℕ). i * n) eu in
+      let f : n ≡ passed-front w bs j a (x .visit .lo) = e ∙ ap (λ (i : ℕ). passed-front i bs j a (x .visit .lo)) eu in
+      rw (q, f) (begun-front j a (record { listed = r; nodes = nodding-start w (all-under s bs (l - 1)) bs a j x h }))
 
 -- the count of those nodes
-module _ (bs : List ℕ) (j a lo : ℕ) where
-  pub skipped-none : j ≡ 0 → 0 ≡ passed-front bs j a lo
+module _ (w : ℕ) (bs : List ℕ) (j a lo : ℕ) where
+  pub skipped-none : j ≡ 0 → 0 ≡ passed-front w bs j a lo
   unfolding passed-front
   skipped-none e = rw e
 
-  pub skipped-some : (j ≡ 0 → ⊥) → (r : ℕ) → r ≡ upto-in bs (j - 1) (a + 12) lo → r ≡ passed-front bs j a lo
+  pub skipped-some : (j ≡ 0 → ⊥) → (r : ℕ) → r ≡ upto-in w bs (j - 1) (a + w) lo → r ≡ passed-front w bs j a lo
   unfolding passed-front
   skipped-some h r e =
       let c : j ≡ suc (j - 1) = omega arith in
-      e ∙ ap (λ (i : ℕ). passed-front bs i a lo) (sym c)
+      e ∙ ap (λ (i : ℕ). passed-front w bs i a lo) (sym c)
+
+pub skipped-room : (w a j n : ℕ) → (j ≡ 0 → ⊥) → a + w * j ≤ n → a + w + w * (j - 1) ≤ n
+skipped-room w a j n h r = omega (arith, rows-one w j (pos-of-ne-zero h))
 
 -- CHUNKS
 abbrev left-of : Sizes → List ℕ → (l : ℕ) → Order → (i : ℕ) → List Order
@@ -218,18 +245,18 @@ module _ (s : Sizes) (bs : List ℕ) (l : ℕ) (o : Order) (x : Scan) where
             many : n ≡ length (piece s bs l (o .key) i)
             many = en ∙ got .count
 
-            nodes-are : nodes-from n (drop (at + 8) bs) ≡ map (masked l) (piece s bs l (o .key) i)
+            nodes-are : nodes-from (row s) n (drop (at + 8) bs) ≡ map (masked l) (piece s bs l (o .key) i)
             nodes-are = rw (many, ea) (got .nodes)
 
             -- its nodes stand in the table, and one after the other in the list of the level
-            pub chunk-met : at + block-long s ≤ 53 + s .blocks * block-long s → (at + 8 + 12 * n ≤ length bs) × Row s (orders-in bs) l (nodes-from n (drop (at + 8) bs))
+            pub chunk-met : at + block-long s ≤ 53 + s .blocks * block-long s → (at + 8 + row s * n ≤ length bs) × Row s (orders-in bs) l (nodes-from (row s) n (drop (at + 8) bs))
             chunk-met h = (
-              omega (arith, many, got .few, k .shaped .long, k .shaped .width),
+              omega (arith, k .shaped .long, k .shaped .width, rows-room (row s) n (s .nodes) (omega (arith, many, got .few))),
               rw nodes-are (row-piece s (orders-in bs) l (o .key) (s .nodes) (i * s .nodes) (orders-up s bs k)),
             )
 
-            module _ (z : Scan) (ez : z ≡ steps (all-under s bs (l - 1) (nodes-from n (drop (at + 8) bs))) y) where
-              opens-same : all-under s bs (l - 1) (nodes-from n (drop (at + 8) bs)) ≡ all-under s bs (l - 1) (piece s bs l (o .key) i)
+            module _ (z : Scan) (ez : z ≡ steps (all-under s bs (l - 1) (nodes-from (row s) n (drop (at + 8) bs))) y) where
+              opens-same : all-under s bs (l - 1) (nodes-from (row s) n (drop (at + 8) bs)) ≡ all-under s bs (l - 1) (piece s bs l (o .key) i)
               unfolding all-under
               opens-same =
                   let e : suc (l - 1) ≡ l = omega (arith, g .above) in

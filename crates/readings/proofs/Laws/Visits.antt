@@ -1,18 +1,15 @@
 -- Laws of what the visit's small functions give, and of orders that come by one after the other.
 use mathlib.Core.Path.{_≡_, refl, sym, ap, _∙_}
 use mathlib.Core.Bool.{Bool, true, false, cond}
-use mathlib.Core.List.{List, [], _∷_, _++_, append-assoc}
+use mathlib.Core.List.{List, [], _∷_, _++_}
 use Prim.Native.Nat.{ℕ, _+_, _*_, _-_, _≤_, _<_}
 use lib.Dec.{ltb, leb}
 use lib.ListN.{length}
 use lib.Seq.{sets, length-sets}
 use borrow.Author.Tests.{ltb-true, eq-eqb, ne-eqb, le-leb, lt-leb, le-ltb, lt-ltb}
 use native.Mathlib.Omega.{arith}
-use Rattle.sizes.specs.Numbers.{big}
 use Rattle.placement.specs.Chunks.{node-bytes}
 use Rattle.placement.specs.declared.Order.{Order}
-use Rattle.sizes.proofs.Laws.Numbers.{length-big}
-use Rattle.sizes.proofs.Laws.Parts.{sets-append}
 use Rattle.sizes.proofs.Laws.Sizes.{and-parts}
 use Rattle.skiplist.specs.Questions.{reserve}
 use Rattle.skiplist.proofs.Laws.Parts.{below}
@@ -53,45 +50,45 @@ module _ (v : Visit) (o : Order) where
   unfolding wanted-by
   wanted-some h e r er = rw (le-leb _ _ h, e, er)
 
-module _ (x : List ℕ) (a : ℕ) (o : Order) where
-  pub row-none : length x < a + 12 → x ≡ row-in x a o
+-- a row, where r is what a row has
+module _ (w : ℕ) (x : List ℕ) (a : ℕ) (o : Order) (r : ℕ) (er : r ≡ w) where
+  pub row-none : length x < a + r → x ≡ row-in w x a o
   unfolding row-in
-  row-none h = rw (lt-leb _ _ h)
+  row-none h = rw (lt-leb (a + w) (length x) (omega arith))
 
-  pub row-made : a + 12 ≤ length x → (x₁ x₂ x₃ : List ℕ) → x₁ ≡ sets x a (big 4 (o .key)) → x₂ ≡ sets x₁ (a + 4) (big 4 (o .total)) →
-      x₃ ≡ sets x₂ (a + 8) (big 4 (o .displayed)) → x₃ ≡ row-in x a o
-  unfolding row-in node-bytes
-  row-made h x₁ x₂ x₃ e₁ e₂ e₃ =
-      let e : a + 8 ≡ a + 4 + 4 = omega arith in
-      rw (le-leb _ _ h, e₃, e₂, e₁, e, append-assoc, sets-append x a, length-big, sets-append, length-big)
+  pub row-made : a + r ≤ length x → (z : List ℕ) → z ≡ sets x a (node-bytes w o) → z ≡ row-in w x a o
+  unfolding row-in
+  row-made h z e = rw (le-leb (a + w) (length x) (omega arith), e)
 
 -- AN ORDER COMES BY
-abbrev pub as-told : Order → Visit → List ℕ → (ended past wanted writes : Bool) → Scan
-as-told o v x a b c d =
-    cond a (scan v x) (cond b (scan (ended-visit v) x) (cond c (scan (more-found o v) (cond d (row-in x (12 * v .found) o) x)) (scan v x)))
+abbrev pub as-told : (w : ℕ) → Order → Visit → List ℕ → (ended past wanted writes : Bool) → Scan
+as-told w o v x a b c d =
+    cond a (scan w v x) (cond b (scan w (ended-visit v) x) (cond c (scan w (more-found o v) (cond d (row-in w x (w * v .found) o) x)) (scan w v x)))
 
-module _ (o : Order) (v : Visit) (x : List ℕ) where
-  pub told : (a b c d : Bool) → v .ended ≡ a → ltb (v .hi) (o .key) ≡ b → wanted-by v o ≡ c → v .writes ≡ d → step-by o (scan v x) ≡ as-told o v x a b c d
+module _ (w : ℕ) (o : Order) (v : Visit) (x : List ℕ) where
+  pub told : (a b c d : Bool) → v .ended ≡ a → ltb (v .hi) (o .key) ≡ b → wanted-by v o ≡ c → v .writes ≡ d → step-by o (scan w v x) ≡ as-told w o v x a b c d
   unfolding step-by
   told a b c d ea eb ec ed = rw (ec, eb, ea, ed)
 
-  pub step-ended : v .ended ≡ true → scan v x ≡ step-by o (scan v x)
+  pub step-ended : v .ended ≡ true → scan w v x ≡ step-by o (scan w v x)
   step-ended e = sym (told true _ _ _ e refl refl refl)
 
   module _ (e : v .ended ≡ false) where
-    pub step-past : v .hi < o .key → (w : Visit) → w ≡ ended-visit v → scan w x ≡ step-by o (scan v x)
-    step-past h w ew = ap (λ (z : Visit). scan z x) ew ∙ sym (told false true _ _ e (lt-ltb _ _ h) refl refl)
+    pub step-past : v .hi < o .key → (u : Visit) → u ≡ ended-visit v → scan w u x ≡ step-by o (scan w v x)
+    step-past h u eu = ap (λ (z : Visit). scan w z x) eu ∙ sym (told false true _ _ e (lt-ltb _ _ h) refl refl)
 
     module _ (h : o .key ≤ v .hi) (b : Bool) (eb : b ≡ wanted-by v o) where
-      pub step-other : b ≡ false → scan v x ≡ step-by o (scan v x)
+      pub step-other : b ≡ false → scan w v x ≡ step-by o (scan w v x)
       step-other f = sym (told false false false _ e (le-ltb _ _ h) (sym eb ∙ f) refl)
 
-      module _ (f : b ≡ true) (w : Visit) (ew : w ≡ more-found o v) where
-        pub step-writes : v .writes ≡ true → (z : List ℕ) → z ≡ row-in x (12 * v .found) o → scan w z ≡ step-by o (scan v x)
-        step-writes p z ez = ap (λ (u : Visit). scan u z) ew ∙ ap (scan (more-found o v)) ez ∙ sym (told false false true true e (le-ltb _ _ h) (sym eb ∙ f) p)
+      module _ (f : b ≡ true) (u : Visit) (eu : u ≡ more-found o v) where
+        pub step-writes : v .writes ≡ true → (r a : ℕ) → r ≡ w → a ≡ r * v .found → (z : List ℕ) → z ≡ row-in w x a o → scan w u z ≡ step-by o (scan w v x)
+        step-writes p r a er ea z ez =
+            let q : a ≡ w * v .found = ea ∙ ap (λ (i : ℕ). i * v .found) er in
+            ap (λ (t : Visit). scan w t z) eu ∙ ap (scan w (more-found o v)) (ez ∙ ap (λ (i : ℕ). row-in w x i o) q) ∙ sym (told false false true true e (le-ltb _ _ h) (sym eb ∙ f) p)
 
-        pub step-counts : v .writes ≡ false → scan w x ≡ step-by o (scan v x)
-        step-counts p = ap (λ (u : Visit). scan u x) ew ∙ sym (told false false true false e (le-ltb _ _ h) (sym eb ∙ f) p)
+        pub step-counts : v .writes ≡ false → scan w u x ≡ step-by o (scan w v x)
+        step-counts p = ap (λ (t : Visit). scan w t x) eu ∙ sym (told false false true false e (le-ltb _ _ h) (sym eb ∙ f) p)
 
 -- ORDERS, one after the other
 pub steps-append : (xs ys : List Order) (x : Scan) → steps (xs ++ ys) x ≡ steps ys (steps xs x)
@@ -102,15 +99,15 @@ steps-append (o ∷ xs) ys x = steps-append xs ys (step-by o x)
 pub steps-ended : (os : List Order) (x : Scan) → x .visit .ended ≡ true → steps os x ≡ x
 unfolding steps
 steps-ended [] x e = refl
-steps-ended (o ∷ os) x e = ap (steps os) (sym (step-ended o (x .visit) (x .output) e)) ∙ steps-ended os x e
+steps-ended (o ∷ os) x e = ap (steps os) (sym (step-ended (x .row) o (x .visit) (x .output) e)) ∙ steps-ended os x e
 
 -- a row keeps the output's length
-pub row-length : (x : List ℕ) (a : ℕ) (o : Order) → length (row-in x a o) ≡ length x
+pub row-length : (w : ℕ) (x : List ℕ) (a : ℕ) (o : Order) → length (row-in w x a o) ≡ length x
 unfolding row-in
-row-length x a o = go (leb (a + 12) (length x))
+row-length w x a o = go (leb (a + w) (length x))
   where
-    go : (t : Bool) → length (cond t (sets x a (node-bytes o)) x) ≡ length x
-    go true = length-sets x a (node-bytes o)
+    go : (t : Bool) → length (cond t (sets x a (node-bytes w o)) x) ≡ length x
+    go true = length-sets x a (node-bytes w o)
     go false = refl
 
 -- a visit keeps its range and the output's length
@@ -129,10 +126,10 @@ pub step-keeps : (o : Order) (x : Scan) → Keeps x (step-by o x)
 unfolding step-by more-found ended-visit
 step-keeps o x = go (x .visit .ended) (ltb (x .visit .hi) (o .key)) (wanted-by (x .visit) o) (x .visit .writes)
   where
-    go : (a b c d : Bool) → Keeps x (as-told o (x .visit) (x .output) a b c d)
+    go : (a b c d : Bool) → Keeps x (as-told (x .row) o (x .visit) (x .output) a b c d)
     go true b c d = keeps-all x
     go false true c d = record { lo = refl; hi = refl; long = refl }
-    go false false true true = record { lo = refl; hi = refl; long = row-length (x .output) (12 * x .visit .found) o }
+    go false false true true = record { lo = refl; hi = refl; long = row-length (x .row) (x .output) (x .row * x .visit .found) o }
     go false false true false = record { lo = refl; hi = refl; long = refl }
     go false false false d = keeps-all x
 

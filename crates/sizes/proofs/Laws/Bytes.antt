@@ -35,14 +35,14 @@ field-four bs a h =
 pub block-end : (i m w : ℕ) → i < m → i * w + w ≤ m * w
 block-end i m w h = omega (arith, mul-le-mul-right w h, suc-mul i w)
 
-pub block-small : (i w : ℕ) → i < 65535 → w ≤ 392 → i * w ≤ 65535 * 392
-block-small i w hi hw = mul-le-mul {n₂ = 65535} {m₂ = 392} (omega arith) hw
+pub block-small : (i w : ℕ) → i < 65535 → w ≤ 520 → i * w ≤ 65535 * 520
+block-small i w hi hw = mul-le-mul {n₂ = 65535} {m₂ = 520} (omega arith) hw
 
 -- as `offset` asks
-pub offset-fits : (i m w : ℕ) → i < m → m ≤ 65535 → w ≤ 392 → Fits w64 (i * w)
+pub offset-fits : (i m w : ℕ) → i < m → m ≤ 65535 → w ≤ 520 → Fits w64 (i * w)
 offset-fits i m w h hm hw = record { fits = omega (arith, block-small i w (omega arith) hw) }
 
-pub offset-sum : (i m w : ℕ) → i < m → m ≤ 65535 → w ≤ 392 → Fits w64 (53 + i * w)
+pub offset-sum : (i m w : ℕ) → i < m → m ≤ 65535 → w ≤ 520 → Fits w64 (53 + i * w)
 offset-sum i m w h hm hw = record { fits = omega (arith, block-small i w (omega arith) hw) }
 
 pub offset-is : (i w n : ℕ) → n ≡ w → 53 + i * n ≡ 53 + i * w

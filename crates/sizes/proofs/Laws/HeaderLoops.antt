@@ -2,20 +2,20 @@
 use mathlib.Core.Path.{_≡_, refl, ap, sym, _∙_}
 use mathlib.Core.List.{List, [], _∷_, _++_}
 use mathlib.Core.Bool.{Bool, true, false, _&&_}
-use Prim.Native.Nat.{ℕ, zero, suc, _+_, _*_, _^_, _≤_, _<_}
+use Prim.Native.Nat.{ℕ, zero, suc, _+_, _*_, _-_, _^_, _≤_, _<_}
 use native.Mathlib.Numerals.{add-one}
-use native.Mathlib.Nat.{pow-succ', pow-le-pow-right, lt-of-lt-of-le, mul-le-mul}
+use native.Mathlib.Nat.{pow-succ', pow-le-pow-right, lt-of-lt-of-le, mul-le-mul, mul-le-mul-left, mul-suc, mul-sub, add-comm}
 use native.Mathlib.Omega.{arith}
 use lib.Dec.{leb, eqb, ltb}
 use lib.Arith.{lt-of-le-ne}
 use borrow.Author.Tests.{leb-true, eqb-true, eqb-false, le-leb, lt-leb, le-ltb, lt-ltb, eq-eqb, ne-eqb}
 use mir.Val.{Fits}
-use mir.Syntax.{w32}
+use mir.Syntax.{w32, w64}
 use lib.ListN.{length, getD, set, take, drop, length-drop, length-set}
 use lib.Seq.{take-suc, take-suc-set, take-all, getD-drop, drop-cons, drop-length}
 use Rattle.sizes.specs.declared.Sizes.{Sizes}
 use Rattle.sizes.specs.Numbers.{field, value-from, rows-in}
-use Rattle.sizes.specs.Sizes.{prime, beta, sizes-good, seed-good, made}
+use Rattle.sizes.specs.Sizes.{prime, beta, row, sizes-good, seed-good, made}
 use Rattle.sizes.specs.Header.{header-at, header-wide, block-long, table-long, seed-in, sizes-in, held-in, rule-1}
 use Rattle.sizes.proofs.Laws.Sizes.{and-parts}
 use Rattle.sizes.proofs.Laws.Bytes.{take-drop-cons}
@@ -124,18 +124,58 @@ module _ (ss : List ℕ) where
     seeding-more h g = record { within = omega arith; rest = seeding-turn h ∙ rw (lt-ltb (getD ss i 0) prime g, add-one) }
 
 -- THE LENGTH of a table
-long-most : (b m : ℕ) → b ≤ 32 → m ≤ 65535 → m * (8 + 12 * b) ≤ 65535 * 392
-long-most b m hb hm = mul-le-mul {n₂ = 65535} {m₂ = 392} hm (omega arith)
+pub row-one : (s : Sizes) → s .version ≡ 1 → 12 ≡ row s
+unfolding row
+row-one s e = rw e
 
-pub long-fits : (b m : ℕ) → b ≤ 32 → m ≤ 65535 → Fits w32 (m * (8 + 12 * b))
+pub row-other : (s : Sizes) → (s .version ≡ 1 → ⊥) → 16 ≡ row s
+unfolding row
+row-other s ne = rw (ne-eqb (s .version) 1 ne)
+
+pub rows-most : (w n : ℕ) → w ≤ 16 → w * n ≤ 16 * n
+rows-most w n h = mul-le-mul {n₂ = 16} {m₂ = n} h (omega arith)
+
+pub rows-fit : (w n : ℕ) → w ≤ 16 → Fits w32 n → Fits w64 (w * n)
+rows-fit w n h l = record { fits = omega (arith, rows-most w n h, l .fits) }
+
+-- rows of a block: k of n in w bytes each
+pub rows-room : (w k n : ℕ) → k ≤ n → w * k ≤ w * n
+rows-room w k n h = mul-le-mul-left w h
+
+pub row-room : (w j n : ℕ) → j < n → w * j + w ≤ w * n
+row-room w j n h = omega (arith, mul-le-mul-left w h, mul-suc w j)
+
+pub rows-one : (w j : ℕ) → 0 < j → w * j ≡ w + w * (j - 1)
+rows-one w j h =
+    let e : j ≡ suc (j - 1) = omega arith in
+    ap (λ (z : ℕ). w * z) e ∙ mul-suc w (j - 1) ∙ add-comm _ _
+
+pub rows-left : (w k n : ℕ) → w * n - w * k ≡ w * (n - k)
+rows-left w k n = sym (mul-sub w n k)
+
+pub rows-is : (s : Sizes) (w k r : ℕ) → w ≡ row s → r ≡ w * k → r ≡ row s * k
+rows-is s w k r ew er = er ∙ ap (λ (z : ℕ). z * k) ew
+
+pub used-room : (s : Sizes) (w k r : ℕ) → w ≡ row s → r ≡ w * k → k ≤ s .nodes → 8 + r ≤ block-long s
+unfolding block-long
+used-room s w k r ew er h = omega (arith, rows-is s w k r ew er, rows-room (row s) k (s .nodes) h)
+
+pub block-is : (s : Sizes) (w r : ℕ) → w ≡ row s → r ≡ w * s .nodes → 8 + r ≡ block-long s
+unfolding block-long
+block-is s w r ew er = rw (er, ew)
+
+long-most : (b m : ℕ) → b ≤ 520 → m ≤ 65535 → m * b ≤ 65535 * 520
+long-most b m hb hm = mul-le-mul {n₂ = 65535} {m₂ = 520} hm hb
+
+pub long-fits : (b m : ℕ) → b ≤ 520 → m ≤ 65535 → Fits w32 (m * b)
 long-fits b m hb hm = record { fits = omega (arith, long-most b m hb hm) }
 
-pub long-sum : (b m : ℕ) → b ≤ 32 → m ≤ 65535 → Fits w32 (53 + m * (8 + 12 * b))
+pub long-sum : (b m : ℕ) → b ≤ 520 → m ≤ 65535 → Fits w32 (53 + m * b)
 long-sum b m hb hm = record { fits = omega (arith, long-most b m hb hm) }
 
-pub long-is : (s : Sizes) → 53 + s .blocks * (8 + 12 * s .nodes) ≡ table-long s
-unfolding table-long block-long
-long-is s = refl
+pub long-is : (s : Sizes) (b : ℕ) → b ≡ block-long s → 53 + s .blocks * b ≡ table-long s
+unfolding table-long
+long-is s b e = rw e
 
 -- THE TEST OF SIZES
 and-no : (p : Bool) → (p && false) ≡ false
@@ -149,7 +189,7 @@ and-yes false = refl
 module _ (s : Sizes) where
   pub sizes-1 : s .gamma < 2 → false ≡ sizes-good s
   unfolding sizes-good
-  sizes-1 h = sym (rw (lt-leb 2 (s .gamma) h))
+  sizes-1 h = simp (lt-leb 2 (s .gamma) h, and-no)
 
   pub sizes-2 : 64 < s .gamma → false ≡ sizes-good s
   unfolding sizes-good
@@ -175,10 +215,18 @@ module _ (s : Sizes) where
   unfolding sizes-good
   sizes-7 h = simp (lt-leb (s .blocks) 65535 h, and-no)
 
-  pub sizes-8 : (b : ℕ) → b ≡ beta s → 2 ≤ s .gamma → s .gamma ≤ 64 → 2 ≤ s .nodes → s .nodes ≤ 32 → 1 ≤ s .orders → s .orders ≤ 65535 → s .blocks ≤ 65535 → leb b (s .blocks) ≡ sizes-good s
+  pub sizes-9 : s .version < 1 → false ≡ sizes-good s
   unfolding sizes-good
-  sizes-8 b e h1 h2 h3 h4 h5 h6 h7 =
-      rw (le-leb 2 (s .gamma) h1, le-leb (s .gamma) 64 h2, le-leb 2 (s .nodes) h3, le-leb (s .nodes) 32 h4, le-leb 1 (s .orders) h5, le-leb (s .orders) 65535 h6, le-leb (s .blocks) 65535 h7, e, and-yes)
+  sizes-9 h = sym (rw (lt-leb 1 (s .version) h))
+
+  pub sizes-10 : 2 < s .version → false ≡ sizes-good s
+  unfolding sizes-good
+  sizes-10 h = simp (lt-leb (s .version) 2 h, and-no)
+
+  pub sizes-8 : (b : ℕ) → b ≡ beta s → 1 ≤ s .version → s .version ≤ 2 → 2 ≤ s .gamma → s .gamma ≤ 64 → 2 ≤ s .nodes → s .nodes ≤ 32 → 1 ≤ s .orders → s .orders ≤ 65535 → s .blocks ≤ 65535 → leb b (s .blocks) ≡ sizes-good s
+  unfolding sizes-good
+  sizes-8 b e v1 v2 h1 h2 h3 h4 h5 h6 h7 =
+      rw (le-leb 1 (s .version) v1, le-leb (s .version) 2 v2, le-leb 2 (s .gamma) h1, le-leb (s .gamma) 64 h2, le-leb 2 (s .nodes) h3, le-leb (s .nodes) 32 h4, le-leb 1 (s .orders) h5, le-leb (s .orders) 65535 h6, le-leb (s .blocks) 65535 h7, e, and-yes)
 
 -- A HEADER READ
 pub field-at : (bs : List ℕ) (k a w r : ℕ) → a ≡ header-at k → w ≡ header-wide k → r ≡ field a w bs → r ≡ field (header-at k) (header-wide k) bs
@@ -227,13 +275,14 @@ field-one : (bs : List ℕ) (a : ℕ) → a < length bs → field a 1 bs ≡ get
 unfolding field value-from
 field-one bs a h = rw (take-drop-cons bs a 0) (omega arith)
 
-pub sizes-read : (bs : List ℕ) (c b n m : ℕ) (ss : List ℕ) → 53 ≤ length bs → c ≡ field 5 1 bs → b ≡ field 6 1 bs → n ≡ field 7 2 bs → m ≡ field 9 2 bs → ss ≡ seed-in 10 (drop 13 bs)
-    → _≡_ {A = Sizes} (record { gamma = c; nodes = b; orders = n; blocks = m; seed = ss }) (sizes-in bs)
+pub sizes-read : (bs : List ℕ) (v c b n m : ℕ) (ss : List ℕ) → 53 ≤ length bs → v ≡ field 0 1 bs → c ≡ field 5 1 bs → b ≡ field 6 1 bs → n ≡ field 7 2 bs → m ≡ field 9 2 bs → ss ≡ seed-in 10 (drop 13 bs)
+    → _≡_ {A = Sizes} (record { version = v; gamma = c; nodes = b; orders = n; blocks = m; seed = ss }) (sizes-in bs)
 unfolding sizes-in
-sizes-read bs c b n m ss l ec eb en em es =
+sizes-read bs v c b n m ss l ev ec eb en em es =
+    let ev′ : v ≡ getD bs 0 0 = ev ∙ field-one bs 0 (omega arith) in
     let ec′ : c ≡ getD bs 5 0 = ec ∙ field-one bs 5 (omega arith) in
     let eb′ : b ≡ getD bs 6 0 = eb ∙ field-one bs 6 (omega arith) in
-    λ i. record { gamma = ec′ i; nodes = eb′ i; orders = en i; blocks = em i; seed = es i }
+    λ i. record { version = ev′ i; gamma = ec′ i; nodes = eb′ i; orders = en i; blocks = em i; seed = es i }
 
 pub held-read : (bs : List ℕ) (n : ℕ) → n ≡ field 11 2 bs → n ≡ held-in bs
 unfolding held-in
@@ -241,26 +290,24 @@ held-read bs n e = e
 
 -- RULE 1
 module _ (s : Sizes) (t : Bool) (et : t ≡ sizes-good s) (e : t ≡ true) where
-  both : (((leb 2 (s .gamma) && leb (s .gamma) 64) && (leb 2 (s .nodes) && leb (s .nodes) 32)) ≡ true) × (((leb 1 (s .orders) && leb (s .orders) 65535) && (leb (beta s) (s .blocks) && leb (s .blocks) 65535)) ≡ true)
+  both : ((leb 1 (s .version) && leb (s .version) 2) ≡ true)
+      × ((((leb 2 (s .gamma) && leb (s .gamma) 64) && (leb 2 (s .nodes) && leb (s .nodes) 32)) && ((leb 1 (s .orders) && leb (s .orders) 65535) && (leb (beta s) (s .blocks) && leb (s .blocks) 65535))) ≡ true)
   unfolding sizes-good
   both = and-parts _ _ (sym et ∙ e)
 
+  half : (((leb 2 (s .gamma) && leb (s .gamma) 64) && (leb 2 (s .nodes) && leb (s .nodes) 32)) ≡ true) × (((leb 1 (s .orders) && leb (s .orders) 65535) && (leb (beta s) (s .blocks) && leb (s .blocks) 65535)) ≡ true)
+  half = and-parts _ _ (both .1)
+
   pub good-nodes : s .nodes ≤ 32
-  good-nodes = leb-true (s .nodes) 32 (and-parts (leb 2 (s .nodes)) (leb (s .nodes) 32) (and-parts (leb 2 (s .gamma) && leb (s .gamma) 64) (leb 2 (s .nodes) && leb (s .nodes) 32) (both .0) .1) .1)
+  good-nodes = leb-true (s .nodes) 32 (and-parts (leb 2 (s .nodes)) (leb (s .nodes) 32) (and-parts (leb 2 (s .gamma) && leb (s .gamma) 64) (leb 2 (s .nodes) && leb (s .nodes) 32) (half .0) .1) .1)
 
   pub good-blocks : s .blocks ≤ 65535
   good-blocks =
-      leb-true (s .blocks) 65535 (and-parts (leb (beta s) (s .blocks)) (leb (s .blocks) 65535) (and-parts (leb 1 (s .orders) && leb (s .orders) 65535) (leb (beta s) (s .blocks) && leb (s .blocks) 65535) (both .1) .1) .1)
+      leb-true (s .blocks) 65535 (and-parts (leb (beta s) (s .blocks)) (leb (s .blocks) 65535) (and-parts (leb 1 (s .orders) && leb (s .orders) 65535) (leb (beta s) (s .blocks) && leb (s .blocks) 65535) (half .1) .1) .1)
 
 pub rule-short : (bs : List ℕ) → length bs < 53 → false ≡ rule-1 bs
 unfolding rule-1
 rule-short bs h = sym (rw (lt-leb 53 (length bs) h))
-
-pub rule-version : (bs : List ℕ) (v : ℕ) → v ≡ field 0 1 bs → (v ≡ 1 → ⊥) → false ≡ rule-1 bs
-unfolding rule-1
-rule-version bs v ev e =
-    let q : eqb (field 0 1 bs) 1 ≡ false = rw (← ev) (ne-eqb _ _ e) in
-    sym (simp (q, and-no))
 
 module _ (bs : List ℕ) (s : Sizes) (es : s ≡ sizes-in bs) where
   pub rule-sizes : (t : Bool) → t ≡ sizes-good s → t ≡ false → false ≡ rule-1 bs
@@ -291,23 +338,22 @@ module _ (bs : List ℕ) (s : Sizes) (es : s ≡ sizes-in bs) where
         let q : eqb (length bs) (table-long (sizes-in bs)) ≡ false = rw long (ne-eqb _ _ e) in
         sym (simp (q, and-no))
 
-    pub rule-last : (t u : Bool) (v w h : ℕ) → 53 ≤ length bs → t ≡ sizes-good s → t ≡ true → u ≡ seed-good (s .seed) → u ≡ true → v ≡ field 0 1 bs → v ≡ 1
+    pub rule-last : (t u : Bool) (w h : ℕ) → 53 ≤ length bs → t ≡ sizes-good s → t ≡ true → u ≡ seed-good (s .seed) → u ≡ true
         → w ≡ field 1 4 bs → w ≡ n → length bs ≡ n → h ≡ held-in bs → leb h (s .orders) ≡ rule-1 bs
     unfolding rule-1
-    rule-last t u v w h l et t1 eu u1 ev v1 ew wn ln eh =
+    rule-last t u w h l et t1 eu u1 ew wn ln eh =
         let q1 : sizes-good (sizes-in bs) ≡ true = ap sizes-good (sym es) ∙ sym et ∙ t1 in
         let q2 : seed-good (sizes-in bs .seed) ≡ true = ap (λ (z : Sizes). seed-good (z .seed)) (sym es) ∙ sym eu ∙ u1 in
-        let q3 : eqb (field 0 1 bs) 1 ≡ true = eq-eqb _ _ (sym ev ∙ v1) in
         let q4 : eqb (field 1 4 bs) (table-long (sizes-in bs)) ≡ true = eq-eqb _ _ (sym ew ∙ wn ∙ sym long) in
         let q5 : eqb (length bs) (table-long (sizes-in bs)) ≡ true = eq-eqb _ _ (ln ∙ sym long) in
         let q6 : sizes-in bs .orders ≡ s .orders = ap (λ (z : Sizes). z .orders) (sym es) in
-        sym (rw (le-leb 53 (length bs) l, q1, q2, q3, q4, q5, q6, ← eh))
+        sym (rw (le-leb 53 (length bs) l, q1, q2, q4, q5, q6, ← eh))
 
 -- what rule 1 says
 pub record Ruled (bs : List ℕ) : Type 0 where
   pub long : 53 ≤ length bs
   pub makes : made (sizes-in bs) ≡ true
-  pub version : field 0 1 bs ≡ 1
+  pub version : field 0 1 bs ≡ sizes-in bs .version
   pub length-field : field 1 4 bs ≡ table-long (sizes-in bs)
   pub length-is : length bs ≡ table-long (sizes-in bs)
   pub held : held-in bs ≤ sizes-in bs .orders
@@ -315,6 +361,10 @@ pub record Ruled (bs : List ℕ) : Type 0 where
 seed-ten : (bs : List ℕ) → length (sizes-in bs .seed) ≡ 10
 unfolding sizes-in
 seed-ten bs = seed-count 10 (drop 13 bs)
+
+version-read : (bs : List ℕ) → 53 ≤ length bs → field 0 1 bs ≡ sizes-in bs .version
+unfolding sizes-in
+version-read bs h = field-one bs 0 (omega arith)
 
 makes : (s : Sizes) → sizes-good s ≡ true → seed-good (s .seed) ≡ true → length (s .seed) ≡ 10 → made s ≡ true
 unfolding made
@@ -326,13 +376,12 @@ ruled bs e =
     let p1 = and-parts (leb 53 (length bs)) _ e in
     let p2 = and-parts (sizes-good (sizes-in bs)) _ (p1 .1) in
     let p3 = and-parts (seed-good (sizes-in bs .seed)) _ (p2 .1) in
-    let p4 = and-parts (eqb (field 0 1 bs) 1) _ (p3 .1) in
-    let p5 = and-parts (eqb (field 1 4 bs) (table-long (sizes-in bs))) _ (p4 .1) in
+    let p5 = and-parts (eqb (field 1 4 bs) (table-long (sizes-in bs))) _ (p3 .1) in
     let p6 = and-parts (eqb (length bs) (table-long (sizes-in bs))) _ (p5 .1) in
     record {
       long = leb-true _ _ (p1 .0);
       makes = makes (sizes-in bs) (p2 .0) (p3 .0) (seed-ten bs);
-      version = eqb-true _ _ (p4 .0);
+      version = version-read bs (leb-true _ _ (p1 .0));
       length-field = eqb-true _ _ (p5 .0);
       length-is = eqb-true _ _ (p6 .0);
       held = leb-true _ _ (p6 .1);

@@ -54,7 +54,7 @@ module _ (l : List ℕ) (a n v : ℕ) where
 
 -- THE VALUES OF THE FIELDS
 module _ (s : Sizes) (n k : ℕ) where
-  pub value-0 : k ≡ 0 → 1 ≡ header-value s n k
+  pub value-0 : k ≡ 0 → s .version ≡ header-value s n k
   unfolding header-value
   value-0 e = rw e
 
@@ -148,9 +148,9 @@ fields-seed s n (suc i) ten h =
 byte : (v : ℕ) → v ≤ 255 → v / 1 % 256 ≡ v
 byte v h = rw div-one (mod-eq-of-lt (omega arith))
 
-fields-head : (s : Sizes) (n : ℕ) → Limits s → fields s n 7 ≡ (1 ∷ []) ++ big 4 (table-long s) ++ (s .gamma ∷ s .nodes ∷ []) ++ big 2 (s .orders) ++ big 2 (s .blocks) ++ big 2 n
+fields-head : (s : Sizes) (n : ℕ) → Limits s → fields s n 7 ≡ (s .version ∷ []) ++ big 4 (table-long s) ++ (s .gamma ∷ s .nodes ∷ []) ++ big 2 (s .orders) ++ big 2 (s .blocks) ++ big 2 n
 unfolding fields header-value big
-fields-head s n l = rw (byte (s .gamma) (omega (arith, l .gamma-most)), byte (s .nodes) (omega (arith, l .nodes-most)))
+fields-head s n l = rw (byte (s .version) (omega (arith, l .version-most)), byte (s .gamma) (omega (arith, l .gamma-most)), byte (s .nodes) (omega (arith, l .nodes-most)))
 
 fields-all : (s : Sizes) (n : ℕ) → Limits s → fields s n 17 ≡ header s n
 unfolding header

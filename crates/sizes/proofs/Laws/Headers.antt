@@ -45,7 +45,7 @@ header-sizes s n l =
     let u = two-back (s .orders) (l .orders-most) in
     let m = two-back (s .blocks) (l .blocks-most) in
     let ss : seed-in 10 (seed-bytes (s .seed)) ≡ s .seed = ap (seed-in 10) (sym (append-nil (seed-bytes (s .seed)))) ∙ rw (← l .ten) (seed-back (s .seed) [] (l .seeds)) in
-    λ i. record { gamma = s .gamma; nodes = s .nodes; orders = u i; blocks = m i; seed = ss i }
+    λ i. record { version = s .version; gamma = s .gamma; nodes = s .nodes; orders = u i; blocks = m i; seed = ss i }
 
 -- bytes written inside the first of two lists
 pub sets-left : (x y : List ℕ) (a : ℕ) (vs : List ℕ) → a + length vs ≤ length x → sets (x ++ y) a vs ≡ sets x a vs ++ y
@@ -57,7 +57,7 @@ pub count-sizes : (hd : List ℕ) (k : ℕ) → sizes-in (sets hd 11 (big 2 k)) 
 unfolding sizes-in field
 count-sizes hd k =
     let e : length (big 2 k) ≡ 2 = length-big 2 k in
-    rw (getD-sets-before hd 11 (big 2 k) 5 0 (omega arith), getD-sets-before hd 11 (big 2 k) 6 0 (omega arith), part-before 2 7 hd 11 (big 2 k) (omega arith), part-before 2 9 hd 11 (big 2 k) (omega arith), drop-sets 13 hd 11 (big 2 k) (omega arith))
+    rw (getD-sets-before hd 11 (big 2 k) 0 0 (omega arith), getD-sets-before hd 11 (big 2 k) 5 0 (omega arith), getD-sets-before hd 11 (big 2 k) 6 0 (omega arith), part-before 2 7 hd 11 (big 2 k) (omega arith), part-before 2 9 hd 11 (big 2 k) (omega arith), drop-sets 13 hd 11 (big 2 k) (omega arith))
 
 getD-append-left : (x y : List ℕ) (i d : ℕ) → i < length x → getD (x ++ y) i d ≡ getD x i d
 getD-append-left [] y i d h = absurd (omega arith)
@@ -77,4 +77,4 @@ pub sizes-head : (hd x : List ℕ) → length hd ≡ 53 → sizes-in (hd ++ x) �
 unfolding sizes-in
 sizes-head hd x e =
     let f : drop 13 (hd ++ x) ≡ drop 13 hd ++ x = drop-append-le 13 hd x (omega arith) in
-    rw (getD-append-left hd x 5 0 (omega arith), getD-append-left hd x 6 0 (omega arith), field-head 7 2 hd x (omega arith), field-head 9 2 hd x (omega arith), f, seed-head 10 (drop 13 hd) x (simp length-drop (omega arith)))
+    rw (getD-append-left hd x 0 0 (omega arith), getD-append-left hd x 5 0 (omega arith), getD-append-left hd x 6 0 (omega arith), field-head 7 2 hd x (omega arith), field-head 9 2 hd x (omega arith), f, seed-head 10 (drop 13 hd) x (simp length-drop (omega arith)))

@@ -18,7 +18,7 @@ use Rattle.skiplist.specs.Promise.{Rule-three, One-arrangement}
 use Rattle.skiplist.proofs.Laws.Kept.{fits-parts}
 use Rattle.skiplist.proofs.Laws.Rising.{chunks-rising}
 
-pub blocks-placing : (s : Sizes) (os : List Order) → made s ≡ true → orders-good 1 os ≡ true → fits s os ≡ true →
+pub blocks-placing : (s : Sizes) (os : List Order) → made s ≡ true → orders-good s 1 os ≡ true → fits s os ≡ true →
     Placing (chunk-home s) chunk-before (s .blocks) (chunks s os) (replicate (s .blocks) empty) (blocks s os)
 unfolding blocks
 blocks-placing s os m g f = placement (ordered (lawful s (some-blocks s m))) (chunks s os) (chunks-rising s os g) (fits-parts s os f .room)

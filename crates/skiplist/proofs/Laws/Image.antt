@@ -20,11 +20,11 @@ use Rattle.skiplist.proofs.Laws.Rising.{chunks-rising}
 use Rattle.skiplist.proofs.Laws.Sound.{chunks-full, chunks-sound}
 
 module _ (s : Sizes) (os : List Order) where
-  pub blocks-keep : made s ≡ true → orders-good 1 os ≡ true → fits s os ≡ true → Keeps s (blocks s os) (map-of (chunks s os)) (length (chunks s os))
+  pub blocks-keep : made s ≡ true → orders-good s 1 os ≡ true → fits s os ≡ true → Keeps s (blocks s os) (map-of (chunks s os)) (length (chunks s os))
   unfolding blocks
   blocks-keep m g f = placed-keeps s (chunks s os) (some-blocks s m) (chunks-rising s os g) (fits-parts s os f .room) (chunks-full s os m)
 
-  unfoldable pub image-keeps : made s ≡ true → orders-good 1 os ≡ true → fits s os ≡ true → Table s (map-of (chunks s os)) (length (chunks s os)) (header s (length os)) (image s os)
+  unfoldable pub image-keeps : made s ≡ true → orders-good s 1 os ≡ true → fits s os ≡ true → Table s (map-of (chunks s os)) (length (chunks s os)) (header s (length os)) (image s os)
   unfolding image
   image-keeps m g f = record {
     good = m;
@@ -37,6 +37,6 @@ module _ (s : Sizes) (os : List Order) where
   }
 
   -- bytes under the image's header that keep its map are the image
-  pub is-the-image : (F : Map) (n : ℕ) (bs : List ℕ) → orders-good 1 os ≡ true → fits s os ≡ true → Table s F n (header s (length os)) bs →
+  pub is-the-image : (F : Map) (n : ℕ) (bs : List ℕ) → orders-good s 1 os ≡ true → fits s os ≡ true → Table s F n (header s (length os)) bs →
       ((l f i : ℕ) → F l f i ≡ map-of (chunks s os) l f i) → bs ≡ image s os
   is-the-image F n bs g f t e = same-bytes s F (map-of (chunks s os)) n (length (chunks s os)) (header s (length os)) bs (image s os) e t (image-keeps (t .good) g f)

@@ -13,7 +13,7 @@ use Rattle.placement.specs.declared.Order.{Order}
 use Rattle.placement.proofs.Laws.Cells.{cond-valid}
 use Rattle.skiplist.specs.Lists.{chunks}
 use Rattle.skiplist.specs.Image.{into, quantities-good, orders-good, fits}
-use Rattle.skiplist.specs.Questions.{first-no, all-yes, is-key, held, without, with-order, order, asks-order, asks-room, asks-enter, asks-amend, asks-key}
+use Rattle.skiplist.specs.Questions.{first-no, all-yes, is-key, held, without, with-order, order, price-allowed, asks-order, asks-room, asks-enter, asks-amend, asks-key}
 use Rattle.skiplist.specs.Book.{Call, enter, amend, cancel, lookup, descent, span, seek, check, asks, changed, book-refusal, booked, book}
 use Rattle.skiplist.specs.Promise.{Amend-has-room}
 use Rattle.skiplist.proofs.Laws.Questions.{passes}
@@ -23,38 +23,39 @@ use Rattle.skiplist.proofs.Laws.Keys.{chunks-swap}
 use Rattle.skiplist.proofs.Laws.Count.{length-chunks, chunks-more, counts-none}
 use Rattle.sizes.proofs.Laws.Sizes.{Limits, some-nodes, and-parts}
 
-pub good-make : (a : ℕ) (o : Order) (os : List Order) → a ≤ o .key → ltb (o .key) prime ≡ true → quantities-good (o .total) (o .displayed) ≡ true → orders-good (suc (o .key)) os ≡ true → orders-good a (o ∷ os) ≡ true
+pub good-make : (s : Sizes) (a : ℕ) (o : Order) (os : List Order) → a ≤ o .key → ltb (o .key) prime ≡ true → quantities-good s (o .total) (o .displayed) (o .price) ≡ true → orders-good s (suc (o .key)) os ≡ true
+    → orders-good s a (o ∷ os) ≡ true
 unfolding orders-good
-good-make a o os f g h i = rw (le-leb a (o .key) f, g, h, i)
+good-make s a o os f g h i = rw (le-leb a (o .key) f, g, h, i)
 
-pub good-from : (a b : ℕ) (os : List Order) → b ≤ a → orders-good a os ≡ true → orders-good b os ≡ true
+pub good-from : (s : Sizes) (a b : ℕ) (os : List Order) → b ≤ a → orders-good s a os ≡ true → orders-good s b os ≡ true
 unfolding orders-good
-good-from a b [] h e = refl
-good-from a b (o ∷ os) h e = let w = good-parts a o os e in good-make b o os (omega arith) (w .key) (w .quantity) (w .others)
+good-from s a b [] h e = refl
+good-from s a b (o ∷ os) h e = let w = good-parts s a o os e in good-make s b o os (omega arith) (w .key) (w .quantity) (w .others)
 
-pub good-without : (a k : ℕ) (os : List Order) → orders-good a os ≡ true → orders-good a (without k os) ≡ true
+pub good-without : (s : Sizes) (a k : ℕ) (os : List Order) → orders-good s a os ≡ true → orders-good s a (without k os) ≡ true
 unfolding without
-good-without a k [] e = e
-good-without a k (o ∷ os) e =
-    let w = good-parts a o os e in
-    cond-valid (λ (q : List Order). orders-good a q ≡ true) (eqb (o .key) k) (good-from (suc (o .key)) a os (omega arith) (w .others))
-    (good-make a o (without k os) (w .from) (w .key) (w .quantity) (good-without (suc (o .key)) k os (w .others)))
+good-without s a k [] e = e
+good-without s a k (o ∷ os) e =
+    let w = good-parts s a o os e in
+    cond-valid (λ (q : List Order). orders-good s a q ≡ true) (eqb (o .key) k) (good-from s (suc (o .key)) a os (omega arith) (w .others))
+    (good-make s a o (without k os) (w .from) (w .key) (w .quantity) (good-without s (suc (o .key)) k os (w .others)))
 
-pub good-into : (a : ℕ) (y : Order) (os : List Order) → a ≤ y .key → ltb (y .key) prime ≡ true → quantities-good (y .total) (y .displayed) ≡ true → held (y .key) os ≡ false →
-    orders-good a os ≡ true → orders-good a (into y os) ≡ true
+pub good-into : (s : Sizes) (a : ℕ) (y : Order) (os : List Order) → a ≤ y .key → ltb (y .key) prime ≡ true → quantities-good s (y .total) (y .displayed) (y .price) ≡ true → held (y .key) os ≡ false →
+    orders-good s a os ≡ true → orders-good s a (into y os) ≡ true
 unfolding into held orders-good
-good-into a y [] h p q n e = good-make a y [] h p q e
-good-into a y (o ∷ os) h p q n e = go (good-parts a o os e) (λ h′ n′ e′. good-into (suc (o .key)) y os h′ p q n′ e′) (ltb (y .key) (o .key)) refl
+good-into s a y [] h p q n e = good-make s a y [] h p q e
+good-into s a y (o ∷ os) h p q n e = go (good-parts s a o os e) (λ h′ n′ e′. good-into s (suc (o .key)) y os h′ p q n′ e′) (ltb (y .key) (o .key)) refl
   where
     apart : o .key ≡ y .key → ⊥
     apart = eqb-false (o .key) (y .key) (or-left (eqb (o .key) (y .key)) (held (y .key) os) n)
 
-    go : Good a o os →
-        (suc (o .key) ≤ y .key → held (y .key) os ≡ false → orders-good (suc (o .key)) os ≡ true → orders-good (suc (o .key)) (into y os) ≡ true) →
-        (t : Bool) → ltb (y .key) (o .key) ≡ t → orders-good a (cond t (y ∷ o ∷ os) (o ∷ into y os)) ≡ true
-    go w ih true g = good-make a y (o ∷ os) h p q (good-make (suc (y .key)) o os (ltb-true (y .key) (o .key) g) (w .key) (w .quantity) (w .others))
+    go : Good s a o os →
+        (suc (o .key) ≤ y .key → held (y .key) os ≡ false → orders-good s (suc (o .key)) os ≡ true → orders-good s (suc (o .key)) (into y os) ≡ true) →
+        (t : Bool) → ltb (y .key) (o .key) ≡ t → orders-good s a (cond t (y ∷ o ∷ os) (o ∷ into y os)) ≡ true
+    go w ih true g = good-make s a y (o ∷ os) h p q (good-make s (suc (y .key)) o os (ltb-true (y .key) (o .key) g) (w .key) (w .quantity) (w .others))
     go w ih false g =
-        good-make a o (into y os) (w .from) (w .key) (w .quantity)
+        good-make s a o (into y os) (w .from) (w .key) (w .quantity)
         (ih (omega (arith, ltb-false (y .key) (o .key) g, apart)) (or-right (eqb (o .key) (y .key)) (held (y .key) os) n) (w .others))
 
 pub held-past : (k a : ℕ) (os : List Order) → k < a → Up a os → held k os ≡ false
@@ -104,64 +105,66 @@ fits-without s k os b u h e = go (place k 1 os u)
     go (absent xs zs q f g) = absurd (false≢true (sym (held-absent k xs zs f g) ∙ subst (λ (z : List Order). held k z ≡ true) q h))
 
 -- with the quantities of a held key replaced it fits as before
-pub fits-over : (s : Sizes) (k t d : ℕ) (os : List Order) → 0 < s .nodes → Up 1 os → held k os ≡ true → fits s os ≡ true → fits s (with-order (order k t d) os) ≡ true
-fits-over s k t d os b u h e = go (place k 1 os u)
+pub fits-over : (s : Sizes) (o : Order) (os : List Order) → 0 < s .nodes → Up 1 os → held (o .key) os ≡ true → fits s os ≡ true → fits s (with-order o os) ≡ true
+fits-over s o os b u h e = go (place (o .key) 1 os u)
   where
-    go : Place k os → fits s (with-order (order k t d) os) ≡ true
+    go : Place (o .key) os → fits s (with-order o os) ≡ true
     go (there xs y zs q p) =
         let v : Up 1 (xs ++ y ∷ zs) = subst (Up 1) q u in
         let w = fits-parts s (xs ++ y ∷ zs) (rw q at e) in
-        let n : length (xs ++ y ∷ zs) ≡ length (xs ++ order k t d ∷ zs) = simp length-append in
-        rw (q, with-old (order k t d) y xs zs 1 p v)
-        (fits-make s (xs ++ order k t d ∷ zs) (omega (arith, w .few, n)) (omega (arith, w .room, chunks-swap s xs y (order k t d) zs p (up-past xs y zs 1 v) b)))
-    go (absent xs zs q f g) = absurd (false≢true (sym (held-absent k xs zs f g) ∙ subst (λ (z : List Order). held k z ≡ true) q h))
+        let n : length (xs ++ y ∷ zs) ≡ length (xs ++ o ∷ zs) = simp length-append in
+        rw (q, with-old o y xs zs 1 p v)
+        (fits-make s (xs ++ o ∷ zs) (omega (arith, w .few, n)) (omega (arith, w .room, chunks-swap s xs y o zs p (up-past xs y zs 1 v) b)))
+    go (absent xs zs q f g) = absurd (false≢true (sym (held-absent (o .key) xs zs f g) ∙ subst (λ (z : List Order). held (o .key) z ≡ true) q h))
 
 pub amend-has-room : Amend-has-room
 unfolding Amend-has-room all-yes asks-room
-amend-has-room s os k t d m g e h = rw (h, fits-over s k t d os (some-nodes s m) (good-up 1 os g) h e)
+amend-has-room s os o m g e h = rw (h, fits-over s o os (some-nodes s m) (good-up s 1 os g) h e)
 
 -- THE BOOK KEEPS WHAT A TABLE NEEDS
 pub record Kept (s : Sizes) (os : List Order) : Type 0 where
-  pub good : orders-good 1 os ≡ true
+  pub good : orders-good s 1 os ≡ true
   pub fit : fits s os ≡ true
 
 pub kept-none : (s : Sizes) → Limits s → Kept s []
 unfolding orders-good
 kept-none s m = record { good = refl; fit = fits-make s [] (omega arith) (rw (length-chunks s [] (m .nodes-some), counts-none (beta s) 1 s) (m .blocks-least)) }
 
-good-with : (k t d : ℕ) (os : List Order) → orders-good 1 os ≡ true → is-key k ≡ true → quantities-good t d ≡ true → orders-good 1 (with-order (order k t d) os) ≡ true
+good-with : (s : Sizes) (o : Order) (os : List Order) → orders-good s 1 os ≡ true → is-key (o .key) ≡ true → quantities-good s (o .total) (o .displayed) (o .price) ≡ true → orders-good s 1 (with-order o os) ≡ true
 unfolding with-order is-key
-good-with k t d os w a q =
-    good-into 1 (order k t d) (without k os) (leb-true 1 k (and-left (leb 1 k) (ltb k prime) a)) (and-right (leb 1 k) (ltb k prime) a) q
-    (held-without k 1 os (good-up 1 os w)) (good-without 1 k os w)
+good-with s o os w a q =
+    let k = o .key in
+    good-into s 1 o (without k os) (leb-true 1 k (and-left (leb 1 k) (ltb k prime) a)) (and-right (leb 1 k) (ltb k prime) a) q
+    (held-without k 1 os (good-up s 1 os w)) (good-without s 1 k os w)
 
-pub kept-enter : (s : Sizes) (k t d : ℕ) (os : List Order) → Kept s os → book-refusal s (enter k t d) os ≡ 0 → Kept s (with-order (order k t d) os)
+pub kept-enter : (s : Sizes) (k t d p : ℕ) (os : List Order) → Kept s os → book-refusal s (enter k t d p) os ≡ 0 → Kept s (with-order (order k t d p) os)
 unfolding book-refusal asks first-no asks-enter asks-order asks-room
-kept-enter s k t d os w e =
-    let a = passes 4 (is-key k) _ e in
-    let q = passes 5 (quantities-good t d) _ (a .1) in
+kept-enter s k t d p os w e =
+    let a = passes 4 (is-key k) _ (passes 13 (price-allowed s p) _ e .1) in
+    let q = passes 5 (quantities-good s t d p) _ (a .1) in
     let r = passes 12 (not (held k os)) _ (q .1) in
-    let f = passes 7 (fits s (with-order (order k t d) os)) 0 (passes 6 (held k os || ltb (length os) (s .orders)) _ (r .1) .1) in
-    record { good = good-with k t d os (w .good) (a .0) (q .0); fit = f .0 }
+    let f = passes 7 (fits s (with-order (order k t d p) os)) 0 (passes 6 (held k os || ltb (length os) (s .orders)) _ (r .1) .1) in
+    record { good = good-with s (order k t d p) os (w .good) (a .0) (q .0); fit = f .0 }
 
-pub kept-amend : (s : Sizes) → Limits s → (k t d : ℕ) (os : List Order) → Kept s os → book-refusal s (amend k t d) os ≡ 0 → Kept s (with-order (order k t d) os)
+pub kept-amend : (s : Sizes) → Limits s → (k t d p : ℕ) (os : List Order) → Kept s os → book-refusal s (amend k t d p) os ≡ 0 → Kept s (with-order (order k t d p) os)
 unfolding book-refusal asks first-no asks-amend asks-order
-kept-amend s m k t d os w e =
-    let a = passes 4 (is-key k) _ e in
-    let q = passes 5 (quantities-good t d) _ (a .1) in
+kept-amend s m k t d p os w e =
+    let a = passes 4 (is-key k) _ (passes 13 (price-allowed s p) _ e .1) in
+    let q = passes 5 (quantities-good s t d p) _ (a .1) in
     let h = passes 8 (held k os) 0 (q .1) in
-    record { good = good-with k t d os (w .good) (a .0) (q .0); fit = fits-over s k t d os (m .nodes-some) (good-up 1 os (w .good)) (h .0) (w .fit) }
+    let o = order k t d p in
+    record { good = good-with s o os (w .good) (a .0) (q .0); fit = fits-over s o os (m .nodes-some) (good-up s 1 os (w .good)) (h .0) (w .fit) }
 
 pub kept-cancel : (s : Sizes) → Limits s → (k : ℕ) (os : List Order) → Kept s os → book-refusal s (cancel k) os ≡ 0 → Kept s (without k os)
 unfolding book-refusal asks first-no asks-key
 kept-cancel s m k os w e =
     let h = passes 8 (held k os) 0 (passes 4 (is-key k) _ e .1) .0 in
-    record { good = good-without 1 k os (w .good); fit = fits-without s k os (m .nodes-some) (good-up 1 os (w .good)) h (w .fit) }
+    record { good = good-without s 1 k os (w .good); fit = fits-without s k os (m .nodes-some) (good-up s 1 os (w .good)) h (w .fit) }
 
 pub kept-changed : (s : Sizes) → Limits s → (c : Call) (os : List Order) → Kept s os → book-refusal s c os ≡ 0 → Kept s (changed c os)
 unfolding changed
-kept-changed s m (enter k t d) os w e = kept-enter s k t d os w e
-kept-changed s m (amend k t d) os w e = kept-amend s m k t d os w e
+kept-changed s m (enter k t d p) os w e = kept-enter s k t d p os w e
+kept-changed s m (amend k t d p) os w e = kept-amend s m k t d p os w e
 kept-changed s m (cancel k) os w e = kept-cancel s m k os w e
 kept-changed s m (lookup k) os w e = w
 kept-changed s m (descent k o) os w e = w

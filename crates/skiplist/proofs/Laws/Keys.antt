@@ -64,4 +64,4 @@ behind s xs (o ∷ os) (q ∷ qs) b u e =
 
 pub chunks-by-keys : Chunks-by-keys
 unfolding Chunks-by-keys
-chunks-by-keys s os qs m g h e = behind s [] os qs (some-nodes s m) (good-up 1 os g) e
+chunks-by-keys s os qs m g h e = behind s [] os qs (some-nodes s m) (good-up s 1 os g) e

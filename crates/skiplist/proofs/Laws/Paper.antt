@@ -94,11 +94,11 @@ sets-runs st o pre p (x ∷ xs) a w v u l =
 pub paper-partitions : Paper-partitions
 unfolding Paper-partitions list-at front
 paper-partitions s os k g h =
-    let u = good-up 1 os g in
+    let u = good-up s 1 os g in
     partitions-front s k (at-least s k os)
     ∙ sym (sets-runs (starts-one s k) front [] (front ∷ []) (at-least s k os) 1 tt (omega arith, omega arith, tt) (at-least-up s k 1 os u) (omega arith))
     ∙ ap (λ (z : List Order). paper-sets (front ∷ z) (front ∷ at-least s k os)) (starting-above s k os u)
 
 pub paper-top : Paper-top
 unfolding Paper-top
-paper-top s os g = parts-top s os (good-up 1 os g)
+paper-top s os g = parts-top s os (good-up s 1 os g)

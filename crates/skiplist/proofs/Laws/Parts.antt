@@ -52,23 +52,23 @@ up-past [] y zs a u = u .0
 up-past (x ∷ xs) y zs a u = omega (arith, u .0, up-past xs y zs _ (u .1))
 
 -- orders-good, taken apart
-pub record Good (a : ℕ) (o : Order) (os : List Order) : Type 0 where
+pub record Good (s : Sizes) (a : ℕ) (o : Order) (os : List Order) : Type 0 where
   pub from : a ≤ o .key
   pub key : ltb (o .key) prime ≡ true
-  pub quantity : quantities-good (o .total) (o .displayed) ≡ true
-  pub others : orders-good (suc (o .key)) os ≡ true
+  pub quantity : quantities-good s (o .total) (o .displayed) (o .price) ≡ true
+  pub others : orders-good s (suc (o .key)) os ≡ true
 
-pub good-parts : (a : ℕ) (o : Order) (os : List Order) → orders-good a (o ∷ os) ≡ true → Good a o os
+pub good-parts : (s : Sizes) (a : ℕ) (o : Order) (os : List Order) → orders-good s a (o ∷ os) ≡ true → Good s a o os
 unfolding orders-good
-good-parts a o os e =
+good-parts s a o os e =
     let p = and-parts _ _ e in
     let q = and-parts _ _ (p .0) in
     let k = and-parts _ _ (q .0) in
     record { from = leb-true a (o .key) (k .0); key = k .1; quantity = q .1; others = p .1 }
 
-pub good-up : (a : ℕ) (os : List Order) → orders-good a os ≡ true → Up a os
-good-up a [] e = tt
-good-up a (o ∷ os) e = let w = good-parts a o os e in (w .from, good-up (suc (o .key)) os (w .others))
+pub good-up : (s : Sizes) (a : ℕ) (os : List Order) → orders-good s a os ≡ true → Up a os
+good-up s a [] e = tt
+good-up s a (o ∷ os) e = let w = good-parts s a o os e in (w .from, good-up s (suc (o .key)) os (w .others))
 
 pub first-more : (p qs : List Order) → 0 < length p → first-key (p ++ qs) ≡ first-key p
 unfolding first-key

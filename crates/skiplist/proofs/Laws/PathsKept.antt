@@ -59,7 +59,7 @@ of-labels (suc n) l f i w (inr a) = let v = of-labels n l f (suc i) w a in recor
 abbrev chunk-at : Sizes → List Order → Label → Chunk
 chunk-at s os w = labelled w (map (masked (w .level)) (take (s .nodes) (drop (w .number * s .nodes) (part s os (w .level) (w .first)))))
 
-block-of : (s : Sizes) (os : List Order) → made s ≡ true → orders-good 1 os ≡ true → fits s os ≡ true → (c : Chunk) → Among c (chunks s os) →
+block-of : (s : Sizes) (os : List Order) → made s ≡ true → orders-good s 1 os ≡ true → fits s os ≡ true → (c : Chunk) → Among c (chunks s os) →
     getD (blocks s os) (stands-in (blocks s os) (c .label)) empty ≡ holds c
 unfolding around image-keeps
 block-of s os m g f c a =
@@ -149,7 +149,7 @@ module _ (s : Sizes) (m : made s ≡ true) (y : ℕ) (xs zs : List Order) (u : U
         nodes-are = ap (λ (q : List Order). map (masked l) (take (s .nodes) (drop (w .number * s .nodes) q))) (ap (part s (xs ++ zs) l) (v .first) ∙ part-at s l xs zs u);
       }
 
-  one-way : orders-good 1 (xs ++ zs) ≡ true → fits s (xs ++ zs) ≡ true → One-way s (xs ++ zs) y
+  one-way : orders-good s 1 (xs ++ zs) ≡ true → fits s (xs ++ zs) ≡ true → One-way s (xs ++ zs) y
   unfolding descent-path Chunks-are
   one-way good fit =
       let os = xs ++ zs in
@@ -168,9 +168,9 @@ module _ (s : Sizes) (m : made s ≡ true) (y : ℕ) (xs zs : List Order) (u : U
 pub path-fits : Path-fits
 unfolding Path-fits descent-path
 path-fits s os y m g f =
-    let few = by-cut (λ (z : List Order). length (path-labels s z y (beta s)) ≤ counts (beta s) 1 s z) y os (good-up 1 os g) (λ xs zs u e v. path-few s m y xs zs u e v (beta s)) in
+    let few = by-cut (λ (z : List Order). length (path-labels s z y (beta s)) ≤ counts (beta s) 1 s z) y os (good-up s 1 os g) (λ xs zs u e v. path-few s m y xs zs u e v (beta s)) in
     rw length-map (omega (arith, few, length-chunks s os (limits s m .nodes-some), fits-parts s os f .room))
 
 pub path-one-way : Path-one-way
 unfolding Path-one-way
-path-one-way s os y m g f = by-cut (λ (z : List Order). orders-good 1 z ≡ true → fits s z ≡ true → One-way s z y) y os (good-up 1 os g) (one-way s m y) g f
+path-one-way s os y m g f = by-cut (λ (z : List Order). orders-good s 1 z ≡ true → fits s z ≡ true → One-way s z y) y os (good-up s 1 os g) (one-way s m y) g f

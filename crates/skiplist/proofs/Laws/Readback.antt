@@ -8,15 +8,16 @@ use native.Mathlib.Omega.{arith}
 use borrow.Author.Tests.{eq-eqb, le-leb}
 use lib.ListN.{length}
 use Rattle.sizes.specs.Numbers.{big, field}
-use Rattle.sizes.specs.Sizes.{made}
+use Rattle.sizes.specs.Sizes.{row, made}
 use Rattle.sizes.specs.Header.{block-long, table-long, header, sizes-in, held-in, rule-1}
 use Rattle.placement.specs.Decode.{blocks-in}
 use Rattle.placement.specs.Maps.{map-of}
 use Rattle.sizes.specs.declared.Sizes.{Sizes}
 use Rattle.placement.specs.declared.Order.{Order}
-use Rattle.sizes.proofs.Laws.Sizes.{Limits, limits, some-blocks}
+use Rattle.sizes.proofs.Laws.Sizes.{Limits, limits, some-blocks, row-most}
 use Rattle.sizes.proofs.Laws.Numbers.{field-big}
 use Rattle.sizes.proofs.Laws.Headers.{header-long}
+use Rattle.sizes.proofs.Laws.HeaderLoops.{rows-most}
 use Rattle.placement.proofs.Laws.Tables.{sound-blocks, sizes-read, shaped}
 use Rattle.skiplist.specs.Lists.{chunks, blocks}
 use Rattle.skiplist.specs.Image.{image, gathered, orders-in, orders-good, fits, same, is-image}
@@ -33,16 +34,12 @@ use Rattle.skiplist.proofs.Laws.Third.{lists-image}
 long-small : (s : Sizes) → Limits s → table-long s < 4294967296
 unfolding table-long block-long
 long-small s w =
-    let b : 8 + 12 * s .nodes ≤ 392 = omega (arith, w .nodes-most) in
+    let b : 8 + row s * s .nodes ≤ 520 = omega (arith, w .nodes-most, rows-most (row s) (s .nodes) (row-most s)) in
     omega (arith, mul-le-mul (w .blocks-most) b)
 
 long-least : (s : Sizes) → 53 ≤ table-long s
 unfolding table-long
 long-least s = omega arith
-
-version-back : (s : Sizes) (os : List Order) → field 0 1 (image s os) ≡ 1
-unfolding image header big field
-version-back s os = field-big 1 1 [] (omega arith)
 
 long-back : (s : Sizes) (os : List Order) → Limits s → field 1 4 (image s os) ≡ table-long s
 unfolding image header big field
@@ -57,7 +54,7 @@ unfolding same
 same-self [] = refl
 same-self (x ∷ xs) = rw (eq-eqb x x refl) (same-self xs)
 
-module _ (s : Sizes) (os : List Order) (m : made s ≡ true) (g : orders-good 1 os ≡ true) (f : fits s os ≡ true) where
+module _ (s : Sizes) (os : List Order) (m : made s ≡ true) (g : orders-good s 1 os ≡ true) (f : fits s os ≡ true) where
   sizes-back : sizes-in (image s os) ≡ s
   sizes-back = sizes-read s (map-of (chunks s os)) (length (chunks s os)) (header s (length os)) (image s os) (image-keeps s os m g f)
 
@@ -68,7 +65,7 @@ module _ (s : Sizes) (os : List Order) (m : made s ≡ true) (g : orders-good 1 
       let w = limits s m in
       ap (λ (z : Sizes). gathered (blocks-in z (image s os)) []) sizes-back
       ∙ ap (λ z. gathered z []) (blocks-back s (header s (length os)) (blocks s os) (header-long s (length os) (w .ten)) (k .long) (sound-blocks s _ _ (blocks s os) (chunks-sound s os m g f) k))
-      ∙ blocks-gather s os (w .nodes-some) (some-blocks s m) (good-up 1 os g) (fits-parts s os f .room)
+      ∙ blocks-gather s os (w .nodes-some) (some-blocks s m) (good-up s 1 os g) (fits-parts s os f .room)
 
   image-long : length (image s os) ≡ table-long s
   unfolding table-long
@@ -84,7 +81,6 @@ module _ (s : Sizes) (os : List Order) (m : made s ≡ true) (g : orders-good 1 
         image-long,
         w .sizes,
         w .seeds,
-        version-back s os,
         long-back s os w,
         held-back s os (omega (arith, w .orders-most)),
         le-leb 53 (table-long s) (long-least s),

@@ -59,4 +59,4 @@ rises-true w (c ∷ d ∷ cs) r = rw (r .1 .0) (rises-true _ (d ∷ cs) (r .1))
 
 pub labels-do-rise : Labels-rise
 unfolding Labels-rise
-labels-do-rise s os g = rises-true (label 0 0 0) (chunks s os) (chunks-rise s os (good-up 1 os g))
+labels-do-rise s os g = rises-true (label 0 0 0) (chunks s os) (chunks-rise s os (good-up s 1 os g))

@@ -25,5 +25,5 @@ rises-all : (w : Label) (cs : List Chunk) → Rises w cs → Rising chunk-before
 rises-all w [] r = tt
 rises-all w (c ∷ cs) r = (before-all c cs (r .1), rises-all (c .label) cs (r .1))
 
-pub chunks-rising : (s : Sizes) (os : List Order) → orders-good 1 os ≡ true → Rising chunk-before (chunks s os)
-chunks-rising s os g = rises-all (label 0 0 0) (chunks s os) (chunks-rise s os (good-up 1 os g))
+pub chunks-rising : (s : Sizes) (os : List Order) → orders-good s 1 os ≡ true → Rising chunk-before (chunks s os)
+chunks-rising s os g = rises-all (label 0 0 0) (chunks s os) (chunks-rise s os (good-up s 1 os g))

@@ -75,7 +75,7 @@ module _ (s : Sizes) (os : List Order) (x : List ℕ) (w : Rules s os x) where
       (λ c t. w .only (t .at % s .blocks) c (t .is)))
 
 -- AN IMAGE obeys the rules
-module _ (s : Sizes) (os : List Order) (m : made s ≡ true) (g : orders-good 1 os ≡ true) (f : fits s os ≡ true) where
+module _ (s : Sizes) (os : List Order) (m : made s ≡ true) (g : orders-good s 1 os ≡ true) (f : fits s os ≡ true) where
   some-block : zero < s .blocks
   some-block = some-blocks s m
 

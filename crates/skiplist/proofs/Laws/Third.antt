@@ -13,8 +13,8 @@ use Rattle.sizes.specs.Header.{table-long, sizes-in, held-in, rule-1}
 use Rattle.sizes.specs.declared.Sizes.{Sizes}
 use Rattle.placement.specs.declared.Order.{Order}
 use Rattle.placement.proofs.Laws.Cells.{cond-out}
-use Rattle.skiplist.specs.Image.{image, orders-in, orders-good, fits, same, is-image}
-use Rattle.skiplist.specs.Questions.{first-no, is-key, held, asks-image, asks-order, asks-room, asks-enter}
+use Rattle.skiplist.specs.Image.{image, orders-in, price-good, quantities-good, orders-good, fits, same, is-image}
+use Rattle.skiplist.specs.Questions.{first-no, is-key, held, price-allowed, asks-image, asks-order, asks-room, asks-enter}
 use Rattle.skiplist.specs.Book.{Call, enter, asks, changed, book-refusal, booked, book, refusal, done, after}
 use Rattle.skiplist.specs.Promise.{Image-reads-back, Lists-image, Equal-exactly, Checks-exactly}
 use Rattle.skiplist.proofs.Laws.Questions.{passes}
@@ -26,32 +26,42 @@ use Rattle.sizes.proofs.Laws.Sizes.{Limits, limits}
 -- a list of calls that enters some orders
 unfoldable pub enters : List Order → List Call
 enters [] = []
-enters (o ∷ os) = enter (o .key) (o .total) (o .displayed) ∷ enters os
+enters (o ∷ os) = enter (o .key) (o .total) (o .displayed) (o .price) ∷ enters os
 
-pub good-at : (xs : List Order) (z : Order) (zs : List Order) (a : ℕ) → orders-good a (xs ++ z ∷ zs) ≡ true → Good 0 z zs
-good-at [] z zs a e = let w = good-parts a z zs e in record { from = omega arith; key = w .key; quantity = w .quantity; others = w .others }
-good-at (x ∷ xs) z zs a e = good-at xs z zs (suc (x .key)) (good-parts a x (xs ++ z ∷ zs) e .others)
+pub good-at : (s : Sizes) (xs : List Order) (z : Order) (zs : List Order) (a : ℕ) → orders-good s a (xs ++ z ∷ zs) ≡ true → Good s 0 z zs
+good-at s [] z zs a e = let w = good-parts s a z zs e in record { from = omega arith; key = w .key; quantity = w .quantity; others = w .others }
+good-at s (x ∷ xs) z zs a e = good-at s xs z zs (suc (x .key)) (good-parts s a x (xs ++ z ∷ zs) e .others)
+
+-- a price that a good order has passes 14
+pub price-passes : (s : Sizes) (t d p : ℕ) → quantities-good s t d p ≡ true → price-allowed s p ≡ true
+unfolding quantities-good price-good price-allowed
+price-passes s t d p e =
+    go (eqb (s .version) 1) (and-left (price-good s p) (leb p 4294967295) (and-right ((leb 1 t && leb t 4294967295) && leb d t) (price-good s p && leb p 4294967295) e))
+  where
+    go : (v : Bool) → cond v (eqb p 0) (leb 1 p) ≡ true → cond v (eqb p 0) true ≡ true
+    go true h = h
+    go false h = refl
 
 -- one more order, above all held
-pub booked-last : (s : Sizes) (xs : List Order) (z : Order) (zs : List Order) → Limits s → orders-good 1 (xs ++ z ∷ zs) ≡ true → fits s (xs ++ z ∷ []) ≡ true →
-    booked s (enter (z .key) (z .total) (z .displayed)) xs ≡ xs ++ z ∷ []
+pub booked-last : (s : Sizes) (xs : List Order) (z : Order) (zs : List Order) → Limits s → orders-good s 1 (xs ++ z ∷ zs) ≡ true → fits s (xs ++ z ∷ []) ≡ true →
+    booked s (enter (z .key) (z .total) (z .displayed) (z .price)) xs ≡ xs ++ z ∷ []
 unfolding booked book-refusal asks changed first-no asks-enter asks-order asks-room is-key
 booked-last s xs z zs m g f =
-    let u = good-up 1 (xs ++ z ∷ zs) g in
-    let w = good-at xs z zs 1 g in
+    let u = good-up s 1 (xs ++ z ∷ zs) g in
+    let w = good-at s xs z zs 1 g in
     let v = below-here xs z zs 1 u in
     let free : held (z .key) xs ≡ false = rw append-nil at (held-absent (z .key) xs [] v tt) in
     let n : length xs < s .orders = omega (arith, simp length-append at (fits-parts s (xs ++ z ∷ []) f .few)) in
-    rw (le-leb 1 (z .key) (up-past xs z zs 1 u), w .key, w .quantity, free, lt-ltb (length xs) (s .orders) n, rw append-nil at (with-new z xs [] v tt), f)
+    rw (price-passes s (z .total) (z .displayed) (z .price) (w .quantity), le-leb 1 (z .key) (up-past xs z zs 1 u), w .key, w .quantity, free, lt-ltb (length xs) (s .orders) n, rw append-nil at (with-new z xs [] v tt), f)
 
-pub book-enters : (s : Sizes) (zs xs : List Order) → Limits s → orders-good 1 (xs ++ zs) ≡ true → fits s (xs ++ zs) ≡ true → book s (enters zs) xs ≡ xs ++ zs
+pub book-enters : (s : Sizes) (zs xs : List Order) → Limits s → orders-good s 1 (xs ++ zs) ≡ true → fits s (xs ++ zs) ≡ true → book s (enters zs) xs ≡ xs ++ zs
 unfolding book enters
 book-enters s [] xs m g f = sym (append-nil xs)
 book-enters s (z ∷ zs) xs m g f =
     let e : xs ++ z ∷ [] ++ zs ≡ xs ++ z ∷ zs = append-assoc xs (z ∷ []) zs in
-    let g′ : orders-good 1 (xs ++ z ∷ [] ++ zs) ≡ true = rw e g in
+    let g′ : orders-good s 1 (xs ++ z ∷ [] ++ zs) ≡ true = rw e g in
     let f′ : fits s (xs ++ z ∷ [] ++ zs) ≡ true = rw e f in
-    ap (book s (enters zs)) (booked-last s xs z zs m g (fits-prefix s (xs ++ z ∷ []) zs (m .nodes-some) (good-up 1 (xs ++ z ∷ [] ++ zs) g′) f′))
+    ap (book s (enters zs)) (booked-last s xs z zs m g (fits-prefix s (xs ++ z ∷ []) zs (m .nodes-some) (good-up s 1 (xs ++ z ∷ [] ++ zs) g′) f′))
     ∙ book-enters s zs (xs ++ z ∷ []) m g′ f′ ∙ e
 
 pub same-is : (a b : List ℕ) → same a b ≡ true → a ≡ b
@@ -86,7 +96,7 @@ image-parts bs e =
     let os = orders-in bs in
     let w =
     seven (leb 53 (length bs)) (sizes-good s) (seed-good (s .seed))
-    (eqb (field 0 1 bs) 1 && (eqb (field 1 4 bs) (table-long s) && (eqb (length bs) (table-long s) && leb (held-in bs) (s .orders)))) (orders-good 1 os) (fits s os)
+    (eqb (field 1 4 bs) (table-long s) && (eqb (length bs) (table-long s) && leb (held-in bs) (s .orders))) (orders-good s 1 os) (fits s os)
     (same (image s os) bs) e in
     record { sizes-made = rw (w .0, w .1) (ten bs); orders-kept = record { good = w .2; fit = w .3 }; bytes = same-is (image s os) bs (w .4) }
 

@@ -11,7 +11,7 @@ use Rattle.sizes.specs.Sizes.{beta, made, seed-good}
 use Rattle.sizes.specs.Header.{block-long, table-long, sizes-in, held-in, rule-1}
 use Rattle.placement.specs.Place.{Shaped}
 use Rattle.sizes.specs.declared.Sizes.{Sizes}
-use Rattle.sizes.proofs.Laws.Sizes.{limits, some-blocks}
+use Rattle.sizes.proofs.Laws.Sizes.{limits, some-blocks, row-least, row-most}
 use Rattle.sizes.proofs.Laws.HeaderLoops.{ruled, rule-short}
 use Rattle.table.specs.declared.Seen.{Seen}
 use Rattle.table.specs.declared.Tally.{Tally}
@@ -23,7 +23,7 @@ pub made-shaped : (s : Sizes) (bs : List ℕ) → made s ≡ true → length bs 
 unfolding table-long block-long
 made-shaped s bs m e =
     let l = limits s m in
-    record { long = e; width = refl; few = l .nodes-most; some = some-blocks s m; most = l .blocks-most; seeds = l .seeds }
+    record { long = e; width = refl; least = row-least s; wide = row-most s; few = l .nodes-most; some = some-blocks s m; most = l .blocks-most; seeds = l .seeds }
 
 walkable : (s : Sizes) (bs : List ℕ) → made s ≡ true → length bs ≡ table-long s → Walkable s bs
 walkable s bs m e =

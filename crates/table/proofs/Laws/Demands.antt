@@ -3,6 +3,7 @@ use mathlib.Core.Path.{_≡_, sym, ap, _∙_, subst}
 use mathlib.Core.Bool.{cond}
 use mathlib.Core.List.{List, []}
 use Prim.Native.Nat.{ℕ}
+use Rattle.sizes.specs.Sizes.{row}
 use Rattle.sizes.specs.Header.{sizes-in}
 use Rattle.sizes.specs.declared.Sizes.{Sizes}
 use Rattle.placement.specs.declared.Order.{Order}
@@ -32,7 +33,7 @@ demand-3 a x y cs ds v w mx my rx ry =
       one = p .bytes;
       other = q .bytes;
       equal-then = λ e. equal-same os qs (sym (p .orders) ∙ ap orders-in e ∙ q .orders);
-      then-equal = λ h. p .bytes ∙ ap (image s) (same-equal 1 os qs (good-up 1 os (p .kept .good)) (good-up 1 qs (q .kept .good)) h) ∙ sym (q .bytes);
+      then-equal = λ h. p .bytes ∙ ap (image s) (same-equal 1 os qs (good-up s 1 os (p .kept .good)) (good-up s 1 qs (q .kept .good)) h) ∙ sym (q .bytes);
     }
 
 -- DEMAND 2: the rules
@@ -65,7 +66,7 @@ demand-2-descent q x z cs mx rx k r o now h =
 
 pub demand-2-span : Demand-2-span
 unfolding Demand-2-span Span-says
-demand-2-span q x z cs mx rx lo hi r o now h = told (span lo hi o) (λ i v t. Span-as i (between lo hi t) r o now) _ _ z (run-holds q x z cs mx rx) h
+demand-2-span q x z cs mx rx lo hi r o now h = told (span lo hi o) (λ i v t. Span-as (row v) i (between lo hi t) r o now) _ _ z (run-holds q x z cs mx rx) h
 
 pub demand-2-seek : Demand-2-seek
 unfolding Demand-2-seek Seek-says

@@ -35,10 +35,10 @@ count-is (suc n) c o r w = rw w
 
 -- one number and one order, whatever the counts
 same-order : (n c d : ℕ) (o : Order) (r q : Reply) → r ≡ gives n c o → q ≡ gives n d o →
-    (r .number ≡ q .number) × (r .key ≡ q .key) × (r .total ≡ q .total) × (r .displayed ≡ q .displayed)
+    (r .number ≡ q .number) × (r .key ≡ q .key) × (r .total ≡ q .total) × (r .displayed ≡ q .displayed) × (r .price ≡ q .price)
 unfolding gives
-same-order zero c d o r q v w = rw (v, w) (refl, refl, refl, refl)
-same-order (suc n) c d o r q v w = rw (v, w) (refl, refl, refl, refl)
+same-order zero c d o r q v w = rw (v, w) (refl, refl, refl, refl, refl)
+same-order (suc n) c d o r q v w = rw (v, w) (refl, refl, refl, refl, refl)
 
 -- WITHIN ITS OUTPUT, where that has room for what is shown
 pub path-long : (is : List ℕ) → length (path-bytes is) ≡ 2 * length is
@@ -81,7 +81,7 @@ image-rule x e = and-parts (rule-1 x) _ e .0
 quiet : (x : List ℕ) (k : ℕ) (o : List ℕ) → (is-image x ≡ true → is-key k ≡ false) → Answered x k o
 unfolding refusal asks asks-image asks-descent asks-first first-no shown path-bytes rows Descent-as Look-as gives
 quiet x k o f = (
-  reply (first-no (asks-first x k)) 0 0 0 0,
+  reply (first-no (asks-first x k)) 0 0 0 0 0,
   o,
   record {
     turned-down = λ h. (refl, refl);

@@ -6,6 +6,8 @@ use mathlib.Core.List.{List, [], _∷_}
 use Prim.Native.Nat.{ℕ, zero, suc}
 use borrow.Author.Tests.{eqb-false}
 use lib.Dec.{eqb}
+use Rattle.sizes.specs.Sizes.{row}
+use Rattle.sizes.specs.Header.{sizes-in}
 use Rattle.placement.specs.declared.Order.{Order}
 use Rattle.skiplist.specs.Image.{is-image, orders-in}
 use Rattle.skiplist.specs.Questions.{first-no, between}
@@ -17,19 +19,19 @@ use Rattle.table.proofs.Laws.Runs.{does-done, runs-after, stays-image}
 use Rattle.table.proofs.Laws.Descents.{number-is, descent-some}
 
 -- AN ANSWER to every call
-span-some : (n : ℕ) (os : List Order) (o : List ℕ) → (r : Reply) × (z : List ℕ) × Span-as n os r o z
+span-some : (w n : ℕ) (os : List Order) (o : List ℕ) → (r : Reply) × (z : List ℕ) × Span-as w n os r o z
 unfolding Span-as
-span-some zero os o = (_, _, (refl, refl))
-span-some (suc n) os o = (_, _, (refl, refl))
+span-some w zero os o = (_, _, (refl, refl))
+span-some w (suc n) os o = (_, _, (refl, refl))
 
 does-some : (c : Call) (x : List ℕ) → (z : List ℕ) × Does c x z
 unfolding Does Enter-says Amend-says Cancel-says Edit-says Look-says Look-as Span-says Seek-says Seek-as
-does-some (enter k t d) x = (done (enter k t d) x, (refusal (enter k t d) x, (refl, refl)))
-does-some (amend k t d) x = (done (amend k t d) x, (refusal (amend k t d) x, (refl, refl)))
+does-some (enter k t d p) x = (done (enter k t d p) x, (refusal (enter k t d p) x, (refl, refl)))
+does-some (amend k t d p) x = (done (amend k t d p) x, (refusal (amend k t d p) x, (refl, refl)))
 does-some (cancel k) x = (done (cancel k) x, (refusal (cancel k) x, (refl, refl)))
 does-some (lookup k) x = (x, (_, refl, refl))
 does-some (descent k o) x = let w = descent-some x k o in (x, (w .0, w .1, w .2, refl))
-does-some (span lo hi o) x = let w = span-some (refusal (span lo hi o) x) (between lo hi (orders-in x)) o in (x, (w .0, w .1, w .2, refl))
+does-some (span lo hi o) x = let w = span-some (row (sizes-in x)) (refusal (span lo hi o) x) (between lo hi (orders-in x)) o in (x, (w .0, w .1, w .2, refl))
 does-some (seek lo hi l) x = (x, (_, refl, refl))
 does-some check x = (x, (check-number x, refl, refl))
 
@@ -39,19 +41,19 @@ runs-exist [] x = (x, refl)
 runs-exist (c ∷ cs) x = let w = does-some c x in let v = runs-exist cs (w .0) in (v .0, (w .0, w .1, v .1))
 
 -- THE NUMBER of an answer
-pub span-number : (n : ℕ) (os : List Order) (r : Reply) (o z : List ℕ) → Span-as n os r o z → r .number ≡ n
+pub span-number : (v n : ℕ) (os : List Order) (r : Reply) (o z : List ℕ) → Span-as v n os r o z → r .number ≡ n
 unfolding Span-as
-span-number zero os r o z w = rw (w .0)
-span-number (suc n) os r o z w = rw (w .0)
+span-number v zero os r o z w = rw (w .0)
+span-number v (suc n) os r o z w = rw (w .0)
 
 pub number-told : (c : Call) (x z : List ℕ) (w : Does c x z) → is-image x ≡ true → number-in (answer c x z w) ≡ refusal c x
 unfolding Does answer number-in Enter-says Amend-says Cancel-says Edit-says check-number Look-says Look-as Descent-as Span-says Seek-says Seek-as
-number-told (enter k t d) x z w i = w .1 .0
-number-told (amend k t d) x z w i = w .1 .0
+number-told (enter k t d p) x z w i = w .1 .0
+number-told (amend k t d p) x z w i = w .1 .0
 number-told (cancel k) x z w i = w .1 .0
 number-told (lookup k) x z w i = number-is (refusal (lookup k) x) 0 _ (w .0) (w .1)
 number-told (descent k o) x z w i = number-is (refusal (descent k o) x) _ _ (w .0) (w .2 .on-image i .0)
-number-told (span lo hi o) x z w i = span-number (refusal (span lo hi o) x) _ (w .0) o (w .1) (w .2)
+number-told (span lo hi o) x z w i = span-number (row (sizes-in x)) (refusal (span lo hi o) x) _ (w .0) o (w .1) (w .2)
 number-told (seek lo hi l) x z w i = number-is (refusal (seek lo hi l) x) 0 _ (w .0) (w .1)
 number-told check x z w i = w .1
 
@@ -59,10 +61,10 @@ number-told check x z w i = w .1
 both : {r q p : Reply} {y z x : List ℕ} → (r ≡ p) × (y ≡ x) → (q ≡ p) × (z ≡ x) → lent r y ≡ lent q z
 both v w = λ i. lent ((v .0 ∙ sym (w .0)) i) ((v .1 ∙ sym (w .1)) i)
 
-span-fixed : (n : ℕ) (os : List Order) (r q : Reply) (o y z : List ℕ) → Span-as n os r o y → Span-as n os q o z → lent r y ≡ lent q z
+span-fixed : (k n : ℕ) (os : List Order) (r q : Reply) (o y z : List ℕ) → Span-as k n os r o y → Span-as k n os q o z → lent r y ≡ lent q z
 unfolding Span-as
-span-fixed zero os r q o y z v w = both v w
-span-fixed (suc n) os r q o y z v w = both v w
+span-fixed k zero os r q o y z v w = both v w
+span-fixed k (suc n) os r q o y z v w = both v w
 
 descent-fixed : (x : List ℕ) (k : ℕ) (r q : Reply) (o y z : List ℕ) → Descent-says x k r o y → Descent-says x k q o z →
     (is-image x || not (eqb (first-no (asks-first x k)) 0)) ≡ true → lent r y ≡ lent q z
@@ -76,12 +78,12 @@ descent-fixed x k r q o y z v w h = go (is-image x) refl (eqb (first-no (asks-fi
 
 pub replies-fixed : Replies-fixed
 unfolding Replies-fixed Does answer decided Enter-says Amend-says Cancel-says Edit-says Look-says Look-as Span-says Seek-says Seek-as
-replies-fixed (enter k t d) x v w p q h = ap alone (p .1 .0 ∙ sym (q .1 .0))
-replies-fixed (amend k t d) x v w p q h = ap alone (p .1 .0 ∙ sym (q .1 .0))
+replies-fixed (enter k t d m) x v w p q h = ap alone (p .1 .0 ∙ sym (q .1 .0))
+replies-fixed (amend k t d m) x v w p q h = ap alone (p .1 .0 ∙ sym (q .1 .0))
 replies-fixed (cancel k) x v w p q h = ap alone (p .1 .0 ∙ sym (q .1 .0))
 replies-fixed (lookup k) x v w p q h = ap whole (p .1 ∙ sym (q .1))
 replies-fixed (descent k o) x v w p q h = descent-fixed x k (p .0) (q .0) o (p .1) (q .1) (p .2) (q .2) h
-replies-fixed (span lo hi o) x v w p q h = span-fixed (refusal (span lo hi o) x) (between lo hi (orders-in x)) (p .0) (q .0) o (p .1) (q .1) (p .2) (q .2)
+replies-fixed (span lo hi o) x v w p q h = span-fixed (row (sizes-in x)) (refusal (span lo hi o) x) (between lo hi (orders-in x)) (p .0) (q .0) o (p .1) (q .1) (p .2) (q .2)
 replies-fixed (seek lo hi l) x v w p q h = ap whole (p .1 ∙ sym (q .1))
 replies-fixed check x v w p q h = ap alone (p .1 ∙ sym (q .1))
 

@@ -3,12 +3,14 @@ use mathlib.Core.Path.{_≡_, refl, ap, _∙_, subst}
 use mathlib.Core.Logic.{_≢_}
 use mathlib.Core.Bool.{Bool, true, false, _&&_, cond, true≢false}
 use mathlib.Core.List.{List, [], _∷_}
-use Prim.Native.Nat.{ℕ, zero, suc, _+_, _≤_, _<_}
+use Prim.Native.Nat.{ℕ, zero, suc, _+_, _*_, _≤_, _<_}
+use native.Mathlib.Nat.{mul-one}
 use native.Mathlib.Omega.{arith}
 use lib.Dec.{leb, eqb}
 use borrow.Author.Tests.{leb-true, leb-false, eqb-true, eqb-false, le-leb, lt-leb}
 use lib.ListN.{length, take, drop, replicate}
 use Rattle.sizes.specs.Numbers.{big, rows}
+use Rattle.sizes.specs.Sizes.{row}
 use Rattle.sizes.specs.Header.{block-long}
 use Rattle.placement.specs.Chunks.{node-bytes, nodes-bytes}
 use Rattle.placement.specs.Labels.{label, same-label, home}
@@ -19,7 +21,9 @@ use Rattle.placement.specs.declared.Label.{Label}
 use Rattle.placement.specs.declared.Found.{Found}
 use Rattle.placement.proofs.Laws.Loops.{shaped-same}
 use Rattle.placement.proofs.Laws.Tables.{insert-keeps}
+use Rattle.sizes.proofs.Laws.Sizes.{row-most}
 use Rattle.skiplist.specs.Lists.{front}
+use Rattle.skiplist.proofs.Laws.Sound.{none-fine}
 use Rattle.table.specs.Make.{fronts-map, Fronts}
 
 abbrev front-label : ℕ → Label
@@ -52,9 +56,17 @@ front-absent : (n : ℕ) → nodes-of (fronts-map n) (front-label (suc n)) ≡ [
 unfolding fronts-map
 front-absent n = rw (le-leb 1 (suc n) (omega arith), lt-leb (suc n) n (omega arith))
 
-front-bytes : take 12 (drop 0 (replicate 12 0)) ≡ nodes-bytes (front ∷ [])
-unfolding rows node-bytes big front
-front-bytes = refl
+-- 16 zeros have the bytes of a front, of either width
+front-bytes : (s : Sizes) → take (row s * 1) (drop 0 (replicate 16 0)) ≡ nodes-bytes (row s) (front ∷ [])
+unfolding row rows node-bytes big front
+front-bytes s = go (eqb (s .version) 1)
+  where
+    go : (t : Bool) → take (cond t 12 16 * 1) (drop 0 (replicate 16 0)) ≡ nodes-bytes (cond t 12 16) (front ∷ [])
+    go true = refl
+    go false = refl
+
+pub front-room : (s : Sizes) (node : List ℕ) → length node ≡ 16 → 0 + row s * 1 ≤ length node
+front-room s node e = omega (arith, row-most s, mul-one (row s))
 
 front-holdable : (s : Sizes) (n : ℕ) → 1 ≤ s .nodes → Holdable s (labelled (front-label (suc n)) (front ∷ []))
 unfolding front
@@ -62,7 +74,7 @@ front-holdable s n h = record {
   level = omega arith;
   first = omega arith;
   number = omega arith;
-  fine = (record { key = omega arith; total = omega arith; displayed = omega arith }, tt);
+  fine = (none-fine (row s), tt);
   nodes = omega arith;
 }
 
@@ -96,7 +108,7 @@ module _ (s : Sizes) (top : ℕ) (x : List ℕ) where
   module _ (l : ℕ) (z : List ℕ) (q : Fronting s top x l z) where
     pub fronting-more : l ≤ top → 1 ≤ s .nodes → (r : Found) (z′ : List ℕ) → length z′ ≡ length z
         → r ≡ free-in (label-in (block-long s) z) (s .blocks) (s .blocks) (home s (front-label l))
-        → z′ ≡ inserted s r (front-label l) 1 (take 12 (drop 0 (replicate 12 0))) z → Fronting s top x (l + 1) z′
+        → z′ ≡ inserted s r (front-label l) 1 (take (row s * 1) (drop 0 (replicate 16 0))) z → Fronting s top x (l + 1) z′
     fronting-more h b r z′ same er ez = record {
       done = suc (q .done);
       next = omega (arith, q .next);
@@ -105,7 +117,7 @@ module _ (s : Sizes) (top : ℕ) (x : List ℕ) where
       same = same ∙ q .same;
       keeps = λ hd w t. same-map s (with-nodes (front-label (suc (q .done))) (front ∷ []) (fronts-map (q .done))) (fronts-map (suc (q .done))) (suc (q .done)) hd z′ (front-more (q .done))
           (insert-keeps s (fronts-map (q .done)) (q .done) hd z (q .keeps hd w t) (front-label (suc (q .done))) (front ∷ []) (front-holdable s (q .done) b) (front-absent (q .done)) front-some (omega (arith, q .next)) r z′ (rw (q .next) at er)
-          ((rw (q .next) at ez) ∙ ap (λ (v : List ℕ). inserted s r (front-label (suc (q .done))) 1 v z) front-bytes));
+          ((rw (q .next) at ez) ∙ ap (λ (v : List ℕ). inserted s r (front-label (suc (q .done))) 1 v z) (front-bytes s)));
     }
 
     pub fronting-end : top < l → Fronts s top x z

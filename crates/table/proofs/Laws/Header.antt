@@ -5,7 +5,7 @@ use Prim.Native.Nat.{ℕ, zero, suc, _+_, _*_, _≤_}
 use native.Mathlib.Omega.{arith}
 use lib.ListN.{length, getD, take, drop, length-drop}
 use lib.Seq.{drop-cons}
-use Rattle.sizes.specs.Numbers.{big, value-from, field, rows, rows-in}
+use Rattle.sizes.specs.Numbers.{big, field, rows, rows-in}
 use Rattle.sizes.specs.Header.{table-long, header, seed-bytes, seed-in, sizes-in, held-in}
 use Rattle.sizes.proofs.Laws.Numbers.{Bytes, bytes-drop, take-more, field-again}
 use Rattle.sizes.proofs.Laws.HeaderLoops.{Ruled}
@@ -18,10 +18,9 @@ seeds-again (suc k) xs u h =
     let f : big 4 (field 0 4 xs) ≡ take 4 xs = field-again 0 4 xs (omega arith) u in
     rw (e, f, seeds-again k (drop 4 xs) (bytes-drop 4 xs u) (simp length-drop (omega arith))) (take-more 4 (4 * k) xs)
 
-one-first : (bs : List ℕ) → 53 ≤ length bs → field 0 1 bs ≡ 1 → 1 ∷ [] ≡ take 1 bs
-unfolding field value-from
-one-first [] h e = absurd (omega arith)
-one-first (x ∷ bs) h e = let q : 1 ≡ x = omega (arith, e) in λ i. q i ∷ []
+one-byte : (bs : List ℕ) → 53 ≤ length bs → getD bs 0 0 ∷ [] ≡ take 1 bs
+one-byte [] h = absurd (omega arith)
+one-byte (x ∷ bs) h = refl
 
 two-bytes : (bs : List ℕ) → 53 ≤ length bs → getD bs 5 0 ∷ getD bs 6 0 ∷ [] ≡ take 2 (drop 5 bs)
 two-bytes bs h = rw (drop-cons bs 5 0 (omega arith), drop-cons bs 6 0 (omega arith))
@@ -36,5 +35,5 @@ header-again bs u r =
     let l = r .long in
     let a : big 4 (table-long (sizes-in bs)) ≡ take 4 (drop 1 bs) = ap (big 4) (sym (r .length-field)) ∙ field-again 1 4 bs (omega arith) u in
     let s : seed-bytes (seed-in 10 (drop 13 bs)) ≡ take 40 (drop 13 bs) = seeds-again 10 (drop 13 bs) (bytes-drop 13 bs u) (simp length-drop (omega arith)) in
-    glue bs (1 ∷ []) (big 4 (table-long (sizes-in bs))) (getD bs 5 0 ∷ getD bs 6 0 ∷ []) (big 2 (field 7 2 bs)) (big 2 (field 9 2 bs)) (big 2 (field 11 2 bs)) (seed-bytes (seed-in 10 (drop 13 bs)))
-    (one-first bs l (r .version)) a (two-bytes bs l) (field-again 7 2 bs (omega arith) u) (field-again 9 2 bs (omega arith) u) (field-again 11 2 bs (omega arith) u) s
+    glue bs (getD bs 0 0 ∷ []) (big 4 (table-long (sizes-in bs))) (getD bs 5 0 ∷ getD bs 6 0 ∷ []) (big 2 (field 7 2 bs)) (big 2 (field 9 2 bs)) (big 2 (field 11 2 bs)) (seed-bytes (seed-in 10 (drop 13 bs)))
+    (one-byte bs l) a (two-bytes bs l) (field-again 7 2 bs (omega arith) u) (field-again 9 2 bs (omega arith) u) (field-again 11 2 bs (omega arith) u) s

@@ -9,16 +9,17 @@ use borrow.Author.Tests.{le-leb, le-ltb, lt-ltb, ltb-true, leb-true, leb-false}
 use mir.Val.{Fits}
 use mir.Syntax.{w32}
 use native.Mathlib.Omega.{arith}
-use Rattle.sizes.specs.Sizes.{prime}
+use Rattle.sizes.specs.Sizes.{prime, row}
 use Rattle.sizes.specs.Header.{block-long}
 use Rattle.sizes.specs.declared.Sizes.{Sizes}
+use Rattle.placement.specs.Decode.{node-of}
 use Rattle.placement.specs.declared.Order.{Order}
 use Rattle.placement.specs.declared.Found.{Found}
 use Rattle.placement.specs.declared.Found.the-variants.{At}
 use Rattle.table.specs.declared.Seen.{Seen}
-use Rattle.table.specs.Walk.{node-of, wrong-seen, counts, counted, fits-in, enters-ok, entered-seen, node-good, stops-at, nodes-by, enters-lowest, comes-ok, passed-seen, chunk-spot, opens-of}
+use Rattle.table.specs.Walk.{wrong-seen, price-ok, counts, counted, fits-in, enters-ok, entered-seen, node-good, stops-at, nodes-by, enters-lowest, comes-ok, passed-seen, chunk-spot, opens-of}
 use Rattle.table.proofs.Laws.Steps.{stops-short, counts-parts}
-use Rattle.table.proofs.Laws.Turns.{Noding, noding-end, noding-gone, noding-wrong, noding-more, nodes-wrong, Chunking, chunking-wrong, Entering, entering-made, entering-gone, entering-stop, entering-more, enters-chunks}
+use Rattle.table.proofs.Laws.Turns.{Noding, noding-room, noding-end, noding-gone, noding-wrong, noding-more, nodes-wrong, Chunking, chunking-wrong, Entering, entering-made, entering-gone, entering-stop, entering-more, enters-chunks}
 
 -- the walk of the nodes of a level 1 chunk
 abbrev lowest : Sizes → List ℕ → (first left at : ℕ) → (opens : Bool) → Seen → Seen
@@ -28,8 +29,9 @@ lowest s bs f j a o x = nodes-by (opens-of s bs 0) s bs 1 f j a o x
 pub comes-fits : (s : Sizes) (f : ℕ) (o : Bool) (y : ℕ) (n : Order) (t : Bool) → t ≡ comes-ok s f o y n → t ≡ true → Fits w32 (n .key + 1)
 unfolding comes-ok
 comes-fits s f o y n t et e =
-    let a = and-eq-true-iff (leb y (n .key)) (ltb (n .key) prime && fits-in s 1 f o n) .0 (sym et ∙ e) in
-    record { fits = omega (arith, ltb-true (n .key) prime (and-eq-true-iff (ltb (n .key) prime) (fits-in s 1 f o n) .0 (a .1) .0)) }
+    let q = price-ok s 1 n && fits-in s 1 f o n in
+    let a = and-eq-true-iff (leb y (n .key)) (ltb (n .key) prime && q) .0 (sym et ∙ e) in
+    record { fits = omega (arith, ltb-true (n .key) prime (and-eq-true-iff (ltb (n .key) prime) q .0 (a .1) .0)) }
 
 -- ONE NODE: what the code asks of it is what the model asks
 module _ (s : Sizes) (f : ℕ) (o : Bool) (n : Order) (x : Seen) (ok : x .ok ≡ true) (some : 1 ≤ x .orders) where
@@ -38,7 +40,7 @@ module _ (s : Sizes) (f : ℕ) (o : Bool) (n : Order) (x : Seen) (ok : x .ok ≡
   both-asked =
       let a = leb (x .low) (n .key) in
       let b = ltb (n .key) prime in
-      let c = fits-in s 1 f o n in
+      let c = price-ok s 1 n && fits-in s 1 f o n in
       rw (ok, le-leb 1 (x .orders) some, and-true) (and-comm c (a && b) ∙ and-assoc a b c)
 
 -- more nodes than orders are to come
@@ -46,16 +48,16 @@ too-many : (s : Sizes) (bs : List ℕ) (f j a : ℕ) (o : Bool) (x : Seen) → x
 unfolding nodes-by opens-of counted
 too-many s bs f zero a o x h = absurd (omega arith)
 too-many s bs f (suc j) a o x h =
-    go (node-good s 1 f o (node-of bs a) x) (counts key x) refl refl (too-many s bs f j (a + 12) false (record { ok = true; low = key + 1; orders = x .orders - 1; chunks = x .chunks }))
+    go (node-good s 1 f o (node-of (row s) bs a) x) (counts key x) refl refl (too-many s bs f j (a + row s) false (record { ok = true; low = key + 1; orders = x .orders - 1; chunks = x .chunks }))
   where
     key : ℕ
-    key = node-of bs a .key
+    key = node-of (row s) bs a .key
 
-    go : (u v : Bool) → node-good s 1 f o (node-of bs a) x ≡ u → counts key x ≡ v
-        → (x .orders - 1 < j → lowest s bs f j (a + 12) false (record { ok = true; low = key + 1; orders = x .orders - 1; chunks = x .chunks }) ≡ wrong-seen)
+    go : (u v : Bool) → node-good s 1 f o (node-of (row s) bs a) x ≡ u → counts key x ≡ v
+        → (x .orders - 1 < j → lowest s bs f j (a + row s) false (record { ok = true; low = key + 1; orders = x .orders - 1; chunks = x .chunks }) ≡ wrong-seen)
         → lowest s bs f (suc j) a o x ≡ wrong-seen
     go true true p q ih = rw (p, q) (ih (omega (arith, counts-parts key x q .3)))
-    go true false p q ih = rw (p, q) (nodes-wrong (opens-of s bs 0) s bs 1 f j (a + 12) false)
+    go true false p q ih = rw (p, q) (nodes-wrong (opens-of s bs 0) s bs 1 f j (a + row s) false)
     go false v p q ih = rw p
 
 -- THE LOOP over the nodes of a chunk of n: what it keeps, k of them still to come
@@ -65,7 +67,7 @@ pub record Lowering (s : Sizes) (bs : List ℕ) (f n a₀ : ℕ) (o₀ : Bool) (
   pub nodes : Noding (opens-of s bs 0) s bs 1 f n a₀ o₀ (entered-seen y) k a o (passed-seen (n - k) low y)
 
 module _ (s : Sizes) (bs : List ℕ) (f n a₀ : ℕ) (o₀ : Bool) (y : Seen) where
-  pub lowering-start : y .ok ≡ true → n ≤ y .orders → a₀ + 12 * n ≤ length bs → Lowering s bs f n a₀ o₀ y n a₀ o₀ (y .low)
+  pub lowering-start : y .ok ≡ true → n ≤ y .orders → a₀ + row s * n ≤ length bs → Lowering s bs f n a₀ o₀ y n a₀ o₀ (y .low)
   unfolding entered-seen passed-seen
   lowering-start ok few room =
       let e : y .orders ≡ y .orders - (n - n) = omega arith in
@@ -79,15 +81,15 @@ module _ (s : Sizes) (bs : List ℕ) (f n a₀ : ℕ) (o₀ : Bool) (y : Seen) w
       }
 
   module _ (k a : ℕ) (o : Bool) (low : ℕ) (h : Lowering s bs f n a₀ o₀ y k a o low) where
-    pub lowering-room : 0 < k → a + 12 ≤ length bs
-    lowering-room p = omega (arith, h .nodes .room)
+    pub lowering-room : 0 < k → a + row s ≤ length bs
+    lowering-room p = noding-room (opens-of s bs 0) s bs 1 f n a₀ o₀ (entered-seen y) k a o (passed-seen (n - k) low y) (h .nodes) p
 
     pub lowering-end : k ≤ 0 → passed-seen n low y ≡ lowest s bs f n a₀ o₀ (entered-seen y)
     lowering-end z =
         let e : n ≡ n - k = omega arith in
         ap (λ (j : ℕ). passed-seen j low y) e ∙ noding-end (opens-of s bs 0) s bs 1 f n a₀ o₀ (entered-seen y) k a o (passed-seen (n - k) low y) (h .nodes) z
 
-    module _ (p : 0 < k) (m : Order) (em : m ≡ node-of bs a) (t : Bool) (et : t ≡ comes-ok s f o low m) where
+    module _ (p : 0 < k) (m : Order) (em : m ≡ node-of (row s) bs a) (t : Bool) (et : t ≡ comes-ok s f o low m) where
       abbrev x : Seen
       x = passed-seen (n - k) low y
 
@@ -104,16 +106,16 @@ module _ (s : Sizes) (bs : List ℕ) (f n a₀ : ℕ) (o₀ : Bool) (y : Seen) w
           go true false c d q = noding-gone (opens-of s bs 0) s bs 1 f n a₀ o₀ (entered-seen y) k a o x (h .nodes) w ew p (rw (← em, d))
           go false v c d q = noding-wrong (opens-of s bs 0) s bs 1 f n a₀ o₀ (entered-seen y) k a o x (h .nodes) m em false (sym c) p w ew refl
 
-      pub lowering-more : t ≡ true → Lowering s bs f n a₀ o₀ y (k - 1) (a + 12) false (m .key + 1)
+      pub lowering-more : (w : ℕ) → w ≡ row s → t ≡ true → Lowering s bs f n a₀ o₀ y (k - 1) (a + w) false (m .key + 1)
       unfolding opens-of counted passed-seen
-      lowering-more e =
+      lowering-more w ew e =
           let b = and-eq-true-iff (node-good s 1 f o m x) (counts (m .key) x) .0 (asked ∙ e) in
           let d : y .orders - (n - (k - 1)) ≡ y .orders - (n - k) - 1 = omega (arith, h .few, h .left) in
           record {
             few = h .few;
             left = omega (arith, h .left);
             nodes =
-                noding-more (opens-of s bs 0) s bs 1 f n a₀ o₀ (entered-seen y) k a o x (h .nodes) m em true (sym (b .0)) p refl (passed-seen (n - (k - 1)) (m .key + 1) y)
+                noding-more (opens-of s bs 0) s bs 1 f n a₀ o₀ (entered-seen y) k a o x (h .nodes) m em true (sym (b .0)) p w ew refl (passed-seen (n - (k - 1)) (m .key + 1) y)
                 (rw (b .1, d));
           }
 
@@ -149,7 +151,7 @@ module _ (s : Sizes) (bs : List ℕ) (f : ℕ) (x : Seen) (i : ℕ) (y : Seen) (
 -- WHAT THE LOOP over its nodes comes to
 module _ (s : Sizes) (bs : List ℕ) (f : ℕ) (x : Seen) (i : ℕ) (y : Seen) (at n : ℕ) (h : Entering s bs 1 f x i y at n) (k a : ℕ) (o : Bool) (low : ℕ)
     (j : Lowering s bs f n (at + 8) (eqb i 0) y k a o low) where
-  pub lowest-wrong : 0 < k → (m : Order) → m ≡ node-of bs a → (t : Bool) → t ≡ comes-ok s f o low m → t ≡ false → (w : Seen) → w ≡ wrong-seen → w ≡ opens-of s bs 1 f x
+  pub lowest-wrong : 0 < k → (m : Order) → m ≡ node-of (row s) bs a → (t : Bool) → t ≡ comes-ok s f o low m → t ≡ false → (w : Seen) → w ≡ wrong-seen → w ≡ opens-of s bs 1 f x
   lowest-wrong p m em t et e w ew = entering-gone s bs 1 f x i y at n h w (lowering-wrong s bs f n (at + 8) (eqb i 0) y k a o low j p m em t et e w ew) ew
 
   module _ (v z : Seen) (ev : v ≡ y) (ez : z ≡ passed-seen n low v) (p : k ≤ 0) where

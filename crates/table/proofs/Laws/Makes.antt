@@ -78,9 +78,9 @@ unfolding Make-reaches make-refusal first-no asks-make sizes asked-in-range
 make-reaches s m =
     let w = limits s m in
     let e = seed-back s m in (
-      parameters (s .gamma) (s .nodes) (s .orders) (s .blocks) (seed-bytes (s .seed)),
-      rw (is-word (s .gamma) (omega arith), is-word (s .nodes) (omega arith), is-word (s .orders) (omega arith), is-word (s .blocks) (omega arith)) (seed-are-bytes (s .seed)),
-      (λ i. record { gamma = s .gamma; nodes = s .nodes; orders = s .orders; blocks = s .blocks; seed = e i }),
+      parameters (s .version) (s .gamma) (s .nodes) (s .orders) (s .blocks) (seed-bytes (s .seed)),
+      rw (is-word (s .version) (omega arith), is-word (s .gamma) (omega arith), is-word (s .nodes) (omega arith), is-word (s .orders) (omega arith), is-word (s .blocks) (omega arith)) (seed-are-bytes (s .seed)),
+      (λ i. record { version = s .version; gamma = s .gamma; nodes = s .nodes; orders = s .orders; blocks = s .blocks; seed = e i }),
       rw (e, eq-eqb (length (seed-bytes (s .seed))) 40 (seed-long s m), w .seeds, w .sizes, eq-eqb (table-long s) (table-long s) refl),
     )
 

@@ -24,9 +24,10 @@ use Rattle.sizes.proofs.Laws.Headers.{header-long, header-sizes}
 use Rattle.placement.proofs.Laws.Keeps.{placed-keeps}
 use Rattle.placement.proofs.Laws.Tables.{shaped}
 use Rattle.skiplist.specs.Lists.{front, at-least, list-at, starts-one, run, rest, partitions, first-key, masked, chunks-of, all-chunks, chunks-from, chunks}
-use Rattle.skiplist.specs.Image.{image, orders-good, fits}
+use Rattle.skiplist.specs.Image.{image}
 use Rattle.skiplist.specs.Questions.{Parameters, first-no, sizes, asks-make}
 use Rattle.skiplist.specs.Book.{make-refusal}
+use Rattle.skiplist.proofs.Laws.Kept.{kept-none}
 use Rattle.skiplist.proofs.Laws.Image.{is-the-image}
 use Rattle.table.specs.Calls.{Make-says}
 use Rattle.table.specs.Make.{fronts-map, Fronts}
@@ -96,7 +97,7 @@ masked-front : (l : ℕ) → masked l front ≡ front
 unfolding masked front
 masked-front l = go (eqb l 1)
   where
-    go : (t : Bool) → _≡_ {A = Order} (record { key = 0; total = cond t 0 0; displayed = cond t 0 0 }) (record { key = 0; total = 0; displayed = 0 })
+    go : (t : Bool) → _≡_ {A = Order} (record { key = 0; total = cond t 0 0; displayed = cond t 0 0; price = cond t 0 0 }) (record { key = 0; total = 0; displayed = 0; price = 0 })
     go true = refl
     go false = refl
 
@@ -109,11 +110,6 @@ front-alone s l h =
 chunks-more : (s : Sizes) (k l : ℕ) → 1 ≤ s .nodes → chunks-from (suc k) l s [] ≡ front-chunk l ∷ chunks-from k (suc l) s []
 unfolding chunks-from
 chunks-more s k l h = ap (λ (cs : List Chunk). cs ++ chunks-from k (suc l) s []) (front-alone s l h)
-
-chunks-count : (s : Sizes) (k l : ℕ) → 1 ≤ s .nodes → length (chunks-from k l s []) ≡ k
-unfolding chunks-from
-chunks-count s zero l h = refl
-chunks-count s (suc k) l h = ap length (chunks-more s k l h) ∙ ap suc (chunks-count s k (suc l) h)
 
 chunks-map : (s : Sizes) (k l top : ℕ) → 1 ≤ s .nodes → l + k ≡ suc top → (x f i : ℕ)
     → map-of (chunks-from k l s []) x f i ≡ cond ((leb l x && leb x top) && (eqb 0 f && eqb 0 i)) (front ∷ []) []
@@ -138,19 +134,9 @@ chunks-map s (suc k) l top h e x f i =
         rw (ih, le-leb (suc l) x (omega (arith, leb-true l x q, ne)))
     go false p false q ih = rw (ih, lt-leb (suc l) x (omega (arith, leb-false l x q)))
 
-made-fits : (s : Sizes) → made s ≡ true → fits s [] ≡ true
-unfolding fits chunks
-made-fits s m =
-    let l = limits s m in
-    rw (chunks-count s (beta s) 1 (l .nodes-some), le-leb (beta s) (s .blocks) (l .blocks-least), le-leb 0 (s .orders) (omega arith))
-
 fronts-chunks : (s : Sizes) → made s ≡ true → (l f i : ℕ) → fronts-map (beta s) l f i ≡ map-of (chunks s []) l f i
 unfolding chunks fronts-map
 fronts-chunks s m l f i = sym (chunks-map s (beta s) 1 (beta s) (limits s m .nodes-some) (omega arith) l f i)
-
-good-none : orders-good 1 [] ≡ true
-unfolding orders-good
-good-none = refl
 
 -- the image of no orders
 pub fronts-image : (s : Sizes) (m : made s ≡ true) (x x₁ x₂ : List ℕ) (long : length x ≡ table-long s) → x₁ ≡ sets x 0 (replicate (length x) 0) → x₂ ≡ header s 0 ++ drop 53 x₁
@@ -159,7 +145,8 @@ unfolding Fronts
 fronts-image s m x x₁ x₂ long e₁ e₂ top z e f =
     let t = f (header s 0) (rw e (limits s m .blocks-least)) (empty-table s m x x₁ x₂ long e₁ e₂) in
     let q : Table s (fronts-map (beta s)) (beta s) (header s 0) z = subst (λ (k : ℕ). Table s (fronts-map k) k (header s 0) z) e t in
-    is-the-image s [] (fronts-map (beta s)) (beta s) z good-none (made-fits s m) q (fronts-chunks s m)
+    let k = kept-none s (limits s m) in
+    is-the-image s [] (fronts-map (beta s)) (beta s) z (k .good) (k .fit) q (fronts-chunks s m)
 
 -- THE QUESTIONS
 module _ (q : Parameters) where

@@ -22,7 +22,8 @@ use Rattle.skiplist.proofs.Laws.Shapes.{up-behind, from-key, part-direct}
 use Rattle.skiplist.proofs.Laws.Masks.{masked-one}
 use Rattle.skiplist.proofs.Laws.Segment.{tail-segment, part-segment}
 use Rattle.skiplist.proofs.Laws.Opens.{keys, Heading, Walks, Found, dive, found-piece, read-part, read-front, part-front, one-level}
-use Rattle.table.specs.Walk.{nothing-in, quantities-ok}
+use Rattle.table.specs.Walk.{nothing-in, quantities-ok, price-ok}
+use Rattle.table.proofs.Laws.Came.{weighs}
 use Rattle.table.proofs.Laws.Reading.{part-sound, weigh-all, weigh-read}
 
 module _ (s : Sizes) (T : (l f : ℕ) → List Order) (os : List Order) (walk : Walks s T (beta s) front (front ∷ os)) (u : Up 1 os) where
@@ -32,7 +33,7 @@ module _ (s : Sizes) (T : (l f : ℕ) → List Order) (os : List Order) (walk : 
   reads-keys j x h (inl e) = rw e (read-front s T front os walk u j h)
   reads-keys j x h (inr w) = read-part s T front os walk u j (w .0 .before) x (w .0 .behind) (w .0 .is) (w .1)
 
-  -- at level 1 quantities too
+  -- at level 1 all else too
   pub reads-one : (x : Order) → Heading s os 1 x → T 1 (x .key) ≡ part s os 1 (x .key)
   unfolding front
   reads-one x (inl e) = subst (λ (z : Order). T 1 (z .key) ≡ part s os 1 (z .key)) (sym e) (go (dive s T (beta s) front (front ∷ os) walk 1 (omega (arith, beta-least s)) [] front os refl (λ k. absurd (omega arith))))
@@ -58,26 +59,28 @@ module _ (s : Sizes) (T : (l f : ℕ) → List Order) (os : List Order) (walk : 
           a ∙ sym b
 
 -- above level 1 nothing but keys is told
-one-masked : (l : ℕ) → (l ≡ 1 → ⊥) → (x z : Order) → quantities-ok l x ≡ true → x .key ≡ z .key → x ≡ masked l z
-unfolding masked quantities-ok nothing-in
-one-masked l h x z w k =
-    let q : (eqb (x .total) 0 && eqb (x .displayed) 0) ≡ true = rw (ne-eqb l 1 h) at w in
-    let r = and-parts (eqb (x .total) 0) (eqb (x .displayed) 0) q in
+one-masked : (s : Sizes) (l : ℕ) → (l ≡ 1 → ⊥) → (x z : Order) → weighs s l x ≡ true → x .key ≡ z .key → x ≡ masked l z
+unfolding masked weighs price-ok quantities-ok nothing-in
+one-masked s l h x z w k =
+    let v : (eqb (x .price) 0 && (eqb (x .total) 0 && eqb (x .displayed) 0)) ≡ true = rw (ne-eqb l 1 h) at w in
+    let q = and-parts (eqb (x .price) 0) (eqb (x .total) 0 && eqb (x .displayed) 0) v in
+    let r = and-parts (eqb (x .total) 0) (eqb (x .displayed) 0) (q .1) in
     let t = eqb-true (x .total) 0 (r .0) in
     let d = eqb-true (x .displayed) 0 (r .1) in
-    rw (ne-eqb l 1 h) (λ i. record { key = k i; total = t i; displayed = d i })
+    let p = eqb-true (x .price) 0 (q .0) in
+    rw (ne-eqb l 1 h) (λ i. record { key = k i; total = t i; displayed = d i; price = p i })
 
-keys-masked : (l : ℕ) → (l ≡ 1 → ⊥) → (xs zs : List Order) → weigh-all l xs ≡ true → keys xs ≡ keys zs → xs ≡ map (masked l) zs
+keys-masked : (s : Sizes) (l : ℕ) → (l ≡ 1 → ⊥) → (xs zs : List Order) → weigh-all s l xs ≡ true → keys xs ≡ keys zs → xs ≡ map (masked l) zs
 unfolding weigh-all keys
-keys-masked l h [] [] w e = refl
-keys-masked l h [] (z ∷ zs) w e = absurd (omega (arith, ap length e))
-keys-masked l h (x ∷ xs) [] w e = absurd (omega (arith, ap length e))
-keys-masked l h (x ∷ xs) (z ∷ zs) w e =
-    let p = and-parts (quantities-ok l x) (weigh-all l xs) w in
+keys-masked s l h [] [] w e = refl
+keys-masked s l h [] (z ∷ zs) w e = absurd (omega (arith, ap length e))
+keys-masked s l h (x ∷ xs) [] w e = absurd (omega (arith, ap length e))
+keys-masked s l h (x ∷ xs) (z ∷ zs) w e =
+    let p = and-parts (weighs s l x) (weigh-all s l xs) w in
     let k : x .key ≡ z .key = cc in
     let ks : keys xs ≡ keys zs = cc in
-    let o = one-masked l h x z (p .0) k in
-    let os = keys-masked l h xs zs (p .1) ks in
+    let o = one-masked s l h x z (p .0) k in
+    let os = keys-masked s l h xs zs (p .1) ks in
     λ i. o i ∷ os i
 
 -- THE PARTITIONS THAT WERE READ
@@ -85,7 +88,7 @@ pub reads-masked : (s : Sizes) (bs : List ℕ) (os : List Order) → Walks s (pa
     part-sound s bs (suc j) (x .key) ≡ map (masked (suc j)) (part s os (suc j) (x .key))
 reads-masked s bs os walk u zero x h k = reads-one s (part-sound s bs) os walk u x k ∙ sym (masked-one (part s os 1 (x .key)))
 reads-masked s bs os walk u (suc j) x h k =
-    keys-masked (suc (suc j)) (λ e. omega arith) (part-sound s bs (suc (suc j)) (x .key)) (part s os (suc (suc j)) (x .key)) (weigh-read s bs (suc (suc j)) (x .key)) (reads-keys s (part-sound s bs) os walk u (suc j) x h k)
+    keys-masked s (suc (suc j)) (λ e. omega arith) (part-sound s bs (suc (suc j)) (x .key)) (part s os (suc (suc j)) (x .key)) (weigh-read s bs (suc (suc j)) (x .key)) (reads-keys s (part-sound s bs) os walk u (suc j) x h k)
 
 -- ---- WHAT HEADS a partition that is not empty
 

@@ -12,6 +12,7 @@ use native.Mathlib.Nat.{sub-zero, mod-eq-of-lt}
 use native.Mathlib.Numerals.{add-one}
 use lib.ListN.{length, getD, replicate, length-replicate, getD-replicate, List·getD-append}
 use lib.Seq.{sets, length-sets, sets-eq}
+use Rattle.sizes.specs.Sizes.{row}
 use Rattle.sizes.specs.Header.{block-long}
 use Rattle.sizes.specs.declared.Sizes.{Sizes}
 use Rattle.sizes.proofs.Laws.Parts.{getD-sets-after}
@@ -20,13 +21,13 @@ use Rattle.table.specs.declared.Tally.{Tally}
 use Rattle.table.specs.Check.{longest, Mask, zeros-from, used-of, more-of, unused, block-clean, sweep-from, swept, ended}
 
 -- small ones
-pub used-none : (l n : ℕ) → l ≡ 0 → 0 ≡ used-of l n
+pub used-none : (k l n : ℕ) → l ≡ 0 → 0 ≡ used-of k l n
 unfolding used-of
-used-none l n e = rw (eq-eqb _ _ e)
+used-none k l n e = rw (eq-eqb _ _ e)
 
-pub used-some : (l n : ℕ) → (l ≡ 0 → ⊥) → 8 + 12 * n ≡ used-of l n
+pub used-some : (k l n r : ℕ) → (l ≡ 0 → ⊥) → r ≡ k * n → 8 + r ≡ used-of k l n
 unfolding used-of
-used-some l n e = rw (ne-eqb _ _ e)
+used-some k l n r e er = rw (ne-eqb _ _ e, er)
 
 pub more-none : (m l : ℕ) → l ≡ 0 → m ≡ more-of m l
 unfolding more-of
@@ -131,38 +132,38 @@ module _ (bs : List ℕ) (at w u : ℕ) where
         let e : w - (j + (u - j)) ≡ 0 = omega arith in
         sym (z .rest ∙ rw (e, and-true))
 
--- THE PASS: a block, as it is read
-pub record Blocked (w : ℕ) (bs : List ℕ) (i at level u : ℕ) : Type 0 where
+-- THE PASS: a block of w bytes, with k for a node, as it is read
+pub record Blocked (k w : ℕ) (bs : List ℕ) (i at level u : ℕ) : Type 0 where
   pub level-is : level ≡ getD bs (53 + i * w) 0
-  pub clean-is : block-clean w bs i ≡ zeros-from bs (w - u) (at + u)
+  pub clean-is : block-clean k w bs i ≡ zeros-from bs (w - u) (at + u)
 
-pub blocked-made : (s : Sizes) (w : ℕ) (bs : List ℕ) (i at l n u : ℕ) → w ≡ block-long s → at ≡ 53 + i * block-long s → l ≡ getD bs at 0 → n ≡ getD bs (at + 1) 0 → u ≡ used-of l n
-    → Blocked w bs i at l u
+pub blocked-made : (s : Sizes) (k w : ℕ) (bs : List ℕ) (i at l n u : ℕ) → w ≡ block-long s → at ≡ 53 + i * block-long s → l ≡ getD bs at 0 → n ≡ getD bs (at + 1) 0 → u ≡ used-of k l n
+    → Blocked k w bs i at l u
 unfolding block-clean unused
-blocked-made s w bs i at l n u ew ea el en eu =
+blocked-made s k w bs i at l n u ew ea el en eu =
     let h : at ≡ 53 + i * w = ea ∙ rw ew in
     record { level-is = el ∙ rw h; clean-is = rw (← h, ← el, ← en, ← eu) }
 
 -- .. and the loop over the blocks
-pub record Sweeping (s : Sizes) (w m : ℕ) (bs : List ℕ) (i full : ℕ) : Type 0 where
+pub record Sweeping (s : Sizes) (k w m : ℕ) (bs : List ℕ) (i full : ℕ) : Type 0 where
   pub within : i ≤ m
   pub few : full ≤ i
-  pub rest : swept s bs ≡ sweep-from w bs (m - i) i full
+  pub rest : swept s bs ≡ sweep-from k w bs (m - i) i full
 
-module _ (s : Sizes) (w m : ℕ) (bs : List ℕ) where
-  pub sweeping-start : w ≡ block-long s → m ≡ s .blocks → Sweeping s w m bs 0 0
+module _ (s : Sizes) (k w m : ℕ) (bs : List ℕ) where
+  pub sweeping-start : k ≡ row s → w ≡ block-long s → m ≡ s .blocks → Sweeping s k w m bs 0 0
   unfolding swept
-  sweeping-start e f = record { within = omega arith; few = omega arith; rest = rw (sub-zero, e, f) }
+  sweeping-start ek e f = record { within = omega arith; few = omega arith; rest = rw (sub-zero, ek, e, f) }
 
-  module _ (i full : ℕ) (h : Sweeping s w m bs i full) where
+  module _ (i full : ℕ) (h : Sweeping s k w m bs i full) where
     pub sweeping-end : (t : Bool) → t ≡ true → m ≤ i → _≡_ {A = Tally} (record { clean = t; full = full }) (swept s bs)
     unfolding sweep-from
     sweeping-end t q le =
         let e : m - i ≡ 0 = omega arith in
         sym (h .rest ∙ rw (e, q))
 
-    module _ (lt : i < m) (at l u : ℕ) (b : Blocked w bs i at l u) (t : Bool) (et : t ≡ zeros-from bs (w - u) (at + u)) where
-      sweeping-turn : swept s bs ≡ cond t (sweep-from w bs (m - (i + 1)) (i + 1) (more-of full l)) (record { clean = false; full = full })
+    module _ (lt : i < m) (at l u : ℕ) (b : Blocked k w bs i at l u) (t : Bool) (et : t ≡ zeros-from bs (w - u) (at + u)) where
+      sweeping-turn : swept s bs ≡ cond t (sweep-from k w bs (m - (i + 1)) (i + 1) (more-of full l)) (record { clean = false; full = full })
       unfolding sweep-from
       sweeping-turn =
           let e : m - i ≡ suc (m - (i + 1)) = omega arith in
@@ -171,5 +172,5 @@ module _ (s : Sizes) (w m : ℕ) (bs : List ℕ) where
       pub sweeping-stop : t ≡ false → _≡_ {A = Tally} (record { clean = false; full = full }) (swept s bs)
       sweeping-stop q = sym (sweeping-turn ∙ rw q)
 
-      pub sweeping-more : t ≡ true → (n : ℕ) → n ≡ more-of full l → n ≤ full + 1 → Sweeping s w m bs (i + 1) n
+      pub sweeping-more : t ≡ true → (n : ℕ) → n ≡ more-of full l → n ≤ full + 1 → Sweeping s k w m bs (i + 1) n
       sweeping-more q n e f = record { within = omega arith; few = omega (arith, h .few); rest = sweeping-turn ∙ rw (q, e) }

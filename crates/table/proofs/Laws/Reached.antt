@@ -12,7 +12,7 @@ use Rattle.sizes.specs.Header.{table-long, sizes-in}
 use Rattle.sizes.specs.declared.Sizes.{Sizes}
 use Rattle.placement.specs.declared.Order.{Order}
 use Rattle.sizes.proofs.Laws.Sizes.{and-parts, limits}
-use Rattle.skiplist.specs.Image.{image, orders-in, quantities-good, orders-good, is-image}
+use Rattle.skiplist.specs.Image.{image, orders-in, price-good, quantities-good, orders-good, is-image}
 use Rattle.skiplist.specs.Questions.{first-no, asks-image}
 use Rattle.skiplist.specs.Book.{asks, book, refusal}
 use Rattle.skiplist.proofs.Laws.Questions.{passes}
@@ -24,18 +24,20 @@ use Rattle.table.proofs.Laws.Makes.{is-word, make-reaches, make-writes}
 use Rattle.table.proofs.Laws.Runs.{run-holds}
 use Rattle.table.proofs.Laws.Fixed.{runs-exist}
 
-enters-in-range : (a : ℕ) (os : List Order) → orders-good a os ≡ true → all-in-range (enters os) ≡ true
+enters-in-range : (s : Sizes) (a : ℕ) (os : List Order) → orders-good s a os ≡ true → all-in-range (enters os) ≡ true
 unfolding all-in-range in-range enters quantities-good
-enters-in-range a [] e = refl
-enters-in-range a (o ∷ os) e =
-    let w = good-parts a o os e in
-    let q = and-parts (leb 1 (o .total) && leb (o .total) 4294967295) (leb (o .displayed) (o .total)) (w .quantity) in
+enters-in-range s a [] e = refl
+enters-in-range s a (o ∷ os) e =
+    let w = good-parts s a o os e in
+    let v = and-parts ((leb 1 (o .total) && leb (o .total) 4294967295) && leb (o .displayed) (o .total)) (price-good s (o .price) && leb (o .price) 4294967295) (w .quantity) in
+    let q = and-parts (leb 1 (o .total) && leb (o .total) 4294967295) (leb (o .displayed) (o .total)) (v .0) in
     let t : o .total ≤ 4294967295 = leb-true (o .total) 4294967295 (and-parts (leb 1 (o .total)) (leb (o .total) 4294967295) (q .0) .1) in
     rw (
       is-word (o .key) (omega (arith, ltb-true (o .key) prime (w .key))),
       is-word (o .total) (omega arith),
       is-word (o .displayed) (omega (arith, leb-true (o .displayed) (o .total) (q .1))),
-    ) (enters-in-range (suc (o .key)) os (w .others))
+      is-word (o .price) (omega (arith, leb-true (o .price) 4294967295 (and-parts (price-good s (o .price)) (leb (o .price) 4294967295) (v .1) .1))),
+    ) (enters-in-range s (suc (o .key)) os (w .others))
 
 given : (bs : List ℕ) → is-image bs ≡ true → Given bs
 unfolding Make-reaches Made-by Runs-exist
@@ -56,7 +58,7 @@ given bs e =
       makes = by;
       runs = subst (Runs (enters os) (image s [])) (h .bytes ∙ ap (λ (t : Sizes). image t (book t (enters os) [])) (v .2) ∙ ap (image s) o ∙ w .bytes) (r .1);
       make-in-range = v .1;
-      calls-in-range = enters-in-range 1 os (w .orders-kept .good);
+      calls-in-range = enters-in-range s 1 os (w .orders-kept .good);
     }
 
 pub demand-3-check : Demand-3-check

@@ -11,6 +11,7 @@ use borrow.Author.Tests.{eq-eqb, ne-eqb, le-leb, leb-true, ltb-false, eqb-true, 
 use lib.Dec.{ltb, leb, eqb}
 use lib.ListN.{length, take, drop, length-append}
 use lib.Seq.{take-all, take-at, drop-append-add}
+use Rattle.sizes.specs.Sizes.{row}
 use Rattle.sizes.specs.Hash.{level}
 use Rattle.sizes.specs.Header.{block-long}
 use Rattle.placement.specs.Place.{found-at}
@@ -22,9 +23,9 @@ use Rattle.placement.proofs.Laws.Decoding.{nodes-count}
 use Rattle.skiplist.proofs.Laws.Count.{pieces, pieces-less}
 use Rattle.skiplist.proofs.Laws.Opens.{Exact, Nodes, Walks}
 use Rattle.table.specs.declared.Seen.{Seen}
-use Rattle.table.specs.Walk.{wrong-seen, quantities-ok, belongs-in, counts, counted, enters-ok, entered-seen, ended-seen, stops-at, fits-in, node-good, spot, chunk-spot, count-in, chunk-by, chunks-by, opens-of}
+use Rattle.table.specs.Walk.{wrong-seen, quantities-ok, price-ok, belongs-in, counts, counted, enters-ok, entered-seen, ended-seen, stops-at, fits-in, node-good, spot, chunk-spot, count-in, chunk-by, chunks-by, opens-of}
 use Rattle.table.proofs.Laws.Steps.{enters-parts, counts-parts}
-use Rattle.table.proofs.Laws.Came.{Weighs, Step, step-none, step-both, wrong-not, nodes-on, chunk-read, chunk-are}
+use Rattle.table.proofs.Laws.Came.{weighs, Weighs, Step, step-none, step-both, wrong-not, nodes-on, chunk-read, chunk-are}
 use Rattle.table.proofs.Laws.Counted.{under, under-both, tally}
 
 -- ---- WHAT IS READ
@@ -37,16 +38,16 @@ part-from s bs l f (suc j) i =
     (chunk-read s bs (spot (chunk-spot s bs l f i))
     ++ cond (ltb (count-in (block-long s) bs (spot (chunk-spot s bs l f i))) (s .nodes)) [] (part-from s bs l f j (suc i))) []
 
-unfoldable pub weigh-all : (l : ℕ) → List Order → Bool
-weigh-all l [] = true
-weigh-all l (o ∷ ns) = quantities-ok l o && weigh-all l ns
+unfoldable pub weigh-all : Sizes → (l : ℕ) → List Order → Bool
+weigh-all s l [] = true
+weigh-all s l (o ∷ ns) = weighs s l o && weigh-all s l ns
 
--- every chunk that is met has 1 to B nodes, and the quantities of its level
+-- every chunk that is met has 1 to B nodes, and the price and quantities of its level
 unfoldable pub sound-from : Sizes → List ℕ → (l f fuel i : ℕ) → Bool
 sound-from s bs l f zero i = true
 sound-from s bs l f (suc j) i =
     cond (found-at (chunk-spot s bs l f i))
-    (((leb 1 (count-in (block-long s) bs (spot (chunk-spot s bs l f i))) && leb (count-in (block-long s) bs (spot (chunk-spot s bs l f i))) (s .nodes)) && weigh-all l (chunk-read s bs (spot (chunk-spot s bs l f i))))
+    (((leb 1 (count-in (block-long s) bs (spot (chunk-spot s bs l f i))) && leb (count-in (block-long s) bs (spot (chunk-spot s bs l f i))) (s .nodes)) && weigh-all s l (chunk-read s bs (spot (chunk-spot s bs l f i))))
     && cond (ltb (count-in (block-long s) bs (spot (chunk-spot s bs l f i))) (s .nodes)) true (sound-from s bs l f j (suc i))) true
 
 -- a partition as it was read, where it is sound
@@ -55,7 +56,7 @@ part-sound s bs l f = cond (sound-from s bs l f (s .blocks) 0) (part-from s bs l
 
 pub read-count : (s : Sizes) (bs : List ℕ) (b : ℕ) → length (chunk-read s bs b) ≡ count-in (block-long s) bs b
 unfolding chunk-read
-read-count s bs b = nodes-count (count-in (block-long s) bs b) (drop (53 + b * block-long s + 8) bs)
+read-count s bs b = nodes-count (row s) (count-in (block-long s) bs b) (drop (53 + b * block-long s + 8) bs)
 
 -- how many chunks: one more before a full one, and one for the last
 pub pieces-full : (b n : ℕ) → 0 < b → pieces b (b + n) ≡ suc (pieces b n)
@@ -74,9 +75,9 @@ pieces-last b (suc n) h g =
 
 -- ---- A WALK THAT ENDS RIGHT
 
-abbrev pub Weighed : (l : ℕ) → Order → Type 0
-Weighed zero o = Weighs o
-Weighed (suc l) o = Unit {0}
+abbrev pub Weighed : Sizes → (l : ℕ) → Order → Type 0
+Weighed s zero o = Weighs s o
+Weighed s (suc l) o = Unit {0}
 
 -- the first node of a partition has its key, every other the level
 abbrev pub Fitting : Sizes → (l f : ℕ) → (opens : Bool) → List Order → Type 0
@@ -93,10 +94,10 @@ nodes-both s T W [] zs a b u v = subst (λ (r : List Order). Nodes s T W zs (r +
 nodes-both s T W (x ∷ xs) zs a b u v =
     (u .0, u .1 ++ b, ap (λ (r : List Order). r ++ b) (u .2) ∙ append-assoc (u .0) (u .1) b, u .3, nodes-both s T W xs zs (u .1) b (u .4) v)
 
--- totals of four bytes
+-- totals and prices of four bytes
 abbrev pub Small : List Order → Type 0
 Small [] = Unit {0}
-Small (o ∷ ns) = (o .total < 4294967296) × Small ns
+Small (o ∷ ns) = (o .total < 4294967296) × (o .price < 4294967296) × Small ns
 
 module _ (s : Sizes) (bs : List ℕ) (small : (b : ℕ) → Small (chunk-read s bs b)) where
   abbrev T : (l f : ℕ) → List Order
@@ -105,17 +106,17 @@ module _ (s : Sizes) (bs : List ℕ) (small : (b : ℕ) → Small (chunk-read s 
   pub record Opened (l : ℕ) (o : Order) (x z : Seen) : Type 0 where
     pub seg : List Order
     pub walk : Walks s T l o seg
-    pub step : Step x seg (tally s T l (o .key)) z
+    pub step : Step s x seg (tally s T l (o .key)) z
 
   pub record Listed (l : ℕ) (opens : Bool) (f : ℕ) (ns : List Order) (x z : Seen) : Type 0 where
     pub seg : List Order
     pub nodes : Nodes s T (Walks s T l) ns seg
     pub fitting : Fitting s (suc l) f opens ns
-    pub weights : weigh-all (suc l) ns ≡ true
-    pub step : Step x seg (under (tally s T l) ns) z
+    pub weights : weigh-all s (suc l) ns ≡ true
+    pub step : Step s x seg (under (tally s T l) ns) z
 
   -- at level 0
-  opened-zero : (o : Order) (x : Seen) → Weighs o → counted (o .key) x .ok ≡ true → Opened zero o x (counted (o .key) x)
+  opened-zero : (o : Order) (x : Seen) → Weighs s o → counted (o .key) x .ok ≡ true → Opened zero o x (counted (o .key) x)
   unfolding counted tally
   opened-zero o x q e = go (counts (o .key) x) refl e
     where
@@ -132,13 +133,21 @@ module _ (s : Sizes) (bs : List ℕ) (small : (b : ℕ) → Small (chunk-read s 
           }
       go false c h = absurd (wrong-not h)
 
-  module _ (l : ℕ) (ih : (o : Order) (x : Seen) → Weighed l o → opens-of s bs l (o .key) x .ok ≡ true → Opened l o x (opens-of s bs l (o .key) x)) (f : ℕ) where
-    weighed-of : (o : Order) → o .total < 4294967296 → quantities-ok (suc l) o ≡ true → Weighed l o
-    weighed-of o h e = go l e
+  module _ (l : ℕ) (ih : (o : Order) (x : Seen) → Weighed s l o → opens-of s bs l (o .key) x .ok ≡ true → Opened l o x (opens-of s bs l (o .key) x)) (f : ℕ) where
+    weighed-of : (o : Order) → o .total < 4294967296 → o .price < 4294967296 → weighs s (suc l) o ≡ true → Weighed s l o
+    weighed-of o h g e = go l e
       where
-        go : (l : ℕ) → quantities-ok (suc l) o ≡ true → Weighed l o
-        go zero e = (e, h)
+        go : (l : ℕ) → weighs s (suc l) o ≡ true → Weighed s l o
+        go zero e = (e, h, g)
         go (suc l) e = tt
+
+    -- a node is good: its key, its price and its quantities
+    good-parts : (o : Bool) (n : Order) (x : Seen) → node-good s (suc l) f o n x ≡ true → (belongs-in s (suc l) f o (n .key) ≡ true) × (weighs s (suc l) n ≡ true)
+    unfolding node-good fits-in weighs
+    good-parts o n x e =
+        let p = and-parts (price-ok s (suc l) n) (fits-in s (suc l) f o n) (and-parts (x .ok) (price-ok s (suc l) n && fits-in s (suc l) f o n) e .1) in
+        let q = and-parts (belongs-in s (suc l) f o (n .key)) (quantities-ok (suc l) n) (p .1) in
+        (q .0, rw (p .0, q .1))
 
     -- a node that belongs
     fitting-more : (o : Bool) (n : Order) (ns : List Order) → belongs-in s (suc l) f o (n .key) ≡ true → Exact s (suc l) ns → Fitting s (suc l) f o (n ∷ ns)
@@ -153,9 +162,9 @@ module _ (s : Sizes) (bs : List ℕ) (small : (b : ℕ) → Small (chunk-read s 
     -- THE NODES of a chunk
     listed : (ns : List Order) (o : Bool) (x : Seen) → Small ns → nodes-on (opens-of s bs l) s (suc l) f o ns x .ok ≡ true
         → Listed l o f ns x (nodes-on (opens-of s bs l) s (suc l) f o ns x)
-    unfolding nodes-on node-good fits-in under weigh-all
+    unfolding nodes-on under weigh-all
     listed [] o x m e = record { seg = []; nodes = refl; fitting = fitting-none o; weights = refl; step = step-none x e }
-    listed (n ∷ ns) o x m e = go (λ y h. listed ns false y (m .1) h) (x .ok && (belongs-in s (suc l) f o (n .key) && quantities-ok (suc l) n)) refl e
+    listed (n ∷ ns) o x m e = go (λ y h. listed ns false y (m .2) h) (node-good s (suc l) f o n x) refl e
       where
         y : Seen
         y = opens-of s bs l (n .key) x
@@ -164,12 +173,11 @@ module _ (s : Sizes) (bs : List ℕ) (small : (b : ℕ) → Small (chunk-read s 
         z = nodes-on (opens-of s bs l) s (suc l) f false ns y
 
         go : ((y : Seen) → nodes-on (opens-of s bs l) s (suc l) f false ns y .ok ≡ true → Listed l false f ns y (nodes-on (opens-of s bs l) s (suc l) f false ns y)) →
-            (t : Bool) → (x .ok && (belongs-in s (suc l) f o (n .key) && quantities-ok (suc l) n)) ≡ t → cond t z wrong-seen .ok ≡ true → Listed l o f (n ∷ ns) x (cond t z wrong-seen)
+            (t : Bool) → node-good s (suc l) f o n x ≡ t → cond t z wrong-seen .ok ≡ true → Listed l o f (n ∷ ns) x (cond t z wrong-seen)
         go next true c h =
-            let p = and-parts (x .ok) (belongs-in s (suc l) f o (n .key) && quantities-ok (suc l) n) c in
-            let q = and-parts (belongs-in s (suc l) f o (n .key)) (quantities-ok (suc l) n) (p .1) in
+            let q = good-parts o n x c in
             let r = next y h in
-            let w = ih n x (weighed-of n (m .0) (q .1)) (r .step .ok) in
+            let w = ih n x (weighed-of n (m .0) (m .1) (q .1)) (r .step .ok) in
             record {
               seg = w .seg ++ r .seg;
               nodes = (w .seg, r .seg, refl, w .walk, r .nodes);
@@ -186,8 +194,8 @@ module _ (s : Sizes) (bs : List ℕ) (small : (b : ℕ) → Small (chunk-read s 
       pub fitting : Fitting s (suc l) f (eqb i 0) ns
       pub some : 0 < length ns
       pub most : length ns ≤ s .nodes
-      pub weights : weigh-all (suc l) ns ≡ true
-      pub step : Step x seg (suc (under (tally s T l) ns)) z
+      pub weights : weigh-all s (suc l) ns ≡ true
+      pub step : Step s x seg (suc (under (tally s T l) ns)) z
 
     chunked : (i b : ℕ) (x : Seen) → chunk-by (opens-of s bs l) s bs (suc l) f i b x .ok ≡ true
         → Chunked i (chunk-read s bs b) x (chunk-by (opens-of s bs l) s bs (suc l) f i b x)
@@ -225,7 +233,7 @@ module _ (s : Sizes) (bs : List ℕ) (small : (b : ℕ) → Small (chunk-read s 
       pub fitting : Fitting s (suc l) f (eqb i 0) ns
       pub some : i ≡ 0 → 0 < length ns
       pub sound : v ≡ true
-      pub step : Step x seg (pieces (s .nodes) (length ns) + under (tally s T l) ns) z
+      pub step : Step s x seg (pieces (s .nodes) (length ns) + under (tally s T l) ns) z
 
     fitting-both : (o : Bool) (xs zs : List Order) → 0 < length xs → Fitting s (suc l) f o xs → Exact s (suc l) zs → Fitting s (suc l) f o (xs ++ zs)
     fitting-both true [] zs h u v = absurd (omega arith)
@@ -238,8 +246,8 @@ module _ (s : Sizes) (bs : List ℕ) (small : (b : ℕ) → Small (chunk-read s 
 
     -- one chunk, and those behind it
     joined : (i n : ℕ) (cs ns seg : List Order) (v : Bool) (x y z : Seen) → length cs ≡ n → Chunked i cs x y → pieces (s .nodes) (length (cs ++ ns)) ≡ suc (pieces (s .nodes) (length ns)) → v ≡ true →
-        Nodes s T (Walks s T l) ns seg → Exact s (suc l) ns → Step y seg (pieces (s .nodes) (length ns) + under (tally s T l) ns) z →
-        Parted i (cs ++ ns) (((leb 1 n && leb n (s .nodes)) && weigh-all (suc l) cs) && v) x z
+        Nodes s T (Walks s T l) ns seg → Exact s (suc l) ns → Step s y seg (pieces (s .nodes) (length ns) + under (tally s T l) ns) z →
+        Parted i (cs ++ ns) (((leb 1 n && leb n (s .nodes)) && weigh-all s (suc l) cs) && v) x z
     joined i n cs ns seg v x y z k w more ev b c r =
         let t = step-both x y z (w .seg) seg (suc (under (tally s T l) cs)) (pieces (s .nodes) (length ns) + under (tally s T l) ns) (w .step) r in
         record {
@@ -280,7 +288,7 @@ module _ (s : Sizes) (bs : List ℕ) (small : (b : ℕ) → Small (chunk-read s 
 
         more : ((y : Seen) → chunks-by (opens-of s bs l) s bs (suc l) f j (suc i) y .ok ≡ true → Parted (suc i) ns v y (chunks-by (opens-of s bs l) s bs (suc l) f j (suc i) y)) →
             (u : Bool) → y .ok ≡ u → (t : Bool) → ltb n (s .nodes) ≡ t → cond (cond u t true) y z .ok ≡ true →
-            Parted i (cs ++ cond t [] ns) (((leb 1 n && leb n (s .nodes)) && weigh-all (suc l) cs) && cond t true v) x (cond (cond u t true) y z)
+            Parted i (cs ++ cond t [] ns) (((leb 1 n && leb n (s .nodes)) && weigh-all s (suc l) cs) && cond t true v) x (cond (cond u t true) y z)
         more next false a t e′ q = absurd (false≢true (sym a ∙ q))
         more next true a true e′ q =
             let w = chunked i (spot r) x a in
@@ -295,7 +303,7 @@ module _ (s : Sizes) (bs : List ℕ) (small : (b : ℕ) → Small (chunk-read s 
 
         go : ((y : Seen) → chunks-by (opens-of s bs l) s bs (suc l) f j (suc i) y .ok ≡ true → Parted (suc i) ns v y (chunks-by (opens-of s bs l) s bs (suc l) f j (suc i) y)) →
             (t : Bool) → cond t (cond (stops-at (s .nodes) n y) y z) (cond (eqb i 0) wrong-seen x) .ok ≡ true →
-            Parted i (cond t (cs ++ cond (ltb n (s .nodes)) [] ns) []) (cond t (((leb 1 n && leb n (s .nodes)) && weigh-all (suc l) cs) && cond (ltb n (s .nodes)) true v) true) x (cond t (cond (stops-at (s .nodes) n y) y z) (cond (eqb i 0) wrong-seen x))
+            Parted i (cond t (cs ++ cond (ltb n (s .nodes)) [] ns) []) (cond t (((leb 1 n && leb n (s .nodes)) && weigh-all s (suc l) cs) && cond (ltb n (s .nodes)) true v) true) x (cond t (cond (stops-at (s .nodes) n y) y z) (cond (eqb i 0) wrong-seen x))
         go next true q = more next (y .ok) refl (ltb n (s .nodes)) refl q
         go next false q = last (eqb i 0) refl q
           where
@@ -308,7 +316,7 @@ module _ (s : Sizes) (bs : List ℕ) (small : (b : ℕ) → Small (chunk-read s 
   head-of [] h = absurd (omega arith)
   head-of (o ∷ ns) h = (o, ns, refl)
 
-  pub opened : 0 < s .nodes → 0 < s .blocks → (l : ℕ) (o : Order) (x : Seen) → Weighed l o → opens-of s bs l (o .key) x .ok ≡ true → Opened l o x (opens-of s bs l (o .key) x)
+  pub opened : 0 < s .nodes → 0 < s .blocks → (l : ℕ) (o : Order) (x : Seen) → Weighed s l o → opens-of s bs l (o .key) x .ok ≡ true → Opened l o x (opens-of s bs l (o .key) x)
   unfolding opens-of tally part-sound
   opened b pos zero o x q e = opened-zero o x q e
   opened b pos (suc l) o x q e = go (opened b pos l)
@@ -322,7 +330,7 @@ module _ (s : Sizes) (bs : List ℕ) (small : (b : ℕ) → Small (chunk-read s 
       z : Seen
       z = chunks-by (opens-of s bs l) s bs (suc l) f (s .blocks) 0 x
 
-      go : ((o : Order) (x : Seen) → Weighed l o → opens-of s bs l (o .key) x .ok ≡ true → Opened l o x (opens-of s bs l (o .key) x)) → Opened (suc l) o x z
+      go : ((o : Order) (x : Seen) → Weighed s l o → opens-of s bs l (o .key) x .ok ≡ true → Opened l o x (opens-of s bs l (o .key) x)) → Opened (suc l) o x z
       go ih =
           let p = parted l ih f (s .blocks) 0 x b (omega arith) e in
           let st : T (suc l) f ≡ all = rw (p .sound) in
@@ -331,7 +339,7 @@ module _ (s : Sizes) (bs : List ℕ) (small : (b : ℕ) → Small (chunk-read s 
           record {
             seg = p .seg;
             walk = (w .0, w .1, st ∙ w .2, u .0, u .1, subst (λ (r : List Order). Nodes s T (Walks s T l) r (p .seg)) (w .2) (p .nodes));
-            step = subst (λ (r : List Order). Step x (p .seg) (pieces (s .nodes) (length r) + under (tally s T l) r) z) (sym st) (p .step);
+            step = subst (λ (r : List Order). Step s x (p .seg) (pieces (s .nodes) (length r) + under (tally s T l) r) z) (sym st) (p .step);
           }
 
 -- ---- EVERY CHUNK OF A PARTITION that was read is found by its number
@@ -348,7 +356,7 @@ module _ (s : Sizes) (bs : List ℕ) (l f : ℕ) where
   record Met (i : ℕ) : Type 0 where
     pub found : found-at (chunk-spot s bs l f i) ≡ true
     pub most : length (met i) ≤ s .nodes
-    pub weights : weigh-all l (met i) ≡ true
+    pub weights : weigh-all s l (met i) ≡ true
 
   -- what holds of no chunk, and of a chunk with what comes behind it, which is nothing unless it is full, holds of what was read
   each-met : (P : (i : ℕ) → List Order → Type 0) → ((i : ℕ) → P i []) → ((i : ℕ) (ys : List Order) → Met i → (length (met i) < s .nodes → ys ≡ []) → P (suc i) ys → P i (met i ++ ys))
@@ -368,11 +376,11 @@ module _ (s : Sizes) (bs : List ℕ) (l f : ℕ) where
       behind rest m false ev e = more i ys m (λ h. absurd (omega (arith, h, read-count s bs (spot (chunk-spot s bs l f i)), ltb-false c (s .nodes) ev))) (rest e)
 
       go : (sound-from s bs l f j (suc i) ≡ true → P (suc i) ys) → (t : Bool) → found-at (chunk-spot s bs l f i) ≡ t →
-          cond t (((leb 1 c && leb c (s .nodes)) && weigh-all l (met i)) && cond (ltb c (s .nodes)) true (sound-from s bs l f j (suc i))) true ≡ true →
+          cond t (((leb 1 c && leb c (s .nodes)) && weigh-all s l (met i)) && cond (ltb c (s .nodes)) true (sound-from s bs l f j (suc i))) true ≡ true →
           P i (cond t (met i ++ cond (ltb c (s .nodes)) [] ys) [])
       go rest true ef e =
-          let a = and-parts ((leb 1 c && leb c (s .nodes)) && weigh-all l (met i)) (cond (ltb c (s .nodes)) true (sound-from s bs l f j (suc i))) e in
-          let b = and-parts (leb 1 c && leb c (s .nodes)) (weigh-all l (met i)) (a .0) in
+          let a = and-parts ((leb 1 c && leb c (s .nodes)) && weigh-all s l (met i)) (cond (ltb c (s .nodes)) true (sound-from s bs l f j (suc i))) e in
+          let b = and-parts (leb 1 c && leb c (s .nodes)) (weigh-all s l (met i)) (a .0) in
           let most = leb-true c (s .nodes) (and-parts (leb 1 c) (leb c (s .nodes)) (b .0) .1) in
           behind rest (record { found = ef; most = omega (arith, most, read-count s bs (spot (chunk-spot s bs l f i))); weights = b .1 }) (ltb c (s .nodes)) refl (a .1)
       go rest false ef e = none i
@@ -410,22 +418,22 @@ module _ (s : Sizes) (bs : List ℕ) (l f : ℕ) where
           subst (λ (k : ℕ). Found-piece s bs l f k (take (s .nodes) (drop (n * s .nodes) all))) z (piece-from (s .blocks) 0 e n h)
       go false e h = absurd (omega arith)
 
-  -- and it has the quantities of its level
-  weigh-both : (xs zs : List Order) → weigh-all l xs ≡ true → weigh-all l zs ≡ true → weigh-all l (xs ++ zs) ≡ true
+  -- and it has the price and quantities of its level
+  weigh-both : (xs zs : List Order) → weigh-all s l xs ≡ true → weigh-all s l zs ≡ true → weigh-all s l (xs ++ zs) ≡ true
   unfolding weigh-all
   weigh-both [] zs a b = b
   weigh-both (x ∷ xs) zs a b =
-      let p = and-parts (quantities-ok l x) (weigh-all l xs) a in
+      let p = and-parts (weighs s l x) (weigh-all s l xs) a in
       rw (p .0) (weigh-both xs zs (p .1) b)
 
-  weigh-from : (j i : ℕ) → sound-from s bs l f j i ≡ true → weigh-all l (part-from s bs l f j i) ≡ true
+  weigh-from : (j i : ℕ) → sound-from s bs l f j i ≡ true → weigh-all s l (part-from s bs l f j i) ≡ true
   unfolding weigh-all
-  weigh-from = each-met (λ i ns. weigh-all l ns ≡ true) (λ i. refl) (λ i ys m last rest. weigh-both (met i) ys (m .weights) rest)
+  weigh-from = each-met (λ i ns. weigh-all s l ns ≡ true) (λ i. refl) (λ i ys m last rest. weigh-both (met i) ys (m .weights) rest)
 
-  pub weigh-read : weigh-all l (part-sound s bs l f) ≡ true
+  pub weigh-read : weigh-all s l (part-sound s bs l f) ≡ true
   unfolding part-sound weigh-all
   weigh-read = go (sound-from s bs l f (s .blocks) 0) refl
     where
-      go : (t : Bool) → sound-from s bs l f (s .blocks) 0 ≡ t → weigh-all l (cond t (part-from s bs l f (s .blocks) 0) []) ≡ true
+      go : (t : Bool) → sound-from s bs l f (s .blocks) 0 ≡ t → weigh-all s l (cond t (part-from s bs l f (s .blocks) 0) []) ≡ true
       go true e = weigh-from (s .blocks) 0 e
       go false e = refl

@@ -24,8 +24,8 @@ use Rattle.table.proofs.Laws.Makes.{make-only}
 -- a call does to the table what the definitions say
 pub does-done : (c : Call) (x z : List ℕ) → Does c x z → z ≡ done c x
 unfolding Does Enter-says Amend-says Cancel-says Edit-says changed
-does-done (enter k t d) x z h = h .1 .1
-does-done (amend k t d) x z h = h .1 .1
+does-done (enter k t d p) x z h = h .1 .1
+does-done (amend k t d p) x z h = h .1 .1
 does-done (cancel k) x z h = h .1 .1
 does-done (lookup k) x z h = h .2 ∙ sym (done-same (lookup k) x refl)
 does-done (descent k o) x z h = h .3 ∙ sym (done-same (descent k o) x refl)

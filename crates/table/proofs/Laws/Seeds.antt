@@ -23,8 +23,8 @@ module _ (bs : List ℕ) where
         let f : field (4 * i) 4 bs ≡ field (13 + 4 * i) 4 (past-13 bs) = field-drop (4 * i) 4 13 (past-13 bs) in
         seeded-more (past-13 bs) seed i s v h (e ∙ f)
 
-    pub given-end : (c b n m : ℕ) → 10 ≤ i → _≡_ {A = Sizes} (record { gamma = c; nodes = b; orders = n; blocks = m; seed = seed }) (sizes (parameters c b n m bs))
+    pub given-end : (v c b n m : ℕ) → 10 ≤ i → _≡_ {A = Sizes} (record { version = v; gamma = c; nodes = b; orders = n; blocks = m; seed = seed }) (sizes (parameters v c b n m bs))
     unfolding sizes
-    given-end c b n m h =
+    given-end v c b n m h =
         let e : seed ≡ seed-in 10 bs = seeded-end (past-13 bs) seed i s h in
-        λ j. record { gamma = c; nodes = b; orders = n; blocks = m; seed = e j }
+        λ j. record { version = v; gamma = c; nodes = b; orders = n; blocks = m; seed = e j }

@@ -5,19 +5,21 @@ use mathlib.Core.Bool.{Bool, true, false, _&&_, cond, false≢true}
 use mathlib.Core.List.{List, [], _∷_}
 use Prim.Native.Nat.{ℕ, suc, _≤_}
 use native.Mathlib.Omega.{arith}
-use borrow.Author.Tests.{leb-true, le-leb, lt-leb}
-use lib.Dec.{leb}
+use borrow.Author.Tests.{eq-eqb, ne-eqb, eqb-true, leb-true, le-leb, lt-leb}
+use lib.Dec.{leb, eqb}
+use Rattle.sizes.specs.Header.{sizes-in}
+use Rattle.sizes.specs.declared.Sizes.{Sizes}
 use Rattle.sizes.proofs.Laws.Sizes.{and-parts}
 use Rattle.placement.specs.Blocks.{Among}
 use Rattle.placement.specs.declared.Order.{Order}
-use Rattle.skiplist.specs.Image.{orders-in}
+use Rattle.skiplist.specs.Image.{orders-in, price-good, quantities-good, orders-good}
 use Rattle.skiplist.specs.Questions.{first-no, is-key, between, reserve, enough, any-order, lowest, asks-range, asks-seek}
 use Rattle.skiplist.specs.Book.{seek, asks, book-refusal, refusal}
 use Rattle.skiplist.proofs.Laws.Questions.{passes}
-use Rattle.skiplist.proofs.Laws.Parts.{Up, good-up}
+use Rattle.skiplist.proofs.Laws.Parts.{Up, good-parts, good-up}
 use Rattle.skiplist.proofs.Laws.Third.{image-parts, taken}
 use Rattle.table.specs.Calls.{gives, Seek-says, Seek-as}
-use Rattle.table.specs.Promise.{Lowest, Seek-lowest, Seek-next}
+use Rattle.table.specs.Promise.{Lowest, Seek-lowest, Seek-next, Prices-are}
 use Rattle.table.proofs.Laws.Descents.{number-is}
 
 -- what passes both tests
@@ -93,7 +95,7 @@ next-of lo hi l a (x ∷ xs) u e = rw (fitting-more lo hi l x xs) (go (fit lo hi
 
 pub seek-next : Seek-next
 unfolding Seek-next
-seek-next os lo hi l g e = next-of lo hi l 1 os (good-up 1 os g) e
+seek-next s os lo hi l g e = next-of lo hi l 1 os (good-up s 1 os g) e
 
 -- A SEEK
 any-there : (x : List ℕ) (lo hi l : ℕ) → refusal (seek lo hi l) x ≡ 0 → any-order (enough l (between lo hi (orders-in x))) ≡ true
@@ -107,6 +109,22 @@ unfolding Seek-lowest Seek-says Seek-as gives
 seek-lowest x lo hi l r w n =
     let o = lowest (enough l (between lo hi (orders-in x))) in
     let e : refusal (seek lo hi l) x ≡ 0 = sym (number-is _ 0 o r w) ∙ n in
-    let u = good-up 1 (orders-in x) (image-parts x (taken (seek lo hi l) x e .0) .orders-kept .good) in
+    let u = good-up (sizes-in x) 1 (orders-in x) (image-parts x (taken (seek lo hi l) x e .0) .orders-kept .good) in
     let v : r ≡ gives 0 0 o = w ∙ ap (λ (i : ℕ). gives i 0 o) e in
     rw v (lowest-of lo hi l 1 (orders-in x) u (any-there x lo hi l e))
+
+-- THE PRICES of an image's orders
+price-as : (s : Sizes) (a : ℕ) (os : List Order) → orders-good s a os ≡ true → (o : Order) → Among o os → price-good s (o .price) ≡ true
+unfolding quantities-good
+price-as s a (x ∷ xs) g o (inl e) =
+    let w = and-parts ((leb 1 (x .total) && leb (x .total) 4294967295) && leb (x .displayed) (x .total)) (price-good s (x .price) && leb (x .price) 4294967295) (good-parts s a x xs g .quantity) in
+    rw e (and-parts (price-good s (x .price)) (leb (x .price) 4294967295) (w .1) .0)
+price-as s a (x ∷ xs) g o (inr b) = price-as s (suc (x .key)) xs (good-parts s a x xs g .others) o b
+
+pub prices-are : Prices-are
+unfolding Prices-are price-good
+prices-are x i o h =
+    let e = price-as (sizes-in x) 1 (orders-in x) (image-parts x i .orders-kept .good) o h in (
+      λ v. eqb-true (o .price) 0 (rw (eq-eqb (sizes-in x .version) 1 v) at e),
+      λ v. leb-true 1 (o .price) (rw (ne-eqb (sizes-in x .version) 1 v) at e),
+    )

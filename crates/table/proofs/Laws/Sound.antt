@@ -8,7 +8,7 @@ use native.Mathlib.Omega.{arith}
 use borrow.Author.Tests.{ne-eqb}
 use lib.ListN.{length, getD, take, drop, length-map, take-append-drop}
 use lib.Seq.{length-take-le}
-use Rattle.sizes.specs.Sizes.{made}
+use Rattle.sizes.specs.Sizes.{row, made}
 use Rattle.sizes.specs.Header.{block-long, table-long, header, sizes-in}
 use Rattle.placement.specs.Blocks.{Among, Block, empty, holds, Stands, how-many}
 use Rattle.placement.specs.Chunks.{Chunk, chunk-before}
@@ -82,7 +82,7 @@ module _ (bs : List ℕ) (u : Bytes bs) (a : Accepted bs) where
 
   blocks-many : length (blocks-in s bs) ≡ s .blocks
   unfolding blocks-in
-  blocks-many = length-map (cut (block-long s) (s .blocks) (drop 53 bs)) block-of ∙ cut-length (block-long s) (s .blocks) (drop 53 bs)
+  blocks-many = length-map (cut (block-long s) (s .blocks) (drop 53 bs)) (block-of (row s)) ∙ cut-length (block-long s) (s .blocks) (drop 53 bs)
 
   -- AS MANY full blocks as the orders have chunks
   count : how-many (blocks-in s bs) ≡ length (chunks s os)
@@ -129,7 +129,7 @@ module _ (bs : List ℕ) (u : Bytes bs) (a : Accepted bs) where
       counted chunk-before (s .blocks) some (λ c. labels-strict (c .label)) (chunks s os) (blocks-in s bs) blocks-many (chunks-rising s os (a .good)) stands count c
       (record { at = i; is = around-inside (s .blocks) (blocks-in s bs) i h ∙ e })
 
-  full-block : (i : ℕ) → i < s .blocks → 0 < getD (block-in (block-long s) bs i) 0 0 → getD (blocks-in s bs) i empty ≡ holds (chunk-of (block-in (block-long s) bs i))
+  full-block : (i : ℕ) → i < s .blocks → 0 < getD (block-in (block-long s) bs i) 0 0 → getD (blocks-in s bs) i empty ≡ holds (chunk-of (row s) (block-in (block-long s) bs i))
   unfolding block-of
   full-block i h p = block-at s bs i h ∙ rw (ne-eqb (getD (block-in (block-long s) bs i) 0 0) 0 (λ z. omega (arith, z)))
 
@@ -139,17 +139,17 @@ module _ (bs : List ℕ) (u : Bytes bs) (a : Accepted bs) where
       clean-block s bs i long h (swept-clean s bs (a .clean) i h)
       (λ p.
       let x = block-in (block-long s) bs i in
-      let m = filled-member (s .nodes) (chunk-of x) (chunks s os) (chunks-filled s os (some-nodes s good)) (only i (chunk-of x) h (full-block i h p)) in
-      let n = nodes-count (getD x 1 0) (drop 8 x) in
+      let m = filled-member (s .nodes) (chunk-of (row s) x) (chunks s os) (chunks-filled s os (some-nodes s good)) (only i (chunk-of (row s) x) h (full-block i h p)) in
+      let n = nodes-count (row s) (getD x 1 0) (drop 8 x) in
       (omega (arith, n, m .0), omega (arith, n, m .1)))
 
-  label-is : (i : ℕ) → label-in (block-long s) bs i ≡ chunk-of (block-in (block-long s) bs i) .label
+  label-is : (i : ℕ) → label-in (block-long s) bs i ≡ chunk-of (row s) (block-in (block-long s) bs i) .label
   unfolding chunk-of block-long
-  label-is i = label-cell (8 + 12 * s .nodes) bs i (omega arith)
+  label-is i = label-cell (8 + row s * s .nodes) bs i (omega arith)
 
   found : (i : ℕ) → i < s .blocks → label-in (block-long s) bs i .level ≢ 0 → search-in s bs (label-in (block-long s) bs i) ≡ At i
   found i h ne =
-      let c = chunk-of (block-in (block-long s) bs i) in
+      let c = chunk-of (row s) (block-in (block-long s) bs i) in
       let e = full-block i h (omega (arith, level-says s bs i, ne)) in
       let t = found-chunk c (only i c h e) in
       let k : t .at ≡ i = once (s .blocks) some (chunks s os) (blocks-in s bs) blocks-many (chunks-rising s os (a .good)) stands count c (t .at) i (t .inside) h

@@ -2,13 +2,14 @@
 use mathlib.Core.Path.{_≡_, refl, sym, ap, _∙_, subst}
 use mathlib.Core.Bool.{Bool, true, false, cond, true≢false, false≢true}
 use mathlib.Core.List.{List, [], _∷_}
-use Prim.Native.Nat.{ℕ, zero, suc, _+_, _*_, _%_, _≤_, _<_}
-use native.Mathlib.Nat.{mod-lt, suc-mul, add-comm, zero-mul, add-assoc}
+use Prim.Native.Nat.{ℕ, zero, suc, _+_, _*_, _-_, _%_, _≤_, _<_}
+use native.Mathlib.Nat.{mod-lt, suc-mul, mul-suc, add-comm, zero-mul, add-assoc}
 use native.Mathlib.Omega.{arith}
 use borrow.Author.Tests.{ne-eqb}
 use lib.ListN.{getD, take, drop, List·getD-map}
 use lib.Seq.{drop-drop}
 use Rattle.sizes.specs.Numbers.{field, rows-in}
+use Rattle.sizes.specs.Sizes.{row}
 use Rattle.sizes.specs.Header.{block-long}
 use Rattle.placement.specs.Blocks.{empty, holds}
 use Rattle.placement.specs.Chunks.{Chunk}
@@ -22,6 +23,8 @@ use Rattle.placement.specs.declared.Label.{Label}
 use Rattle.placement.specs.declared.Found.{Found}
 use Rattle.placement.specs.declared.Found.the-variants.{At, Nothing}
 use Rattle.sizes.proofs.Laws.Numbers.{field-drop, field-part}
+use Rattle.sizes.proofs.Laws.Sizes.{row-least}
+use Rattle.sizes.proofs.Laws.HeaderLoops.{rows-room}
 use Rattle.sizes.proofs.Laws.Parts.{getD-part}
 use Rattle.placement.proofs.Laws.Cells.{label-cell}
 use Rattle.placement.proofs.Laws.Labels.{same-is}
@@ -36,48 +39,52 @@ cut-at w zero i l h = absurd (omega arith)
 cut-at w (suc m) zero l h = rw (zero-mul w)
 cut-at w (suc m) (suc i) l h = cut-at w m i (drop w l) (omega arith) ∙ rw (drop-drop, suc-mul i w, add-comm (i * w) w)
 
-pub block-at : (s : Sizes) (bs : List ℕ) (i : ℕ) → i < s .blocks → getD (blocks-in s bs) i empty ≡ block-of (block-in (block-long s) bs i)
+pub block-at : (s : Sizes) (bs : List ℕ) (i : ℕ) → i < s .blocks → getD (blocks-in s bs) i empty ≡ block-of (row s) (block-in (block-long s) bs i)
 unfolding blocks-in block-in block-of
 block-at s bs i h =
-    List·getD-map block-of (cut (block-long s) (s .blocks) (drop 53 bs)) i []
-    ∙ ap block-of (cut-at (block-long s) (s .blocks) i (drop 53 bs) h ∙ ap (take (block-long s)) (drop-drop (i * block-long s) 53 bs))
+    List·getD-map (block-of (row s)) (cut (block-long s) (s .blocks) (drop 53 bs)) i []
+    ∙ ap (block-of (row s)) (cut-at (block-long s) (s .blocks) i (drop 53 bs) h ∙ ap (take (block-long s)) (drop-drop (i * block-long s) 53 bs))
 
--- its nodes, by the places in the whole table
-node-part : (k w a : ℕ) (bs : List ℕ) → k + 12 ≤ w → node-in (drop k (take w (drop a bs))) ≡ node-in (drop (a + k) bs)
-unfolding node-in
-node-part k w a bs h =
-    let one : (n : ℕ) → n + 4 ≤ 12 → field n 4 (drop k (take w (drop a bs))) ≡ field n 4 (drop (a + k) bs) =
-    λ n g. field-drop n 4 k (take w (drop a bs)) ∙ field-part (k + n) 4 w a bs (omega arith) ∙ ap (λ (z : ℕ). field z 4 bs) (sym (add-assoc a k n)) ∙ sym (field-drop n 4 (a + k) bs) in
-    let p = one 0 (omega arith) in
-    let q = one 4 (omega arith) in
-    let r = one 8 (omega arith) in
-    λ i. record { key = p i; total = q i; displayed = r i }
+-- its nodes of r bytes, by the places in the whole table
+module _ (r : ℕ) (least : 12 ≤ r) (w a : ℕ) (bs : List ℕ) where
+  node-part : (k : ℕ) → k + r ≤ w → node-in r (drop k (take w (drop a bs))) ≡ node-in r (drop (a + k) bs)
+  unfolding node-in
+  node-part k h =
+      let one : (n m : ℕ) → n + m ≤ r → field n m (drop k (take w (drop a bs))) ≡ field n m (drop (a + k) bs) =
+      λ n m g. field-drop n m k (take w (drop a bs)) ∙ field-part (k + n) m w a bs (omega arith) ∙ ap (λ (z : ℕ). field z m bs) (sym (add-assoc a k n)) ∙ sym (field-drop n m (a + k) bs) in
+      let p = one 0 4 (omega arith) in
+      let q = one 4 4 (omega arith) in
+      let v = one 8 4 (omega arith) in
+      let u = one 12 (r - 12) (omega arith) in
+      λ i. record { key = p i; total = q i; displayed = v i; price = u i }
 
-pub nodes-part : (n k w a : ℕ) (bs : List ℕ) → k + 12 * n ≤ w → nodes-from n (drop k (take w (drop a bs))) ≡ nodes-from n (drop (a + k) bs)
-unfolding rows-in
-nodes-part zero k w a bs h = refl
-nodes-part (suc n) k w a bs h =
-    let p = node-part k w a bs (omega arith) in
-    let q : nodes-from n (drop 12 (drop k (take w (drop a bs)))) ≡ nodes-from n (drop 12 (drop (a + k) bs)) =
-    ap (nodes-from n) (drop-drop 12 k (take w (drop a bs))) ∙ nodes-part n (k + 12) w a bs (omega arith) ∙ ap (nodes-from n) (ap (λ (z : ℕ). drop z bs) (sym (add-assoc a k 12)) ∙ sym (drop-drop 12 (a + k) bs)) in
-    λ i. p i ∷ q i
+  pub nodes-part : (n k : ℕ) → k + r * n ≤ w → nodes-from r n (drop k (take w (drop a bs))) ≡ nodes-from r n (drop (a + k) bs)
+  unfolding rows-in
+  nodes-part zero k h = refl
+  nodes-part (suc n) k h =
+      let e = mul-suc r n in
+      let p = node-part k (omega (arith, e)) in
+      let q : nodes-from r n (drop r (drop k (take w (drop a bs)))) ≡ nodes-from r n (drop r (drop (a + k) bs)) =
+      ap (nodes-from r n) (drop-drop r k (take w (drop a bs))) ∙ nodes-part n (k + r) (omega (arith, e)) ∙ ap (nodes-from r n) (ap (λ (z : ℕ). drop z bs) (sym (add-assoc a k r)) ∙ sym (drop-drop r (a + k) bs)) in
+      λ i. p i ∷ q i
 
 -- a block that says at most B nodes: its chunk is its label and the nodes that the walk reads
-pub chunk-says : (s : Sizes) (bs : List ℕ) (b : ℕ) → count-in (block-long s) bs b ≤ s .nodes → chunk-of (block-in (block-long s) bs b)
+pub chunk-says : (s : Sizes) (bs : List ℕ) (b : ℕ) → count-in (block-long s) bs b ≤ s .nodes → chunk-of (row s) (block-in (block-long s) bs b)
     ≡ record { label = label-in (block-long s) bs b; nodes = chunk-read s bs b }
 unfolding chunk-of chunk-read block-in count-in block-long
 chunk-says s bs b h =
-    let w = 8 + 12 * s .nodes in
+    let w = 8 + row s * s .nodes in
     let a = 53 + b * w in
     let e = label-cell w bs b (omega arith) in
     let c : getD (take w (drop a bs)) 1 0 ≡ getD bs (a + 1) 0 = getD-part w a bs 1 (omega arith) in
-    let n : nodes-from (getD (take w (drop a bs)) 1 0) (drop 8 (take w (drop a bs))) ≡ nodes-from (getD bs (a + 1) 0) (drop (a + 8) bs) =
-    ap (λ (k : ℕ). nodes-from k (drop 8 (take w (drop a bs)))) c ∙ nodes-part (getD bs (a + 1) 0) 8 w a bs (omega arith) in
+    let n : nodes-from (row s) (getD (take w (drop a bs)) 1 0) (drop 8 (take w (drop a bs))) ≡ nodes-from (row s) (getD bs (a + 1) 0) (drop (a + 8) bs) =
+    ap (λ (k : ℕ). nodes-from (row s) k (drop 8 (take w (drop a bs)))) c
+    ∙ nodes-part (row s) (row-least s) w a bs (getD bs (a + 1) 0) 8 (omega (arith, rows-room (row s) (getD bs (a + 1) 0) (s .nodes) h)) in
     λ i. record { label = sym e i; nodes = n i }
 
 pub level-says : (s : Sizes) (bs : List ℕ) (b : ℕ) → getD (block-in (block-long s) bs b) 0 0 ≡ label-in (block-long s) bs b .level
 unfolding head-label block-long
-level-says s bs b = ap (λ (z : Label). z .level) (sym (label-cell (8 + 12 * s .nodes) bs b (omega arith)))
+level-says s bs b = ap (λ (z : Label). z .level) (sym (label-cell (8 + row s * s .nodes) bs b (omega arith)))
 
 -- ---- WHAT A SEARCH FINDS has the label
 
@@ -115,7 +122,7 @@ standing s bs pos l f i ns h e few nodes = go (chunk-spot s bs l f i) refl e few
         let v = probe-at (label-in (block-long s) bs) (s .blocks) (label l f i) pos (s .blocks) (home s (label l f i)) p q in
         let z = same-is (label-in (block-long s) bs p) (label l f i) (v .1) in
         let lev : getD (block-in (block-long s) bs p) 0 0 ≡ l = level-says s bs p ∙ ap (λ (x : Label). x .level) z in
-        let b : block-of (block-in (block-long s) bs p) ≡ holds (chunk-of (block-in (block-long s) bs p)) = rw (ne-eqb (getD (block-in (block-long s) bs p) 0 0) 0 (λ y. omega (arith, y, lev))) in
-        let c : chunk-of (block-in (block-long s) bs p) ≡ record { label = label l f i; nodes = ns } =
+        let b : block-of (row s) (block-in (block-long s) bs p) ≡ holds (chunk-of (row s) (block-in (block-long s) bs p)) = rw (ne-eqb (getD (block-in (block-long s) bs p) 0 0) 0 (λ y. omega (arith, y, lev))) in
+        let c : chunk-of (row s) (block-in (block-long s) bs p) ≡ record { label = label l f i; nodes = ns } =
         chunk-says s bs p few ∙ (λ j. record { label = z j; nodes = n j }) in
         record { at = p; inside = v .0; search = q; is = block-at s bs p (v .0) ∙ b ∙ ap holds c }

@@ -1,34 +1,21 @@
 -- Laws of what the walk's small functions give.
-use mathlib.Core.Path.{_≡_, refl, _∙_}
-use mathlib.Core.Bool.{Bool, true, false, _&&_, and-false, and-true}
-use mathlib.Core.List.{List}
-use Prim.Native.Nat.{ℕ, _+_, _-_, _≤_, _<_}
+use mathlib.Core.Path.{_≡_, refl, sym, _∙_}
+use mathlib.Core.Bool.{Bool, true, false, _&&_, not, cond, and-false, and-true}
+use Prim.Native.Nat.{ℕ, _-_, _≤_, _<_}
 use lib.Dec.{ltb, leb, eqb}
 use borrow.Author.Tests.{eq-eqb, ne-eqb, le-leb, lt-leb, le-ltb, lt-ltb, leb-true, ltb-true}
-use native.Mathlib.Nat.{add-zero}
-use Rattle.sizes.specs.Numbers.{field}
 use Rattle.sizes.specs.Sizes.{prime}
 use Rattle.sizes.specs.Hash.{level}
-use Rattle.placement.specs.Decode.{node-in}
 use Rattle.sizes.specs.declared.Sizes.{Sizes}
 use Rattle.placement.specs.declared.Order.{Order}
-use Rattle.sizes.proofs.Laws.Numbers.{field-drop}
 use Rattle.sizes.proofs.Laws.Sizes.{and-parts}
+use Rattle.skiplist.specs.Image.{price-good}
 use Rattle.table.specs.declared.Seen.{Seen}
-use Rattle.table.specs.Walk.{node-of, wrong-seen, nothing-in, quantities-ok, belongs-in, fits-in, counts, node-good, enters-ok, enters-lowest, comes-ok, entered-seen, passed-seen, ended-seen, stops-at}
+use Rattle.table.specs.Walk.{wrong-seen, nothing-in, quantities-ok, price-ok, belongs-in, fits-in, counts, node-good, enters-ok, enters-lowest, comes-ok, entered-seen, passed-seen, ended-seen, stops-at}
 
 pub wrong-made : _≡_ {A = Seen} (record { ok = false; low = 0; orders = 0; chunks = 0 }) wrong-seen
 unfolding wrong-seen
 wrong-made = refl
-
-pub node-made : (bs : List ℕ) (a k t d : ℕ) → k ≡ field a 4 bs → t ≡ field (a + 4) 4 bs → d ≡ field (a + 8) 4 bs
-    → _≡_ {A = Order} (record { key = k; total = t; displayed = d }) (node-of bs a)
-unfolding node-of node-in
-node-made bs a k t d ek et ed = rw (ek, et, ed, field-drop 0 4 a bs, field-drop 4 4 a bs, field-drop 8 4 a bs, add-zero)
-
-pub node-key : (bs : List ℕ) (a k : ℕ) → k ≡ field a 4 bs → k ≡ node-of bs a .key
-unfolding node-of node-in
-node-key bs a k e = rw (e, field-drop 0 4 a bs, add-zero)
 
 module _ (l : ℕ) (n : Order) where
   pub order-last : l ≡ 1 → (n .key ≡ 0 → ⊥) → 1 ≤ n .total → leb (n .displayed) (n .total) ≡ quantities-ok l n
@@ -55,6 +42,27 @@ module _ (l : ℕ) (n : Order) where
   unfolding quantities-ok
   quantities-above q e h = h ∙ rw (ne-eqb _ _ e)
 
+either : (t v : Bool) → v ≡ cond t v v
+either true v = refl
+either false v = refl
+
+module _ (s : Sizes) (l : ℕ) (n : Order) where
+  pub price-none : s .version ≡ 1 → eqb (n .price) 0 ≡ price-ok s l n
+  unfolding price-ok price-good
+  price-none e = rw (eq-eqb _ _ e) (either (eqb l 1 && not (eqb (n .key) 0)) (eqb (n .price) 0))
+
+  pub price-above : (l ≡ 1 → ⊥) → eqb (n .price) 0 ≡ price-ok s l n
+  unfolding price-ok
+  price-above e = rw (ne-eqb _ _ e)
+
+  pub price-front : n .key ≡ 0 → eqb (n .price) 0 ≡ price-ok s l n
+  unfolding price-ok
+  price-front e = rw (eq-eqb _ _ e, and-false)
+
+  pub price-last : (s .version ≡ 1 → ⊥) → l ≡ 1 → (n .key ≡ 0 → ⊥) → leb 1 (n .price) ≡ price-ok s l n
+  unfolding price-ok price-good
+  price-last v e k = rw (ne-eqb _ _ v, eq-eqb l 1 e, ne-eqb _ _ k)
+
 module _ (s : Sizes) (l f : ℕ) (o : Bool) (n : Order) where
   module _ (q : Bool) (eq : q ≡ quantities-ok l n) where
     pub fits-not : q ≡ false → false ≡ fits-in s l f o n
@@ -78,9 +86,14 @@ module _ (s : Sizes) (l f : ℕ) (o : Bool) (n : Order) where
   unfolding node-good
   good-bad x e = rw e
 
-  pub good-fits : (x : Seen) (t : Bool) → x .ok ≡ true → t ≡ fits-in s l f o n → t ≡ node-good s l f o n x
-  unfolding node-good
-  good-fits x t e et = rw e et
+  module _ (x : Seen) (u : Bool) (eu : u ≡ price-ok s l n) where
+    pub good-price : u ≡ false → false ≡ node-good s l f o n x
+    unfolding node-good
+    good-price e = rw (← eu, e, and-false)
+
+    pub good-fits : (t : Bool) → x .ok ≡ true → u ≡ true → t ≡ fits-in s l f o n → t ≡ node-good s l f o n x
+    unfolding node-good
+    good-fits t e q et = rw (e, ← eu, q) et
 
 module _ (s : Sizes) (f : ℕ) (o : Bool) (y : ℕ) (n : Order) where
   pub comes-low : n .key < y → false ≡ comes-ok s f o y n
@@ -91,9 +104,16 @@ module _ (s : Sizes) (f : ℕ) (o : Bool) (y : ℕ) (n : Order) where
   unfolding comes-ok
   comes-high h = rw (le-ltb (n .key) 2147483647 h, and-false)
 
-  pub comes-last : (t : Bool) → y ≤ n .key → n .key < 2147483647 → t ≡ fits-in s 1 f o n → t ≡ comes-ok s f o y n
-  unfolding comes-ok
-  comes-last t l h e = rw (le-leb y (n .key) l, lt-ltb (n .key) 2147483647 h) e
+  module _ (u : Bool) (eu : u ≡ price-ok s 1 n) where
+    pub comes-price : u ≡ false → false ≡ comes-ok s f o y n
+    unfolding comes-ok
+    comes-price e =
+        let q : price-ok s 1 n ≡ false = sym eu ∙ e in
+        simp (q, and-false)
+
+    pub comes-last : (t : Bool) → y ≤ n .key → n .key < 2147483647 → u ≡ true → t ≡ fits-in s 1 f o n → t ≡ comes-ok s f o y n
+    unfolding comes-ok
+    comes-last t l h q e = rw (le-leb y (n .key) l, lt-ltb (n .key) 2147483647 h, ← eu, q) e
 
 module _ (b n : ℕ) (x : Seen) where
   pub enters-last : x .ok ≡ true → 1 ≤ n → n ≤ b → leb 1 (x .chunks) ≡ enters-ok b n x

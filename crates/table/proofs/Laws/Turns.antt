@@ -9,22 +9,27 @@ use native.Mathlib.Nat.{sub-zero}
 use native.Mathlib.Numerals.{add-one}
 use lib.ListN.{length, getD}
 use Rattle.sizes.specs.Numbers.{field}
+use Rattle.sizes.specs.Sizes.{row}
 use Rattle.sizes.specs.Hash.{hash-from}
 use Rattle.sizes.specs.Header.{block-long}
+use Rattle.placement.specs.Decode.{node-of}
 use Rattle.placement.specs.Labels.{home}
 use Rattle.placement.specs.Place.{Shaped, label-in, search-in, found-at}
 use Rattle.sizes.specs.declared.Sizes.{Sizes}
 use Rattle.placement.specs.declared.Order.{Order}
 use Rattle.placement.specs.declared.Found.{Found}
 use Rattle.placement.specs.declared.Found.the-variants.{At, Nothing}
+use Rattle.sizes.proofs.Laws.Sizes.{row-least}
+use Rattle.sizes.proofs.Laws.HeaderLoops.{rows-one, rows-room}
 use Rattle.placement.proofs.Laws.Loops.{search-below, search-none}
+use Rattle.placement.proofs.Laws.Reading.{key-of}
 use Rattle.table.specs.declared.Seen.{Seen}
-use Rattle.table.specs.Walk.{Walkable, node-of, wrong-seen, enters-ok, entered-seen, ended-seen, stops-at, node-good, nodes-by, spot, chunk-spot, empty-home, count-in, chunk-by, chunks-by, opens-of}
-use Rattle.table.proofs.Laws.Steps.{node-key, enters-parts}
+use Rattle.table.specs.Walk.{Walkable, wrong-seen, enters-ok, entered-seen, ended-seen, stops-at, node-good, nodes-by, spot, chunk-spot, empty-home, count-in, chunk-by, chunks-by, opens-of}
+use Rattle.table.proofs.Laws.Steps.{enters-parts}
 
 -- NODES: what the loop over the nodes of a chunk keeps
 pub record Noding (d : (key : ℕ) → Seen → Seen) (s : Sizes) (bs : List ℕ) (l f j₀ a₀ : ℕ) (o₀ : Bool) (x₀ : Seen) (j a : ℕ) (o : Bool) (x : Seen) : Type 0 where
-  pub room : a + 12 * j ≤ length bs
+  pub room : a + row s * j ≤ length bs
   pub rest : nodes-by d s bs l f j₀ a₀ o₀ x₀ ≡ nodes-by d s bs l f j a o x
 
 -- nothing comes after a wrong node
@@ -34,12 +39,16 @@ nodes-wrong d s bs l f zero a o = refl
 nodes-wrong d s bs l f (suc j) a o = refl
 
 module _ (d : (key : ℕ) → Seen → Seen) (s : Sizes) (bs : List ℕ) (l f j₀ a₀ : ℕ) (o₀ : Bool) (x₀ : Seen) where
-  pub noding-start : a₀ + 12 * j₀ ≤ length bs → Noding d s bs l f j₀ a₀ o₀ x₀ j₀ a₀ o₀ x₀
+  pub noding-start : a₀ + row s * j₀ ≤ length bs → Noding d s bs l f j₀ a₀ o₀ x₀ j₀ a₀ o₀ x₀
   noding-start h = record { room = h; rest = refl }
 
   module _ (j a : ℕ) (o : Bool) (x : Seen) (i : Noding d s bs l f j₀ a₀ o₀ x₀ j a o x) where
-    pub noding-room : 0 < j → a + 12 ≤ length bs
-    noding-room p = omega (arith, i .room)
+    pub noding-room : 0 < j → a + row s ≤ length bs
+    noding-room p = omega (arith, i .room, rows-one (row s) j p)
+
+    -- the next place, where one node more is to come
+    pub noding-next : (w : ℕ) → w ≡ row s → 1 < j → a + w + 4 ≤ length bs
+    noding-next w ew p = omega (arith, i .room, rows-one (row s) j (omega arith), rows-one (row s) (j - 1) (omega arith), row-least s)
 
     pub noding-end : j ≤ 0 → x ≡ nodes-by d s bs l f j₀ a₀ o₀ x₀
     unfolding nodes-by
@@ -47,34 +56,36 @@ module _ (d : (key : ℕ) → Seen → Seen) (s : Sizes) (bs : List ℕ) (l f j�
         let e : j ≡ 0 = omega arith in
         sym (i .rest ∙ ap (λ (k : ℕ). nodes-by d s bs l f k a o x) e)
 
-    step : 0 < j → (t : Bool) → node-good s l f o (node-of bs a) x ≡ t
-        → nodes-by d s bs l f j₀ a₀ o₀ x₀ ≡ cond t (nodes-by d s bs l f (j - 1) (a + 12) false (d (node-of bs a .key) x)) wrong-seen
+    step : 0 < j → (t : Bool) → node-good s l f o (node-of (row s) bs a) x ≡ t
+        → nodes-by d s bs l f j₀ a₀ o₀ x₀ ≡ cond t (nodes-by d s bs l f (j - 1) (a + row s) false (d (node-of (row s) bs a .key) x)) wrong-seen
     unfolding nodes-by
     step p t e =
         let f′ : j ≡ suc (j - 1) = omega arith in
         i .rest
         ∙ ap (λ (k : ℕ). nodes-by d s bs l f k a o x) f′
-        ∙ ap (λ (b : Bool). cond b (nodes-by d s bs l f (j - 1) (a + 12) false (d (node-of bs a .key) x)) wrong-seen) e
+        ∙ ap (λ (b : Bool). cond b (nodes-by d s bs l f (j - 1) (a + row s) false (d (node-of (row s) bs a .key) x)) wrong-seen) e
 
-    pub noding-gone : (w : Seen) → w ≡ wrong-seen → 0 < j → d (node-of bs a .key) x ≡ wrong-seen → w ≡ nodes-by d s bs l f j₀ a₀ o₀ x₀
-    noding-gone w ew p e = go (node-good s l f o (node-of bs a) x) refl
+    pub noding-gone : (w : Seen) → w ≡ wrong-seen → 0 < j → d (node-of (row s) bs a .key) x ≡ wrong-seen → w ≡ nodes-by d s bs l f j₀ a₀ o₀ x₀
+    noding-gone w ew p e = go (node-good s l f o (node-of (row s) bs a) x) refl
       where
-        go : (t : Bool) → node-good s l f o (node-of bs a) x ≡ t → w ≡ nodes-by d s bs l f j₀ a₀ o₀ x₀
-        go true q = ew ∙ sym (step p true q ∙ ap (nodes-by d s bs l f (j - 1) (a + 12) false) e ∙ nodes-wrong d s bs l f (j - 1) (a + 12) false)
+        go : (t : Bool) → node-good s l f o (node-of (row s) bs a) x ≡ t → w ≡ nodes-by d s bs l f j₀ a₀ o₀ x₀
+        go true q = ew ∙ sym (step p true q ∙ ap (nodes-by d s bs l f (j - 1) (a + row s) false) e ∙ nodes-wrong d s bs l f (j - 1) (a + row s) false)
         go false q = ew ∙ sym (step p false q)
 
-    module _ (n : Order) (en : n ≡ node-of bs a) (t : Bool) (et : t ≡ node-good s l f o n x) (p : 0 < j) where
-      turned : (u : Bool) → t ≡ u → node-good s l f o (node-of bs a) x ≡ u
+    module _ (n : Order) (en : n ≡ node-of (row s) bs a) (t : Bool) (et : t ≡ node-good s l f o n x) (p : 0 < j) where
+      turned : (u : Bool) → t ≡ u → node-good s l f o (node-of (row s) bs a) x ≡ u
       turned u q = ap (λ (m : Order). node-good s l f o m x) (sym en) ∙ sym et ∙ q
 
       pub noding-wrong : (w : Seen) → w ≡ wrong-seen → t ≡ false → w ≡ nodes-by d s bs l f j₀ a₀ o₀ x₀
       noding-wrong w ew q = ew ∙ sym (step p false (turned false q))
 
-      pub noding-more : t ≡ true → (y : Seen) → y ≡ d (n .key) x → Noding d s bs l f j₀ a₀ o₀ x₀ (j - 1) (a + 12) false y
-      noding-more q y ey =
+      pub noding-more : (w : ℕ) → w ≡ row s → t ≡ true → (y : Seen) → y ≡ d (n .key) x → Noding d s bs l f j₀ a₀ o₀ x₀ (j - 1) (a + w) false y
+      noding-more w ew q y ey =
           record {
-            room = omega (arith, i .room);
-            rest = step p true (turned true q) ∙ ap (nodes-by d s bs l f (j - 1) (a + 12) false) (sym (ey ∙ ap (λ (m : Order). d (m .key) x) en));
+            room = omega (arith, i .room, ew, rows-one (row s) j p);
+            rest =
+                step p true (turned true q) ∙ ap (nodes-by d s bs l f (j - 1) (a + row s) false) (sym (ey ∙ ap (λ (m : Order). d (m .key) x) en))
+                ∙ ap (λ (z : ℕ). nodes-by d s bs l f (j - 1) (a + z) false y) (sym ew);
           }
 
 pub number-most : (i m : ℕ) → i < m → m ≤ 65535 → i ≤ 65535
@@ -187,21 +198,21 @@ opens-empty s bs l f x h lo t et e =
 
 -- .. so the walk that comes to it ends wrong; k is the key of the node that opens it
 pub ahead : (s : Sizes) (bs : List ℕ) (l a : ℕ) (x : Seen) → Shaped s bs → 1 ≤ l → (k : ℕ) → k ≡ field a 4 bs → (t : Bool)
-    → t ≡ empty-home s bs l k → t ≡ true → opens-of s bs l (node-of bs a .key) x ≡ wrong-seen
-ahead s bs l a x h lo k ek t et e = ap (λ (i : ℕ). opens-of s bs l i x) (sym (node-key bs a k ek)) ∙ opens-empty s bs l k x h lo t et e
+    → t ≡ empty-home s bs l k → t ≡ true → opens-of s bs l (node-of (row s) bs a .key) x ≡ wrong-seen
+ahead s bs l a x h lo k ek t et e = ap (λ (i : ℕ). opens-of s bs l i x) (key-of (row s) bs a ∙ sym ek) ∙ opens-empty s bs l k x h lo t et e
 
 -- THE HASH of the next node's key, which the loop over nodes has at hand
 pub record Keyed (s : Sizes) (bs : List ℕ) (j a g : ℕ) : Type 0 where
-  pub is : 0 < j → g ≡ hash-from 5 5 (s .seed) (node-of bs a .key)
+  pub is : 0 < j → g ≡ hash-from 5 5 (s .seed) (node-of (row s) bs a .key)
 
 module _ (s : Sizes) (bs : List ℕ) (j a g : ℕ) where
   pub keyed-made : (k : ℕ) → k ≡ field a 4 bs → g ≡ hash-from 5 5 (s .seed) k → Keyed s bs j a g
-  keyed-made k ek e = record { is = λ p. e ∙ ap (hash-from 5 5 (s .seed)) (node-key bs a k ek) }
+  keyed-made k ek e = record { is = λ p. e ∙ ap (hash-from 5 5 (s .seed)) (ek ∙ sym (key-of (row s) bs a)) }
 
   pub keyed-none : j ≤ 0 → Keyed s bs j a g
   keyed-none h = record { is = λ p. absurd (omega arith) }
 
-  pub keyed-is : Keyed s bs j a g → 0 < j → (n : Order) → n ≡ node-of bs a → g ≡ hash-from 5 5 (s .seed) (n .key)
+  pub keyed-is : Keyed s bs j a g → 0 < j → (n : Order) → n ≡ node-of (row s) bs a → g ≡ hash-from 5 5 (s .seed) (n .key)
   keyed-is i p n en = i .is p ∙ ap (λ (m : Order). hash-from 5 5 (s .seed) (m .key)) (sym en)
 
 -- WHAT THE CALLS ASK
@@ -228,5 +239,9 @@ module _ (b n : ℕ) (y : Seen) (t : Bool) (et : t ≡ enters-ok b n y) (e : t �
   enters-chunks = enters-parts b n y (sym et ∙ e) .3
 
 module _ (s : Sizes) (bs : List ℕ) (w : Walkable s bs) (n : ℕ) (y : Seen) (t : Bool) (et : t ≡ enters-ok (s .nodes) n y) (e : t ≡ true) where
-  pub chunk-room : (at : ℕ) → at + block-long s ≤ 53 + s .blocks * block-long s → at + 8 + 12 * n ≤ length bs
-  chunk-room at h = omega (arith, w .shaped .long, w .shaped .width, enters-parts (s .nodes) n y (sym et ∙ e) .2)
+  pub chunk-room : (at : ℕ) → at + block-long s ≤ 53 + s .blocks * block-long s → at + 8 + row s * n ≤ length bs
+  chunk-room at h = omega (arith, w .shaped .long, w .shaped .width, rows-room (row s) n (s .nodes) (enters-parts (s .nodes) n y (sym et ∙ e) .2))
+
+-- the first of some nodes has a key
+pub first-room : (s : Sizes) (a j n : ℕ) → a + row s * j ≤ n → 1 ≤ j → a + 4 ≤ n
+first-room s a j n h p = omega (arith, rows-one (row s) j p, row-least s)

@@ -16,17 +16,18 @@ use Rattle.sizes.specs.Header.{block-long}
 use Rattle.placement.specs.Place.{found-at}
 use Rattle.sizes.specs.declared.Sizes.{Sizes}
 use Rattle.placement.specs.declared.Order.{Order}
+use Rattle.sizes.proofs.Laws.Sizes.{and-parts}
 use Rattle.skiplist.specs.Lists.{masked}
 use Rattle.skiplist.proofs.Laws.Count.{pieces, pieces-less}
 use Rattle.skiplist.proofs.Laws.Opens.{Exact, Nodes, Walks, shape}
 use Rattle.table.specs.declared.Seen.{Seen}
-use Rattle.table.specs.Walk.{nothing-in, quantities-ok, belongs-in, counts, counted, enters-ok, entered-seen, ended-seen, stops-at, fits-in, node-good, spot, chunk-spot, count-in, chunk-by, chunks-by, opens-of}
-use Rattle.table.proofs.Laws.Came.{Rising, Step, rising-split, step-split, nodes-on, chunk-read, chunk-are}
+use Rattle.table.specs.Walk.{nothing-in, quantities-ok, price-ok, belongs-in, counts, counted, enters-ok, entered-seen, ended-seen, stops-at, fits-in, node-good, spot, chunk-spot, count-in, chunk-by, chunks-by, opens-of}
+use Rattle.table.proofs.Laws.Came.{weighs, Rising, Step, rising-split, step-split, nodes-on, chunk-read, chunk-are}
 use Rattle.table.proofs.Laws.Counted.{under, under-both, tally}
 use Rattle.table.proofs.Laws.Reading.{Fitting, read-count}
 
 -- nothing came by
-pub step-same : (x z : Seen) → Step x [] 0 z → x ≡ z
+pub step-same : {s : Sizes} (x z : Seen) → Step s x [] 0 z → x ≡ z
 step-same x z u =
     let o = u .ok ∙ sym (u .end) in
     let l = u .rising in
@@ -35,7 +36,7 @@ step-same x z u =
     λ i. record { ok = o i; low = l i; orders = n i; chunks = c i }
 
 -- one order came by
-one-counted : (o : Order) (x z : Seen) → Step x (o ∷ []) 0 z → counted (o .key) x ≡ z
+one-counted : {s : Sizes} (o : Order) (x z : Seen) → Step s x (o ∷ []) 0 z → counted (o .key) x ≡ z
 unfolding counted counts
 one-counted o x z u =
     let r = u .rising in
@@ -46,9 +47,9 @@ one-counted o x z u =
     rw (u .ok, le-leb (x .low) (o .key) (r .0), lt-ltb (o .key) prime (r .1), le-leb 1 (x .orders) (omega (arith, u .orders))) (λ i. record { ok = e i; low = k i; orders = n i; chunks = c i })
 
 -- after an order some key is passed
-rising-most : (a b : ℕ) (xs : List Order) → Rising a xs b → a ≤ b
-rising-most a b [] u = omega (arith, u)
-rising-most a b (x ∷ xs) u = omega (arith, u .0, rising-most (suc (x .key)) b xs (u .3))
+rising-most : (s : Sizes) (a b : ℕ) (xs : List Order) → Rising s a xs b → a ≤ b
+rising-most s a b [] u = omega (arith, u)
+rising-most s a b (x ∷ xs) u = omega (arith, u .0, rising-most s (suc (x .key)) b xs (u .3))
 
 nodes-split : (s : Sizes) (T : (l f : ℕ) → List Order) (W : Order → List Order → Type 0) (xs zs seg : List Order) → Nodes s T W (xs ++ zs) seg →
     (a : List Order) × (b : List Order) × (seg ≡ a ++ b) × Nodes s T W xs a × Nodes s T W zs b
@@ -82,25 +83,25 @@ module _ (s : Sizes) (bs : List ℕ) (T : (l f : ℕ) → List Order) (b : 0 < s
     (finds : (l f i : ℕ) → 0 < l → l ≤ beta s → Finds-chunk s bs l f i (map (masked l) (take (s .nodes) (drop (i * s .nodes) (T l f))))) where
   -- a node that opens as it should
   abbrev Opens : (l : ℕ) → Type 0
-  Opens l = (x : Order) (seg : List Order) → Walks s T l x seg → (st z : Seen) → st .chunks ≤ s .blocks → Step st seg (tally s T l (x .key)) z → opens-of s bs l (x .key) st ≡ z
+  Opens l = (x : Order) (seg : List Order) → Walks s T l x seg → (st z : Seen) → st .chunks ≤ s .blocks → Step s st seg (tally s T l (x .key)) z → opens-of s bs l (x .key) st ≡ z
 
   module _ (l f : ℕ) (ih : Opens l) where
-    -- a node is good: its key, its level, its quantities
-    weighs-masked : (n : Order) (a : List Order) (low end : ℕ) → Walks s T l n a → Rising low a end → quantities-ok (suc l) (masked (suc l) n) ≡ true
-    unfolding quantities-ok masked nothing-in
+    -- a node is good: its key, its level, its price and its quantities
+    weighs-masked : (n : Order) (a : List Order) (low end : ℕ) → Walks s T l n a → Rising s low a end → weighs s (suc l) (masked (suc l) n) ≡ true
+    unfolding weighs price-ok quantities-ok masked nothing-in
     weighs-masked n a low end w r = go l w
       where
-        go : (l : ℕ) → Walks s T l n a → quantities-ok (suc l) (masked (suc l) n) ≡ true
-        go zero w = subst (λ (z : List Order). Rising low z end) w r .2 .0
+        go : (l : ℕ) → Walks s T l n a → weighs s (suc l) (masked (suc l) n) ≡ true
+        go zero w = subst (λ (z : List Order). Rising s low z end) w r .2 .0
         go (suc l) w =
             let e = ne-eqb (suc (suc l)) 1 (λ q. omega arith) in
             rw e
 
-    head-low : (n : Order) (a : List Order) (low end : ℕ) → Walks s T l n a → Rising low a end → (low ≤ n .key) × (0 < end)
+    head-low : (n : Order) (a : List Order) (low end : ℕ) → Walks s T l n a → Rising s low a end → (low ≤ n .key) × (0 < end)
     head-low n a low end w r =
         let p = shape s T l n a w in
-        let q = subst (λ (z : List Order). Rising low z end) (p .whole) r in
-        (omega (arith, p .same, q .0), omega (arith, rising-most (suc (p .head .key)) end (p .rest) (q .3)))
+        let q = subst (λ (z : List Order). Rising s low z end) (p .whole) r in
+        (omega (arith, p .same, q .0), omega (arith, rising-most s (suc (p .head .key)) end (p .rest) (q .3)))
 
     belongs : (o : Bool) (n : Order) (ns : List Order) → Fitting s (suc l) f o (n ∷ ns) → (o ≡ false → 0 < n .key) → belongs-in s (suc l) f o (n .key) ≡ true
     unfolding belongs-in
@@ -111,17 +112,19 @@ module _ (s : Sizes) (bs : List ℕ) (T : (l f : ℕ) → List Order) (b : 0 < s
     rest-exact true n ns u = u .1
     rest-exact false n ns u = u .1
 
-    good-is : (o : Bool) (n : Order) (x : Seen) → x .ok ≡ true → belongs-in s (suc l) f o (n .key) ≡ true → quantities-ok (suc l) (masked (suc l) n) ≡ true → node-good s (suc l) f o (masked (suc l) n) x ≡ true
-    unfolding node-good fits-in masked
-    good-is o n x a c d = rw (a, c, d)
+    good-is : (o : Bool) (n : Order) (x : Seen) → x .ok ≡ true → belongs-in s (suc l) f o (n .key) ≡ true → weighs s (suc l) (masked (suc l) n) ≡ true → node-good s (suc l) f o (masked (suc l) n) x ≡ true
+    unfolding node-good fits-in weighs masked
+    good-is o n x a c d =
+        let p = and-parts (price-ok s (suc l) (masked (suc l) n)) (quantities-ok (suc l) (masked (suc l) n)) d in
+        rw (a, c, p .0, p .1)
 
     -- THE NODES of a chunk
     nodes-is : (ns : List Order) (o : Bool) (seg : List Order) (st z : Seen) → Nodes s T (Walks s T l) ns seg → Fitting s (suc l) f o ns → (o ≡ false → 0 < st .low) → st .chunks ≤ s .blocks →
-        Step st seg (under (tally s T l) ns) z → nodes-on (opens-of s bs l) s (suc l) f o (map (masked (suc l)) ns) st ≡ z
+        Step s st seg (under (tally s T l) ns) z → nodes-on (opens-of s bs l) s (suc l) f o (map (masked (suc l)) ns) st ≡ z
     unfolding nodes-on under
-    nodes-is [] o seg st z w u h m p = step-same st z (subst (λ (r : List Order). Step st r 0 z) w p)
+    nodes-is [] o seg st z w u h m p = step-same st z (subst (λ (r : List Order). Step s st r 0 z) w p)
     nodes-is (n ∷ ns) o seg st z w u h m p =
-        let d = step-split st z (w .0) (w .1) (tally s T l (n .key)) (under (tally s T l) ns) (subst (λ (r : List Order). Step st r (tally s T l (n .key) + under (tally s T l) ns) z) (w .2) p) in
+        let d = step-split st z (w .0) (w .1) (tally s T l (n .key)) (under (tally s T l) ns) (subst (λ (r : List Order). Step s st r (tally s T l (n .key) + under (tally s T l) ns) z) (w .2) p) in
         let y = d .state in
         let k = head-low n (w .0) (st .low) (y .low) (w .3) (d .first .rising) in
         let e1 = belongs o n ns u (λ q. omega (arith, k .0, h q)) in
@@ -130,11 +133,11 @@ module _ (s : Sizes) (bs : List ℕ) (T : (l f : ℕ) → List Order) (b : 0 < s
         rw (good-is o n st (p .ok) e1 e2, key-is (suc l) n, e3) (nodes-is ns false (w .1) y z (w .4) (rest-exact o n ns u) (λ q. k .1) (omega (arith, d .first .chunks)) (d .then))
 
     -- ONE CHUNK
-    entered-step : (st y : Seen) (seg : List Order) (c : ℕ) → Step st seg (suc c) y → Step (entered-seen st) seg c y
+    entered-step : (st y : Seen) (seg : List Order) (c : ℕ) → Step s st seg (suc c) y → Step s (entered-seen st) seg c y
     unfolding entered-seen
     entered-step st y seg c p = record { ok = p .ok; end = p .end; rising = p .rising; orders = p .orders; chunks = omega (arith, p .chunks) }
 
-    enters-is : (n : ℕ) (st y : Seen) (seg : List Order) (c : ℕ) → 0 < n → n ≤ s .nodes → Step st seg (suc c) y → enters-ok (s .nodes) n st ≡ true
+    enters-is : (n : ℕ) (st y : Seen) (seg : List Order) (c : ℕ) → 0 < n → n ≤ s .nodes → Step s st seg (suc c) y → enters-ok (s .nodes) n st ≡ true
     unfolding enters-ok
     enters-is n st y seg c h g p = rw (p .ok, le-leb 1 n h, le-leb n (s .nodes) g, le-leb 1 (st .chunks) (omega (arith, p .chunks)))
 
@@ -143,7 +146,7 @@ module _ (s : Sizes) (bs : List ℕ) (T : (l f : ℕ) → List Order) (b : 0 < s
     entered-low st = (refl, omega arith)
 
     chunk-is : (i k : ℕ) (ns seg : List Order) (st y : Seen) → chunk-read s bs k ≡ map (masked (suc l)) ns → 0 < length ns → length ns ≤ s .nodes → Nodes s T (Walks s T l) ns seg →
-        Fitting s (suc l) f (eqb i 0) ns → (eqb i 0 ≡ false → 0 < st .low) → st .chunks ≤ s .blocks → Step st seg (suc (under (tally s T l) ns)) y → chunk-by (opens-of s bs l) s bs (suc l) f i k st ≡ y
+        Fitting s (suc l) f (eqb i 0) ns → (eqb i 0 ≡ false → 0 < st .low) → st .chunks ≤ s .blocks → Step s st seg (suc (under (tally s T l) ns)) y → chunk-by (opens-of s bs l) s bs (suc l) f i k st ≡ y
     chunk-is i k ns seg st y e h g w u low m p =
         let c : count-in (block-long s) bs k ≡ length ns = sym (read-count s bs k) ∙ ap length e ∙ length-map ns (masked (suc l)) in
         let q = entered-low st in
@@ -166,26 +169,26 @@ module _ (s : Sizes) (bs : List ℕ) (T : (l f : ℕ) → List Order) (b : 0 < s
     unfolding chunks-by ended-seen
     none-more j i st e ne = rw (e, ne-eqb i 0 ne)
 
-    none-left : (ys seg : List Order) (y z : Seen) → length ys ≡ 0 → Nodes s T (Walks s T l) ys seg → Step y seg (pieces (s .nodes) (length ys) + under (tally s T l) ys) z → y ≡ z
+    none-left : (ys seg : List Order) (y z : Seen) → length ys ≡ 0 → Nodes s T (Walks s T l) ys seg → Step s y seg (pieces (s .nodes) (length ys) + under (tally s T l) ys) z → y ≡ z
     unfolding pieces under
-    none-left [] seg y z h w p = step-same y z (subst (λ (r : List Order). Step y r 0 z) w p)
+    none-left [] seg y z h w p = step-same y z (subst (λ (r : List Order). Step s y r 0 z) w p)
     none-left (x ∷ ys) seg y z h w p = absurd (omega arith)
 
-    nodes-low : (xs a : List Order) (low end : ℕ) → 0 < length xs → Nodes s T (Walks s T l) xs a → Rising low a end → 0 < end
+    nodes-low : (xs a : List Order) (low end : ℕ) → 0 < length xs → Nodes s T (Walks s T l) xs a → Rising s low a end → 0 < end
     nodes-low [] a low end h w r = absurd (omega arith)
     nodes-low (x ∷ xs) a low end h w r =
-        let d = rising-split low end (w .0) (w .1) (subst (λ (z : List Order). Rising low z end) (w .2) r) in
-        omega (arith, head-low x (w .0) low (d .0) (w .3) (d .1) .1, rising-most (d .0) end (w .1) (d .2))
+        let d = rising-split s low end (w .0) (w .1) (subst (λ (z : List Order). Rising s low z end) (w .2) r) in
+        omega (arith, head-low x (w .0) low (d .0) (w .3) (d .1) .1, rising-most s (d .0) end (w .1) (d .2))
 
     chunks-is : suc l ≤ beta s → (j i : ℕ) (rest seg : List Order) (st z : Seen) → rest ≡ drop (i * s .nodes) (T (suc l) f) → pieces (s .nodes) (length rest) ≤ j → (i ≡ 0 → 0 < length rest) →
         Nodes s T (Walks s T l) rest seg → Fitting s (suc l) f (eqb i 0) rest → (eqb i 0 ≡ false → 0 < st .low) → st .chunks ≤ s .blocks →
-        Step st seg (pieces (s .nodes) (length rest) + under (tally s T l) rest) z → chunks-by (opens-of s bs l) s bs (suc l) f j i st ≡ z
+        Step s st seg (pieces (s .nodes) (length rest) + under (tally s T l) rest) z → chunks-by (opens-of s bs l) s bs (suc l) f j i st ≡ z
     unfolding pieces under chunks-by
-    chunks-is top zero i [] seg st z e h g w u low m p = step-same st z (subst (λ (r : List Order). Step st r 0 z) w p)
+    chunks-is top zero i [] seg st z e h g w u low m p = step-same st z (subst (λ (r : List Order). Step s st r 0 z) w p)
     chunks-is top (suc j) i [] seg st z e h g w u low m p =
         let d = finds (suc l) f i (omega arith) top in
         let n : length (map (masked (suc l)) (take (s .nodes) (drop (i * s .nodes) (T (suc l) f)))) ≡ 0 = rw (← e) (ap length (ap (map (masked (suc l))) (take-nil {A = Order} (s .nodes)))) in
-        none-more j i st (d .gone n) (λ q. omega (arith, g q)) ∙ step-same st z (subst (λ (r : List Order). Step st r 0 z) w p)
+        none-more j i st (d .gone n) (λ q. omega (arith, g q)) ∙ step-same st z (subst (λ (r : List Order). Step s st r 0 z) w p)
     chunks-is top zero i (r ∷ rs) seg st z e h g w u low m p = absurd (omega arith)
     chunks-is top (suc j) i (r ∷ rs) seg st z e h g w u low m p =
         go (λ seg′ y. chunks-is top j (suc i) (drop (s .nodes) (r ∷ rs)) seg′ y z) (nodes-split s T (Walks s T l) xs ys seg (subst (λ (q : List Order). Nodes s T (Walks s T l) q seg) (sym both) w))
@@ -200,7 +203,7 @@ module _ (s : Sizes) (bs : List ℕ) (T : (l f : ℕ) → List Order) (b : 0 < s
         both = take-append-drop (s .nodes) (r ∷ rs)
 
         go : ((seg′ : List Order) (y : Seen) → ys ≡ drop (suc i * s .nodes) (T (suc l) f) → pieces (s .nodes) (length ys) ≤ j → (suc i ≡ 0 → 0 < length ys) → Nodes s T (Walks s T l) ys seg′ →
-            Fitting s (suc l) f (eqb (suc i) 0) ys → (eqb (suc i) 0 ≡ false → 0 < y .low) → y .chunks ≤ s .blocks → Step y seg′ (pieces (s .nodes) (length ys) + under (tally s T l) ys) z →
+            Fitting s (suc l) f (eqb (suc i) 0) ys → (eqb (suc i) 0 ≡ false → 0 < y .low) → y .chunks ≤ s .blocks → Step s y seg′ (pieces (s .nodes) (length ys) + under (tally s T l) ys) z →
             chunks-by (opens-of s bs l) s bs (suc l) f j (suc i) y ≡ z) →
             (a : List Order) × (b : List Order) × (seg ≡ a ++ b) × Nodes s T (Walks s T l) xs a × Nodes s T (Walks s T l) ys b → chunks-by (opens-of s bs l) s bs (suc l) f (suc j) i st ≡ z
         go ih v =
@@ -215,13 +218,13 @@ module _ (s : Sizes) (bs : List ℕ) (T : (l f : ℕ) → List Order) (b : 0 < s
             let c2 : under (tally s T l) (r ∷ rs) ≡ under (tally s T l) xs + under (tally s T l) ys = ap (under (tally s T l)) (sym both) ∙ under-both (tally s T l) xs ys in
             let c3 : pieces (s .nodes) (length (r ∷ rs)) + under (tally s T l) (r ∷ rs) ≡ suc (under (tally s T l) xs) + (pieces (s .nodes) (length ys) + under (tally s T l) ys) = omega (arith, c1, c2) in
             let d = step-split st z (v .0) (v .1) (suc (under (tally s T l) xs)) (pieces (s .nodes) (length ys) + under (tally s T l) ys)
-            (subst (λ (q : ℕ). Step st (v .0 ++ v .1) q z) c3 (subst (λ (q : List Order). Step st q (pieces (s .nodes) (length (r ∷ rs)) + under (tally s T l) (r ∷ rs)) z) (v .2) p)) in
+            (subst (λ (q : ℕ). Step s st (v .0 ++ v .1) q z) c3 (subst (λ (q : List Order). Step s st q (pieces (s .nodes) (length (r ∷ rs)) + under (tally s T l) (r ∷ rs)) z) (v .2) p)) in
             let ck = chunk-is i (spot (chunk-spot s bs (suc l) f i)) xs (v .0) st (d .state) (k1 .1 ∙ ms) lx lb (v .3) (fs .0) low m (d .first) in
             let lc : count-in (block-long s) bs (spot (chunk-spot s bs (suc l) f i)) ≡ length xs = sym (read-count s bs (spot (chunk-spot s bs (suc l) f i))) ∙ ap length (k1 .1 ∙ ms) ∙ length-map xs (masked (suc l)) in
             one-more j i st (d .state) (k1 .0) ck (d .first .end)
             ∙ last (d .state) (d .first) (d .then) lc (omega (arith, c1, h)) (fs .1) (ltb (count-in (block-long s) bs (spot (chunk-spot s bs (suc l) f i))) (s .nodes)) refl
           where
-            last : (y : Seen) → Step st (v .0) (suc (under (tally s T l) xs)) y → Step y (v .1) (pieces (s .nodes) (length ys) + under (tally s T l) ys) z →
+            last : (y : Seen) → Step s st (v .0) (suc (under (tally s T l) xs)) y → Step s y (v .1) (pieces (s .nodes) (length ys) + under (tally s T l) ys) z →
                 count-in (block-long s) bs (spot (chunk-spot s bs (suc l) f i)) ≡ length xs → pieces (s .nodes) (length ys) ≤ j → Exact s (suc l) ys →
                 (t : Bool) → ltb (count-in (block-long s) bs (spot (chunk-spot s bs (suc l) f i))) (s .nodes) ≡ t → cond t y (chunks-by (opens-of s bs l) s bs (suc l) f j (suc i) y) ≡ z
             last y p1 p2 lc few ex true q =
@@ -238,10 +241,10 @@ module _ (s : Sizes) (bs : List ℕ) (T : (l f : ℕ) → List Order) (b : 0 < s
   -- A NODE OPENS
   pub opens-is : (l : ℕ) → l ≤ beta s → Opens l
   unfolding opens-of tally
-  opens-is zero h x seg w st z m p = one-counted x st z (subst (λ (r : List Order). Step st r 0 z) w p)
+  opens-is zero h x seg w st z m p = one-counted x st z (subst (λ (r : List Order). Step s st r 0 z) w p)
   opens-is (suc l) h x seg w st z m p =
       let ih = opens-is l (omega arith) in
       let t = w .2 in
-      let c : Step st seg (pieces (s .nodes) (length (w .0 ∷ w .1)) + under (tally s T l) (w .0 ∷ w .1)) z = subst (λ (r : List Order). Step st seg (pieces (s .nodes) (length r) + under (tally s T l) r) z) t p in
+      let c : Step s st seg (pieces (s .nodes) (length (w .0 ∷ w .1)) + under (tally s T l) (w .0 ∷ w .1)) z = subst (λ (r : List Order). Step s st seg (pieces (s .nodes) (length r) + under (tally s T l) r) z) t p in
       chunks-is l (x .key) ih h (s .blocks) 0 (w .0 ∷ w .1) seg st z (sym t ∙ ap (λ (k : ℕ). drop k (T (suc l) (x .key))) (sym (zero-mul (s .nodes)))) (omega (arith, c .chunks)) (λ k. omega arith)
       (w .5) (w .3, w .4) (λ k. absurd (true≢false k)) m c

@@ -20,9 +20,8 @@ returns-2 : tie.Need-returns-2
 returns-2 c =
     let p = c .before .before .before .before .before .before .before .before .before .before .before .before .before .before .before .before .before .before .before .before .before .before .before .before .before .before .before .pre in
     cancel-below-made _ _ _ _ _ _ _ (p .1) (p .0 .few) _ _ _ _ refl _ _ _ (c .before .before .before .before .before .before .before .before .before .before .before .before .before .before .before .before .before .before .before .before .take .ensures .2) _ _ _ (c .before .before .before .before .before .before .before .before .before .before .before .before .before .before .take2 .ensures .2)
-    (c .before .before .before .before .before .before .before .before .before .before .before .before .before .before .before .before .before .before .before .before .before .before .before .later .ensures) (search needs) _ (c .before .before .before .before .before .before .before .bring .ensures) _ (c .before .before .before .pour .ensures)
+    (c .before .before .before .before .before .before .before .before .before .before .before .before .before .before .before .before .before .before .before .before .before .before .before .later .ensures) (search needs) _ (c .before .before .before .before .before .before .before .follow .ensures) _ (c .before .before .before .pour .ensures)
 
 pub cancel-below-spec : {M : Type 1} → statement M
 cancel-below-spec =
-    tie.close
-    (tie.spec (λ c. search laws) (λ c κs. search laws) (λ c. search laws) (λ c κs. search laws) (λ c. search laws) (λ c κs. search laws) (λ c. search laws) (λ c. search laws) (λ c. search laws) (λ c. search laws) (λ c. search laws) (λ c. search laws) (λ c. search laws) (λ c. search laws) (λ c. search laws) (λ c κs. search laws) (λ c. search laws) (λ c. search laws) (λ c. search laws) pour-requires (λ c. search laws) returns-2)
+    tie.close (tie.spec (λ c. search laws) (λ c κs. search laws) (λ c. search laws) (λ c κs. search laws) (λ c. search laws) (λ c κs. search laws) (λ c. search laws) (λ c. search laws) (λ c. search laws) (λ c. search laws) (λ c κs. search laws) (λ c. search laws) (λ c. search laws) (λ c. search laws) pour-requires (λ c. search laws) returns-2)

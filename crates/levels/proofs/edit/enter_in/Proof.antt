@@ -8,6 +8,9 @@ use Rattle.levels.proofs.edit.enter_in.Tie as tie
 
 ruleset laws = (needs, enter-in-short)
 
+follow-requires-2 : tie.Need-follow-requires-2
+follow-requires-2 c κs = search (laws, c .before .before .before .before .before .before .before .before .before .before .before .before .before .before .before .before .before .before .before .before .pre .0)
+
 add-shift : tie.Need-add-shift
 add-shift c = record { fits = omega (arith, c .before .before .before .before .before .before .before .before .before .before .before .before .before .before .before .read .ensures .1, c .before .before .before .before .before .before .before .before .before .before .before .before .before .before .before .before .before .before .before .before .before .before .before .before .pre .0 .few) }
 
@@ -20,9 +23,8 @@ shift-requires c κs =
 returns-2 : tie.Need-returns-2
 returns-2 c =
     let p = c .before .before .before .before .before .before .before .before .before .before .before .before .before .before .before .before .before .before .before .before .before .before .before .before .before .before .before .before .pre in
-    enter-in-made _ _ _ _ _ (p .1) _ _ _ refl refl _ _ (c .before .before .before .before .before .before .before .before .before .before .before .before .before .before .before .before .before .before .before .read .ensures .2) (p .0 .few) _ _ (c .before .before .before .before .before .before .before .before .before .before .before .before .before .before .before .before .before .before .before .before .before .before .later .ensures) (omega (arith, c .before .before .before .before .before .before .before .before .before .before .before .before .before .before .before .before .before .if1 .left)) _ _ _ _ (c .before .before .before .before .before .before .before .before .before .before .before .before .before .before .bring .ensures) (c .before .before .before .before .before .before .before .before .before .before .before .write-node .ensures) (c .before .before .before .before .before .before .before .bring2 .ensures) (search needs) _ (c .before .before .before .shift .ensures)
+    enter-in-made _ _ _ _ _ (p .1) _ _ _ refl refl _ _ (c .before .before .before .before .before .before .before .before .before .before .before .before .before .before .before .before .before .before .before .read .ensures .2) (p .0 .few) _ _ (c .before .before .before .before .before .before .before .before .before .before .before .before .before .before .before .before .before .before .before .before .before .before .later .ensures) (omega (arith, c .before .before .before .before .before .before .before .before .before .before .before .before .before .before .before .before .before .if1 .left)) _ _ _ _ (c .before .before .before .before .before .before .before .before .before .before .before .before .before .before .follow .ensures) (c .before .before .before .before .before .before .before .before .before .before .before .write-node .ensures) (c .before .before .before .before .before .before .before .follow2 .ensures) (search needs) _ (c .before .before .before .shift .ensures)
 
 pub enter-in-spec : {M : Type 1} → statement M
 enter-in-spec =
-    tie.close
-    (tie.spec (λ c. search laws) (λ c. search laws) (λ c κs. search laws) (λ c. search laws) (λ c κs. search laws) (λ c. search laws) (λ c. search laws) (λ c. search laws) (λ c. search laws) (λ c. search laws) (λ c. search laws) (λ c κs. search laws) (λ c. search laws) (λ c κs. search laws) (λ c. search laws) (λ c. search laws) (λ c. search laws) (λ c. search laws) (λ c. search laws) (λ c. search laws) (λ c. search laws) (λ c. search laws) (λ c. search laws) (λ c κs. search laws) (λ c. search laws) add-shift shift-requires (λ c. search laws) returns-2)
+    tie.close (tie.spec (λ c. search laws) (λ c. search laws) (λ c κs. search laws) (λ c. search laws) (λ c κs. search laws) (λ c. search laws) (λ c. search laws) (λ c. search laws) (λ c. search laws) (λ c κs. search laws) (λ c. search laws) (λ c κs. search laws) (λ c. search laws) (λ c. search laws) (λ c. search laws) follow-requires-2 (λ c. search laws) add-shift shift-requires (λ c. search laws) returns-2)

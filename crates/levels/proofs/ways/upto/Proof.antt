@@ -8,13 +8,11 @@ use Rattle.levels.proofs.ways.upto.Tie as tie
 ruleset laws = (needs, upto-start, upto-stop, upto-more, upto-end)
 
 abbrev Inv-loop : tie.InvT-loop
-Inv-loop table at n y i₀ i = Upto table n at y i
+Inv-loop table w at n y i₀ i = Upto w table n at y i
 
 abbrev μ-loop : tie.MeasureT-loop
-μ-loop table at n y i₀ i = n - i
+μ-loop table w at n y i₀ i = n - i
 
 pub upto-spec : {M : Type 1} → statement M
 upto-spec =
-    tie.close
-    (tie.spec Inv-loop μ-loop (λ c. search laws) (λ c. search laws) (λ c. search laws) (λ c. search laws) (λ c κs. search laws) (λ c. search laws) (λ c. search laws)
-    (λ c. search laws) (λ c. search laws) (λ c. search laws))
+    tie.close (tie.spec Inv-loop μ-loop (λ c. search laws) (λ c κs. search laws) (λ c. search laws) (λ c. search laws) (λ c. search laws) (λ c. search laws) (λ c. search laws))

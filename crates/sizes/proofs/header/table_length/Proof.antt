@@ -9,5 +9,4 @@ ruleset laws = (needs, long-fits, long-sum, long-is)
 pub table-length-spec : {M : Type 1} → statement M
 table-length-spec =
     tie.close
-    (tie.spec (λ c. search laws) (λ c. search laws) (λ c. search laws) (λ c. search laws) (λ c. search laws)
-    (λ c. search laws))
+    (tie.spec (λ c. search laws) (λ c κs. search laws) (λ c. search laws) (λ c. search laws) (λ c. search laws))

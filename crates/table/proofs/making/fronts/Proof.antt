@@ -1,11 +1,11 @@
 -- `table::making::fronts` meets its contract: each need follows from the laws listed.
 use borrow.Author.Needs.{needs}
 use Prim.Native.Nat.{_-_, _+_}
-use Rattle.table.proofs.Laws.Fronts.{Fronting, fronting-start, fronting-more, fronting-end}
+use Rattle.table.proofs.Laws.Fronts.{front-room, Fronting, fronting-start, fronting-more, fronting-end}
 use Rattle.table.proofs.making.fronts.Statement.{statement}
 use Rattle.table.proofs.making.fronts.Tie as tie
 
-ruleset laws = (needs, fronting-start, fronting-more, fronting-end)
+ruleset laws = (needs, front-room, fronting-start, fronting-more, fronting-end)
 
 abbrev Inv-loop : tie.InvT-loop
 Inv-loop table₀ s top node l₀ table l = Fronting s top table₀ l table

@@ -9,10 +9,10 @@ use Rattle.table.proofs.making.sizes_of.Tie as tie
 ruleset laws = (needs, given-start, given-more, given-end)
 
 abbrev Inv-loop : tie.InvT-loop
-Inv-loop gamma nodes orders blocks seed numbers₀ i₀ numbers i = Seeded (past-13 seed) numbers i
+Inv-loop version gamma nodes orders blocks seed numbers₀ i₀ numbers i = Seeded (past-13 seed) numbers i
 
 abbrev μ-loop : tie.MeasureT-loop
-μ-loop gamma nodes orders blocks seed numbers₀ i₀ numbers i = 10 - i
+μ-loop version gamma nodes orders blocks seed numbers₀ i₀ numbers i = 10 - i
 
 pub sizes-of-spec : {M : Type 1} → statement M
 sizes-of-spec =

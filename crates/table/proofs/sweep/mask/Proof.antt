@@ -4,7 +4,5 @@ use Rattle.table.proofs.Laws.Passes.{mask-made}
 use Rattle.table.proofs.sweep.mask.Statement.{statement}
 use Rattle.table.proofs.sweep.mask.Tie as tie
 
-ruleset laws = (needs, mask-made)
-
 pub mask-spec : {M : Type 1} → statement M
-mask-spec = tie.close (tie.spec (λ c. search laws) (λ c κs. search laws) (λ c. search laws))
+mask-spec = tie.close (tie.spec (λ c. search needs) (λ c κs. search needs) (λ c. mask-made _ (c .before .fill .ensures)))

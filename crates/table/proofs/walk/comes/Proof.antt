@@ -1,10 +1,11 @@
 -- `table::walk::comes` meets its contract: each need follows from the laws listed.
 use borrow.Author.Needs.{needs}
-use Rattle.table.proofs.Laws.Steps.{comes-low, comes-high, comes-last}
+use borrow.Author.Tests.{not-true, not-false}
+use Rattle.table.proofs.Laws.Steps.{comes-low, comes-high, comes-price, comes-last}
 use Rattle.table.proofs.walk.comes.Statement.{statement}
 use Rattle.table.proofs.walk.comes.Tie as tie
 
-ruleset laws = (needs, comes-low, comes-high, comes-last)
+ruleset laws = (needs, not-true, not-false, comes-low, comes-high, comes-price, comes-last)
 
 pub comes-spec : {M : Type 1} → statement M
-comes-spec = tie.close (tie.spec (λ c. search laws) (λ c. search laws) (λ c κs. search laws) (λ c. search laws))
+comes-spec = tie.close (tie.spec (λ c. search laws) (λ c. search laws) (λ c κs. search laws) (λ c. search laws) (λ c κs. search laws) (λ c. search laws))

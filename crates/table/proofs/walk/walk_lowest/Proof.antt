@@ -13,19 +13,19 @@ use Rattle.table.proofs.walk.walk_lowest.Tie as tie
 ruleset laws = (needs, not-true, not-false, chunking-start, chunking-end, chunking-none, chunk-below, number-most, lowering-room, comes-fits)
 
 abbrev Inv-loop : tie.InvT-loop
-Inv-loop table q first g seen₀ number i at n opens₀ low₀ place₀ k₀ seen opens low place k = (seen ≡ seen₀) × Lowering (q .sizes) table first n (at + 8) opens₀ seen₀ k place opens low
+Inv-loop table q first g w seen₀ number i at n opens₀ low₀ place₀ k₀ seen opens low place k = (seen ≡ seen₀) × Lowering (q .sizes) table first n (at + 8) opens₀ seen₀ k place opens low
 
 abbrev μ-loop : tie.MeasureT-loop
-μ-loop table q first g seen₀ number i at n opens₀ low₀ place₀ k₀ seen opens low place k = k
+μ-loop table q first g w seen₀ number i at n opens₀ low₀ place₀ k₀ seen opens low place k = k
 
 abbrev Inv-blocks2 : tie.InvT-blocks2
-Inv-blocks2 table q first g seen₀ number₀ seen number = Chunking (q .sizes) table 1 first seen₀ number seen
+Inv-blocks2 table q first g w seen₀ number₀ seen number = Chunking (q .sizes) table 1 first seen₀ number seen
 
 abbrev μ-blocks2 : tie.MeasureT-blocks2
-μ-blocks2 table q first g seen₀ number₀ seen number = q .sizes .blocks - number
+μ-blocks2 table q first g w seen₀ number₀ seen number = q .sizes .blocks - number
 
 -- where a chunk has come next
-entering : (c : tie.Else2 Inv-loop μ-loop Inv-blocks2 μ-blocks2) → let k = c .before .before .before .before .before .before .before .before in let a = k .before .before .before .before .before .args in
+entering : (c : tie.Else2 Inv-loop μ-loop Inv-blocks2 μ-blocks2) → let k = c .before .before .before .before .before .before .before .before in let a = k .before .before .before .before .before .before .args in
     Entering (a .q .sizes) (a .table .now) 1 (a .first) (a .x) (k .before .before .before .blocks2 .number) (k .before .before .before .blocks2 .seen) (c .before .before .before .before .offset .result) (c .before .before .wide .result)
 entering c =
     let o = c .before .before .before .before in
@@ -36,7 +36,7 @@ entering c =
 pub walk-lowest-spec : {M : Type 1} → statement M
 walk-lowest-spec =
     tie.close
-    (tie.spec Inv-loop μ-loop Inv-blocks2 μ-blocks2 (λ c. search laws) (λ c κs. search laws) (λ c. search laws) (λ c. search laws) (λ c κs. search laws) (λ c. search laws)
+    (tie.spec Inv-loop μ-loop Inv-blocks2 μ-blocks2 (λ c κs. search laws) (λ c. search laws) (λ c κs. search laws) (λ c. search laws) (λ c. search laws) (λ c κs. search laws) (λ c. search laws)
     (λ c κs. search laws) (λ c. search laws) (λ c. search laws) (λ c κs. search laws) (λ c κs. search laws) (λ c κs. search laws)
     (λ c.
     let o = c .before .before .before .before .before in
@@ -46,16 +46,25 @@ walk-lowest-spec =
     (λ c. search laws)
     (λ c.
     let o = c .before .before .before .before in
-    let p = o .before .before .before .before .before .before .before .before .before .pre in
+    let p = o .before .before .before .before .before .before .before .before .before .before .pre in
     let e = c .before .enters-lowest .ensures in
     let h = not-false _ (c .if2 .left) in
     let t = lowest-enters _ _ _ _ e h in
     (refl, lowering-start _ _ _ _ _ _ _ (enters-good _ _ _ _ t refl) (lowest-few _ _ _ _ e h) (chunk-room _ _ (p .0) _ _ _ t refl _ (o .offset .ensures .1))))
-    (λ c κs. search laws) (λ c κs. search laws) (λ c κs. search laws) (λ c. search laws) (λ c. search laws) (λ c. search laws)
-    (λ c. search laws)
+    (λ c κs. search laws)
+    (λ c κs.
+    let p = c .before .before .before .before .before .before .before .before .before .before .before .before .before .before .before .before .before .pre in
+    (p .0 .shaped .seeds, omega (arith, p .0 .base), p .1, p .2))
+    (λ c κs. search laws) (λ c. search laws)
     (λ c.
     let l = c .before .before .before .before .before .loop in
-    (l .inv .0, lowering-more _ _ _ _ _ _ _ _ _ _ _ (l .inv .1) (c .before .before .before .before .loop-test .taken) _ (c .before .before .before .node-of .ensures) _ (c .before .before .comes .ensures) (not-false _ (c .before .if3 .left))))
+    let o = c .before .before .before .before .before .before .before .before .before .before .before .before .before .before .before .before .before .before in
+    record { fits = omega (arith, lowering-room _ _ _ _ _ _ _ _ _ _ _ (l .inv .1) (c .before .before .before .before .loop-test .taken), o .row .ensures .0, o .before .before .good .0) })
+    (λ c. search laws) (λ c. search laws)
+    (λ c.
+    let l = c .before .before .before .before .before .loop in
+    let o = c .before .before .before .before .before .before .before .before .before .before .before .before .before .before .before .before .before .before in
+    (l .inv .0, lowering-more _ _ _ _ _ _ _ _ _ _ _ (l .inv .1) (c .before .before .before .before .loop-test .taken) _ (c .before .before .before .node-of .ensures) _ (c .before .before .comes .ensures) _ (o .row .ensures .0) (not-false _ (c .before .if3 .left))))
     (λ c κs. lowest-holds _ _ _ _ (c .before .before .before .enters-lowest .ensures) (not-false _ (c .before .before .if2 .left)) _ (c .before .loop .inv .0))
     (λ c.
     let l = c .before .before .before .before in

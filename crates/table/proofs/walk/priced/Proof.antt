@@ -1,0 +1,10 @@
+-- `table::walk::priced` meets its contract: each need follows from the laws listed.
+use borrow.Author.Needs.{needs}
+use Rattle.table.proofs.Laws.Steps.{price-none, price-above, price-front, price-last}
+use Rattle.table.proofs.walk.priced.Statement.{statement}
+use Rattle.table.proofs.walk.priced.Tie as tie
+
+ruleset laws = (needs, price-none, price-above, price-front, price-last)
+
+pub priced-spec : {M : Type 1} → statement M
+priced-spec = tie.close (tie.spec (λ c. search laws) (λ c. search laws) (λ c. search laws) (λ c. search laws))
