@@ -107,7 +107,7 @@ PEERS = build/peers/release/libpeers.a
 BENCH_C = $(addprefix bench/,bench.c timing.c scene.c report.c archive.c paths.c plain.c sqlite.c lmdb.c)
 PEERS_O = build/check.o build/tuned.o build/descent.o
 BENCH_H = $(wildcard bench/*.h bench/peers/*.h bench/rust/*.h) include/balluchaw.h
-.PHONY: bench-need bench-build bench-smoke bench-count bench-worst bench-turns
+.PHONY: bench-need bench-build bench-smoke bench-count bench-worst bench-turns bench-versions
 
 # With what the other tests need, so that whatever is missing is said at once.
 bench-need:
@@ -166,8 +166,9 @@ bench-worst: need archive
 
 # This archive's calls beside the same calls of an archive before it, in one process, taking turns. BEFORE is a folder of the project as it was, with its
 # archive built. On both sides each function starts at a multiple of 64 bytes: where its loops lie can make more than the change does. Linked in both
-# orders: the side that comes second may be slower by some hundredths for that alone. A side may be from before A.4 made enter and amend of put: its archive.c
-# has archive_put, of a free key, and archive_replace, a put of a held one, which are what enter and amend are to be compared with, so they get those names.
+# orders: the side that comes second may be slower by some hundredths for that alone. Each side is compiled with its own header, so it may be from before A.6
+# gave the calls a version and a price. It may be from before A.4 made enter and amend of put, too: its archive.c has archive_put, of a free key, and
+# archive_replace, a put of a held one, which are what enter and amend are to be compared with, so they get those names.
 define SIDE
 @$(CC) $(CFLAGS) -I$(2)/include -I$(2)/bench -c $(2)/bench/archive.c -o build/$(1)-calls.o
 @ld -r build/$(1)-calls.o $(2)/$(ARCHIVE) -o build/$(1).o
@@ -175,7 +176,7 @@ define SIDE
 @objcopy --set-section-alignment '.text*=64' --redefine-syms=build/$(1).names --wildcard --localize-symbol='balluchaw_*' --localize-symbol='check_in_*' \
 	--localize-symbol='descent_in_*' build/$(1).o
 endef
-TURNS = bench/turns.c bench/timing.c bench/scene.c
+TURNS = bench/turns.c bench/sides.c bench/timing.c bench/scene.c
 TURNED = $(PEERS_O) $(ARCHIVE) $(PEERS) -lpthread -ldl -lm
 
 bench-turns: bench-build
@@ -185,12 +186,22 @@ bench-turns: bench-build
 	@$(CC) $(CFLAGS) -Iinclude -Ibench $(TURNS) build/before.o build/now.o $(TURNED) -o build/turns && echo "now linked second:" && build/turns $(ROUNDS)
 	@$(CC) $(CFLAGS) -Iinclude -Ibench $(TURNS) build/now.o build/before.o $(TURNED) -o build/turns && echo "now linked first:" && build/turns $(ROUNDS)
 
+# The calls on tables of version 2 beside those on tables of version 1 with the same orders, by this archive, in one process, taking turns.
+VERSIONS = bench/versions.c bench/sides.c bench/timing.c bench/scene.c bench/archive.c
+build/versions: $(VERSIONS) $(BENCH_H) $(PEERS_O) $(ARCHIVE) $(PEERS)
+	$(CC) $(CFLAGS) -Iinclude -Ibench $(VERSIONS) $(TURNED) -o $@
+
+bench-versions: bench-build
+	@$(MAKE) --no-print-directory build/versions
+	@bash -o pipefail -c 'build/versions $(ROUNDS) | tee build/versions.out' && cp build/versions.out bench/results/versions.txt
+
 # One small table, three rounds: are all answers right, and the bytes as before after each change? Are the descents on more tables those of the C, path
 # and all? Are the slow tables tables, and are README's figures those of the results?
 bench-smoke: bench-build
 	@$(IN_SCRATCH) && { build/bench $$scratch > build/bench-smoke.out || { cat build/bench-smoke.out; exit 1; }; }
 	@tail -n 1 build/bench-smoke.out
 	@$(MAKE) --no-print-directory bench-turns BEFORE=. ROUNDS=1 > build/turns-smoke.out && echo "two archives in turns: $$(grep -c '^[a-z].* γ ' build/turns-smoke.out) rows, all answers right"
+	@$(MAKE) --no-print-directory build/versions > build/versions-build.out && build/versions 1 > build/versions-smoke.out && echo "two versions in turns: $$(grep -c '^[a-z].* γ ' build/versions-smoke.out) rows, all answers right"
 	@$(MAKE) --no-print-directory build/count > build/count-smoke.out && build/stack > build/stack-smoke.out && build/count && echo "calls on a painted stack and calls to count: all answers right"
 	@build/worst 4096 > build/worst-smoke.out && echo "slow tables: $$(tail -n +3 build/worst-smoke.out | wc -l) are tables, and an enter into each gives its bytes"
 	@python3 bench/table.py bench/results README.md

@@ -163,7 +163,7 @@ static void measure_descents(scene *s, int rounds) {
 
 static void measure(configuration of, int strict) {
     scene s;
-    scene_open(&s, of, strict);
+    scene_open(&s, of, 1, strict);
     if (of.others) {
         map_open(&s);
         sqlite_open(&s);
@@ -187,7 +187,7 @@ static void measure(configuration of, int strict) {
 
 static void compare(configuration of) {
     scene s;
-    scene_open(&s, of, 1);
+    scene_open(&s, of, 1, 1);
     compare_descents(&s);
     same_bytes(&s);
     scene_close(&s);

@@ -1,4 +1,5 @@
-/* The archive's descent beside the one in C, untimed: are they the same in every part of the answer and every byte of the output? How long are the paths? */
+/* The archive's descent beside the one in C, untimed, on tables of version 1, which are all that the one in C knows: are they the same in every part of the
+ * answer and every byte of the output? How long are the paths? */
 #include "balluchaw.h"
 #include "peers/common.h"
 #include "peers/descent.h"
@@ -12,7 +13,7 @@ static void differ(const char *what, u32 key) {
 }
 
 static int same_reply(balluchaw_reply r, descended c) {
-    return r.number == c.number && r.key == c.key && r.total == c.total && r.displayed == c.displayed && r.count == c.count;
+    return r.number == c.number && r.key == c.key && r.total == c.total && r.displayed == c.displayed && r.price == 0 && r.count == c.count;
 }
 
 /* Both with so much room of two outputs of one size. What is not written has to keep its values. Gives the number of blocks. */

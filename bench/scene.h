@@ -16,6 +16,7 @@ typedef struct {
     int others;      /* are the map and the databases timed too? */
 } configuration;
 
+/* Prices stand apart, since an archive.c of before reads orders too (make bench-turns). */
 typedef struct {
     uint32_t key, total, displayed;
 } order;
@@ -44,9 +45,16 @@ typedef struct {
     size_t path_room;
     order sought; /* what the seek of the present turn has to give; key 0: there is none */
     uint32_t hi;  /* where a seek in a short range ends */
+    uint32_t version;
+    size_t row;                          /* bytes of a node, and of what a span writes of an order */
+    uint32_t *prices;                    /* of all orders, in their order; 0 in version 1, as are all that follow */
+    uint32_t *held_prices, *free_prices; /* of the keys that descents ask for; 0 where none is held */
+    const uint32_t *asked_price;         /* of what is asked for next */
+    uint32_t price, sought_price;        /* of the picked order and of the sought one */
 } scene;
 
-void scene_open(scene *s, configuration of, int strict);
+/* Of version 1, or of version 2: then each order has a price. Sizes, seed and orders are the same, and so is whatever is picked at random. */
+void scene_open(scene *s, configuration of, uint32_t version, int strict);
 void scene_close(scene *s);
 
 /* Picks the next order, at random. */

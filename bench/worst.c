@@ -1,5 +1,5 @@
-/* Times the calls on tables whose sender chose seed and keys so that searches are as long as they can be. Each table is written here by docs/format.md, so the
- * archive's own answers show that it is one: check gives 0, and an enter into the table without one order gives the same bytes.
+/* Times the calls on tables whose sender chose seed and keys so that searches are as long as they can be. Each table is of version 1 and written here by
+ * docs/format.md, so the archive's own answers show that it is one: check gives 0, and an enter into the table without one order gives the same bytes.
  *
  *     worst          all tables, some two minutes
  *     worst BLOCKS   all shapes with so many blocks
@@ -117,7 +117,7 @@ static table *table_new(u32 blocks) {
     table *t = calloc(1, sizeof *t);
     if (!t) fail("no memory");
     t->blocks = blocks, t->levels = 18;
-    t->length = BALLUCHAW_LENGTH(NODES, blocks);
+    t->length = BALLUCHAW_LENGTH(1, NODES, blocks);
     t->bytes = malloc(t->length);
     if (!t->bytes) fail("no memory");
     return t;
@@ -153,7 +153,7 @@ static void constant(table *t) {
  * than the number it is a multiple by. */
 static void congruent(table *t) {
     t->blocks = (t->blocks - 2) / 4 * 4 + 2;
-    t->length = BALLUCHAW_LENGTH(NODES, t->blocks);
+    t->length = BALLUCHAW_LENGTH(1, NODES, t->blocks);
     t->seed[1] = 1, t->seed[6] = 1;
     t->held = most_orders(t->blocks);
     for (u32 i = 1; i <= t->held; i++) t->keys[i - 1] = i / 2 * t->blocks + i % 2;
@@ -214,7 +214,7 @@ static void measure(const char *name, u32 blocks, void (*choose)(table *)) {
     taken[0] = seconds(), start = now_ns();
     if (balluchaw_lookup(t->bytes, t->length, last).total != 2) fail("lookup: the answer is wrong");
     taken[1] = seconds(), start = now_ns();
-    if (balluchaw_enter(without, t->length, entered, 2, 1) != 0) fail("enter: the answer is wrong");
+    if (balluchaw_enter(without, t->length, entered, 2, 1, 0) != 0) fail("enter: the answer is wrong");
     taken[2] = seconds(), start = now_ns();
     if (balluchaw_span(t->bytes, t->length, 1, P31 - 1, output, room).count != t->held) fail("span: not all orders");
     taken[3] = seconds(), start = now_ns();

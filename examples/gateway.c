@@ -9,16 +9,17 @@
 #include <stdlib.h>
 #include <sys/random.h>
 
-/* The most chunks that 100 orders can make with these sizes are 310. With so many blocks an enter is never turned down by question 8. */
-enum { GAMMA = 16, NODES = 16, ORDERS = 100, BLOCKS = 310 };
+/* Version 2: each order has a limit price. The most chunks that 100 orders can make with these sizes are 310. With so many blocks an enter is never turned
+ * down by question 8. */
+enum { VERSION = 2, GAMMA = 16, NODES = 16, ORDERS = 100, BLOCKS = 310 };
 
-static uint8_t table[BALLUCHAW_LENGTH(NODES, BLOCKS)];
+static uint8_t table[BALLUCHAW_LENGTH(VERSION, NODES, BLOCKS)];
 
 static const char *const answers[] = {
-    "done", "the seed is none", "the sizes are not allowed", "the buffer has another length", "the bytes are no table",
-    "no such order number can be", "the quantities do not fit together", "the table has its most orders", "the table has no block left",
+    "done", "the seed is none", "version or sizes are not allowed", "the buffer has another length", "the bytes are no table",
+    "no such order number can be", "quantities or price are not allowed", "the table has its most orders", "the table has no block left",
     "no such order is open", "the span ends before it starts", "the output is too short", "no order has such a reserve",
-    "that number is taken",
+    "that number is taken", "the table has no prices",
 };
 
 /* A new order and a change of an open one are two calls. If one call did either, an old number typed again would overwrite an open order, and a change
@@ -28,21 +29,23 @@ static const char *const kinds[] = {"enter", "amend", "pull"};
 
 enum { LAST = 2147483646 }; /* the largest number that an order can have */
 
-static const struct { enum kind kind; uint32_t order, total, displayed; } day[] = {
-    {ENTER, 4711, 500, 100},
-    {ENTER, 4715, 90, 90},
-    {ENTER, 4712, 300, 300},
-    {ENTER, 4720, 80, 100},   /* more displayed than there is */
-    {PULL, 4712, 0, 0},
-    {ENTER, 4713, 2000, 0},   /* wholly hidden */
-    {ENTER, 4711, 60, 60},    /* a new order, but an old number */
-    {ENTER, 4714, 60, 60},    /* the same, under a number that is free */
-    {AMEND, 4711, 400, 100},  /* 100 of them were filled */
-    {AMEND, 4712, 300, 50},   /* too late: it was pulled */
-    {PULL, 4712, 0, 0},       /* and so is this */
-    {PULL, 4715, 0, 0},
-    {ENTER, LAST, 900, 100},  /* before 4716, whose number is lower */
-    {ENTER, 4716, 1200, 200},
+static const struct { enum kind kind; uint32_t order, total, displayed, price; } day[] = {
+    {ENTER, 4711, 500, 100, 995},
+    {ENTER, 4715, 90, 90, 1002},
+    {ENTER, 4712, 300, 300, 1010},
+    {ENTER, 4720, 80, 100, 998},    /* more displayed than there is */
+    {ENTER, 4721, 80, 80, 0},       /* no price */
+    {PULL, 4712, 0, 0, 0},
+    {ENTER, 4713, 2000, 0, 990},    /* wholly hidden */
+    {ENTER, 4711, 60, 60, 1005},    /* a new order, but an old number */
+    {ENTER, 4714, 60, 60, 1005},    /* the same, under a number that is free */
+    {AMEND, 4711, 400, 100, 995},   /* 100 of them were filled; the price is given again, for an amend replaces it too */
+    {AMEND, 4712, 300, 50, 1010},   /* too late: it was pulled */
+    {PULL, 4712, 0, 0, 0},          /* and so is this */
+    {PULL, 4715, 0, 0, 0},
+    {ENTER, LAST, 900, 100, 1020},  /* before 4716, whose number is lower */
+    {ENTER, 4716, 1200, 200, 1000},
+    {AMEND, 4716, 1200, 200, 1001}, /* another price, the same quantities */
 };
 
 /* What cannot be mended here ends the program. */
@@ -60,15 +63,15 @@ static void make_table(void) {
     do {
         must(getrandom(seed, sizeof seed, 0) == 40, "no random numbers");
         for (int i = 0; i < 40; i += 4) seed[i] &= 0x7f;
-        number = balluchaw_make(table, sizeof table, GAMMA, NODES, ORDERS, BLOCKS, seed, sizeof seed);
+        number = balluchaw_make(table, sizeof table, VERSION, GAMMA, NODES, ORDERS, BLOCKS, seed, sizeof seed);
     } while (number == 1);
     must(number == 0, answers[number]);
 }
 
-static uint32_t ask(enum kind kind, uint32_t order, uint32_t total, uint32_t displayed) {
+static uint32_t ask(enum kind kind, uint32_t order, uint32_t total, uint32_t displayed, uint32_t price) {
     switch (kind) {
-    case ENTER: return balluchaw_enter(table, sizeof table, order, total, displayed);
-    case AMEND: return balluchaw_amend(table, sizeof table, order, total, displayed);
+    case ENTER: return balluchaw_enter(table, sizeof table, order, total, displayed, price);
+    case AMEND: return balluchaw_amend(table, sizeof table, order, total, displayed, price);
     default: return balluchaw_cancel(table, sizeof table, order);
     }
 }
@@ -77,14 +80,14 @@ static uint32_t ask(enum kind kind, uint32_t order, uint32_t total, uint32_t dis
 static void print_taken(uint32_t order) {
     balluchaw_reply open = balluchaw_lookup(table, sizeof table, order);
     must(open.number == 0, answers[open.number]);
-    printf("%8u stands as it was: %u of %u displayed\n", (unsigned)order, (unsigned)open.displayed, (unsigned)open.total);
+    printf("%8u stands as it was: %u of %u displayed, at %u\n", (unsigned)order, (unsigned)open.displayed, (unsigned)open.total, (unsigned)open.price);
 }
 
 /* Refusals go back to the dealer, and the gateway never tries the other call by itself. After 13 the dealer sees the open order, and either takes a free
  * number or amends. After an amend's 9 the order is gone: to enter it would bring it back. */
 static void run_day(void) {
     for (size_t i = 0; i < sizeof day / sizeof day[0]; i++) {
-        uint32_t number = ask(day[i].kind, day[i].order, day[i].total, day[i].displayed);
+        uint32_t number = ask(day[i].kind, day[i].order, day[i].total, day[i].displayed, day[i].price);
         must(number != 4, answers[4]); /* somebody else wrote the table: no order is safe in it */
         printf("%s %u: %s\n", kinds[day[i].kind], (unsigned)day[i].order, answers[number]);
         if (number == 13) print_taken(day[i].order);
@@ -111,12 +114,12 @@ static unsigned number_at(const uint8_t *bytes) {
 }
 
 static void print_span(uint32_t lo, uint32_t hi) {
-    static uint8_t rows[12 * ORDERS]; /* room for every order, so question 11 is always answered yes */
+    static uint8_t rows[BALLUCHAW_ROW(VERSION) * ORDERS]; /* room for every order, so question 11 is always answered yes */
     balluchaw_reply span = balluchaw_span(table, sizeof table, lo, hi, rows, sizeof rows);
     must(span.number == 0, answers[span.number]);
     printf("%u open orders from %u to %u\n", (unsigned)span.count, (unsigned)lo, (unsigned)hi);
-    for (const uint8_t *row = rows; row < rows + 12 * span.count; row += 12)
-        printf("%8u: %u of %u displayed\n", number_at(row), number_at(row + 8), number_at(row + 4));
+    for (const uint8_t *row = rows; row < rows + BALLUCHAW_ROW(VERSION) * span.count; row += BALLUCHAW_ROW(VERSION))
+        printf("%8u: %u of %u displayed, at %u\n", number_at(row), number_at(row + 8), number_at(row + 4), number_at(row + 12));
 }
 
 /* What the desk asks all day. The table was checked when it was loaded and nobody else writes it, so a descent will do: it goes straight down to the
@@ -126,7 +129,7 @@ static void print_order(uint32_t order) {
     balluchaw_reply found = balluchaw_descent(table, sizeof table, order, path, sizeof path);
     must(found.number == 0 || found.number == 9, answers[found.number]);
     printf("order %u, by %u blocks: ", (unsigned)order, (unsigned)found.count); /* there is a way to an order that is not open too */
-    if (found.number == 0) printf("%u of %u displayed\n", (unsigned)found.displayed, (unsigned)found.total);
+    if (found.number == 0) printf("%u of %u displayed, at %u\n", (unsigned)found.displayed, (unsigned)found.total, (unsigned)found.price);
     else printf("%s\n", answers[found.number]);
 }
 

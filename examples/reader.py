@@ -1,10 +1,11 @@
 #!/usr/bin/env python3
-"""reader.py FILE            prints the orders of a table, one line each: key, total, displayed, by rising key.
+"""reader.py FILE            prints the orders of a table, one line each: key, total, displayed, in version 2 also price, by rising key.
 reader.py FILE path KEY   prints the numbers of the blocks on the way down to a key, held or not.
 Bytes that are no image are refused: a reason on standard error, exit status 4. Written from docs/format.md alone."""
 import sys
 
 P = 2147483647
+WIDTH = {1: 12, 2: 16}  # the bytes of a node, by version
 
 
 class NoImage(Exception):
@@ -20,25 +21,22 @@ def number(data, at, width):
     return int.from_bytes(data[at:at + width], "big")
 
 
-def keys(block):
-    return [number(block, at, 4) for at in range(8, 8 + 12 * block[1], 12)]
-
-
 class Table:
     """Bytes whose header is right."""
 
     def __init__(self, data):
         need(len(data) >= 53, "fewer than 53 bytes")
+        need(data[0] in WIDTH, "version")
+        self.width = WIDTH[data[0]]
         self.gamma, self.room, most, self.count, self.held = data[5], data[6], number(data, 7, 2), number(data, 9, 2), number(data, 11, 2)
         self.seed = [number(data, 13 + 4 * i, 4) for i in range(10)]
-        need(data[0] == 1, "version")
         need(2 <= self.gamma <= 64 and 2 <= self.room <= 32 and most >= 1, "sizes")
         self.beta, power = 2, 1
         while power < most:
             self.beta, power = self.beta + 1, power * self.gamma
         need(self.count >= self.beta, "too few blocks")
         need(max(self.seed) < P, "seed")
-        size = 8 + 12 * self.room
+        size = 8 + self.width * self.room
         need(len(data) == number(data, 1, 4) == 53 + self.count * size, "length")
         need(self.held <= most, "more orders than N")
         self.blocks = [data[53 + i * size:53 + (i + 1) * size] for i in range(self.count)]
@@ -52,6 +50,11 @@ class Table:
         while level < self.beta and rest % self.gamma == 0:
             level, rest = level + 1, rest // self.gamma
         return level
+
+    def nodes(self, block):
+        """The nodes in use, as (key, total, displayed), in version 2 with a price."""
+        starts = range(8, 8 + self.width * block[1], self.width)
+        return [tuple(number(block, at + i, 4) for i in range(0, self.width, 4)) for at in starts]
 
     def find(self, label):
         """The number of the block that has a label."""
@@ -73,20 +76,22 @@ class Table:
         while place is not None:
             block = self.blocks[place]
             self.found += 1
-            need(1 <= block[1] <= self.room and not any(block[8 + 12 * block[1]:]), "count, or bytes behind it")
-            nodes += [tuple(number(block, at + i, 4) for i in (0, 4, 8)) for at in range(8, 8 + 12 * block[1], 12)]
+            need(1 <= block[1] <= self.room and not any(block[8 + self.width * block[1]:]), "count, or bytes behind it")
+            nodes += self.nodes(block)
             place = self.find((level, first, len(nodes) // self.room)) if block[1] == self.room else None
         need(nodes[0][0] == first, "a partition that does not start with its first key")
-        for before, (key, _, _) in zip(nodes, nodes[1:]):
-            need(before[0] < key < P and self.level_of(key) == level, "a key that does not belong there")
-        for key, total, displayed in nodes:
-            need(displayed <= total and (total > 0) == (level == 1 and key > 0), "quantities")
+        for (before, *_), (key, *_) in zip(nodes, nodes[1:]):
+            need(before < key < P and self.level_of(key) == level, "a key that does not belong there")
+        for key, total, displayed, *price in nodes:
+            order = level == 1 and key > 0
+            need(displayed <= total and (total > 0) == order, "quantities")
+            need(all((one > 0) == order for one in price), "price")
         return nodes
 
     def walk(self, level, first, end):
         nodes = self.partition(level, first)
         need(nodes[-1][0] < end, "a partition that runs into the next")
-        for node, after in zip(nodes, [key for key, _, _ in nodes[1:]] + [end]):
+        for node, after in zip(nodes, [key for key, *_ in nodes[1:]] + [end]):
             if level > 1:
                 yield from self.walk(level - 1, node[0], after)
             elif node[0] > 0:
@@ -94,7 +99,7 @@ class Table:
 
 
 def read(data):
-    """The orders as (key, total, displayed)."""
+    """The orders, as nodes are given."""
     table = Table(data)
     orders = list(table.walk(table.beta, 0, P))
     need(len(orders) == table.held, "number of orders")
@@ -109,9 +114,9 @@ def path(data, sought):
     for level in range(table.beta, 0, -1):
         chunk, head = 0, first
         place = table.find((level, head, 0))
-        while place is not None and keys(table.blocks[place])[0] <= sought:
+        while place is not None and table.nodes(table.blocks[place])[0][0] <= sought:
             way.append(place)
-            first = max(key for key in keys(table.blocks[place]) if key <= sought)
+            first = max(key for key, *_ in table.nodes(table.blocks[place]) if key <= sought)
             chunk += 1
             place = table.find((level, head, chunk))
     return way

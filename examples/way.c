@@ -8,8 +8,8 @@
 #include <stdio.h>
 #include <stdlib.h>
 
-/* The longest table there is, and room for the longest path in it. */
-static uint8_t table[BALLUCHAW_LENGTH(32, 65535)], path[2 * 65535];
+/* The longest table there is, which is of version 2, and room for the longest path in it. */
+static uint8_t table[BALLUCHAW_LENGTH(2, 32, 65535)], path[2 * 65535];
 
 static void must(int right, const char *what) {
     if (right) return;
@@ -28,14 +28,16 @@ static size_t load(const char *name) {
     return length;
 }
 
-/* A key that is not held has a way too: the path is written, and counted, with 9. */
+/* A key that is not held has a way too: the path is written, and counted, with 9. Price 0 says that the table is version 1, which has none. */
 static void print_way(size_t length, uint32_t key) {
     balluchaw_reply found = balluchaw_descent(table, length, key, path, sizeof path);
     must(found.number == 0 || found.number == 9, "no such order number can be");
     printf("%u:", (unsigned)key);
     for (const uint8_t *block = path; block < path + 2 * found.count; block += 2) printf(" %u", (unsigned)block[0] << 8 | block[1]);
-    if (found.number == 0) printf("; %u of %u displayed\n", (unsigned)found.displayed, (unsigned)found.total);
-    else printf("; not held\n");
+    if (found.number == 9) printf("; not held");
+    else printf("; %u of %u displayed", (unsigned)found.displayed, (unsigned)found.total);
+    if (found.price != 0) printf(", at %u", (unsigned)found.price);
+    printf("\n");
 }
 
 int main(int count, char **words) {

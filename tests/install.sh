@@ -1,6 +1,7 @@
 #!/usr/bin/env bash
-# Installs into build/prefix, compares the calls that archive, header and manual have, compiles the examples and the code that the README and the manual show
-# by what pkg-config says alone, runs them and the program, and uninstalls: no file may be left, nor any touched that was there before.
+# Installs into build/prefix, compares the calls that archive, header and manual have, with their arguments and questions, compiles the examples and the code
+# that the README and the manual show by what pkg-config says alone, runs them and the program, and uninstalls: no file may be left, nor any touched that was
+# there before.
 set -euo pipefail
 cd "$(dirname "$0")/.."
 scripts/need python3:python3 nm:binutils
@@ -18,6 +19,37 @@ calls=$(nm -g --defined-only "$prefix/lib/libballuchaw.a" | grep ' T ' | names)
 grep -o '^[a-z].* balluchaw_[a-z]*(' "$prefix/include/balluchaw.h" | names | diff <(echo "$calls") -
 sed -n '/^\.SH NAME/,/^\.SH SYNOPSIS/p' "$prefix/share/man/man3/balluchaw.3" | names | diff <(echo "$calls") -
 sed -n '/^\.SH SYNOPSIS/,/^\.SH DESCRIPTION/p' "$prefix/share/man/man3/balluchaw.3" | names | diff <(echo "$calls") -
+
+# Header and manual declare each call and macro alike, say of each call the same questions in the same order, and tell of the same numbers, each of which
+# some call asks.
+python3 - "$prefix/include/balluchaw.h" "$prefix/share/man/man3/balluchaw.3" <<'PY'
+import re, shlex, sys
+header, manual = (open(name).read() for name in sys.argv[1:])
+synopsis = manual[manual.index(".SH SYNOPSIS"):manual.index(".SH DESCRIPTION")]
+synopsis = "".join("".join(shlex.split(line[4:])) + "\n" for line in synopsis.splitlines() if line.startswith(".BI "))
+result = r"(?:uint32_t|balluchaw_reply) balluchaw_\w+"
+
+def declared(text, macro):
+    calls = re.findall(result + r"\([^)]*\);", re.sub(r"\s+", " ", text))
+    return sorted(calls + re.findall(macro + r"(BALLUCHAW_\w+\([^)]*\))", text))
+
+def asked(pairs):
+    return {name: re.findall(r"\d+", re.search(r"\bAsks [^.]*\.", text)[0]) for name, text in pairs}
+
+in_header = asked((name, text) for text, name in re.findall(r"/\*((?:(?!\*/).)*)\*/\n(?=" + result + r")\w+ (\w+)", header, re.S))
+in_manual = asked(re.findall(r"^\.BR (balluchaw_\w+) \(\)\n(.*?)^\.(?:TP|SH)", manual, re.S | re.M))
+numbers = re.findall(r"^ \*  +(\d+)  ", header, re.M)
+pairs = {
+    "declarations": (declared(header, "#define "), declared(synopsis, "size_t ")),
+    "questions": (in_header, in_manual),
+    "calls with questions": (sorted(in_header), sorted(re.findall(r"(\w+)\(", " ".join(re.findall(result + r"\(", header))))),
+    "numbers": (numbers, re.findall(r"^ ?([1-9]\d*)  ", manual, re.M)),
+    "numbers that are asked": (set(numbers), {number for asks in in_header.values() for number in asks}),
+}
+for what, (one, other) in pairs.items():
+    if one != other or not one:
+        sys.exit(f"{what}: {one} in the header, {other} beside it")
+PY
 
 cc=${CC:-cc}
 strict=(-std=c11 -O2 -Wall -Wextra -Werror)
@@ -48,30 +80,42 @@ sed -n '/^\.EX/,/^\.EE/p' man/balluchaw.3 | sed '/^\.E[XE]/d; s/\\e/\\/g; s/\\-/
 for chance in '' "$kit/chance"; do
     for name in gateway readme manual; do compile "$kit/$name" ${chance:+"$chance"}; done
     timeout 20 "$kit/gateway" "$kit/orders.table" | diff examples/gateway.out -
-    timeout 20 "$kit/readme" | diff <(echo "4711: 100 of 500 displayed") -
-    timeout 20 "$kit/manual" | diff <(printf '%s\n' "100 of 500 displayed" "4711: 400 in reserve" "4720: 600 in reserve") -
+    timeout 20 "$kit/readme" | diff <(echo "4711: 100 of 500 displayed, at 995") -
+    timeout 20 "$kit/manual" | diff <(printf '%s\n' "100 of 500 displayed, at 995" "4711: 400 in reserve" "4720: 600 in reserve") -
 done
 
-# The ways down that the kit's descents write, beside those of the reader in Python, which searches by docs/format.md: in the gateway's file, and in a
-# table whose partitions have many chunks. There the way to each order has to give its quantities too.
+# The ways down that the kit's descents write, beside those of the reader in Python, which searches by docs/format.md: in the gateway's file, and in tables
+# of both versions whose partitions have many chunks. There the way to each order has to give its quantities and its price too.
 cp examples/way.c "$kit/"
 compile "$kit/way"
 ways() { "$kit/way" "$@" | sed 's/;.*//'; }
 read_ways() { for key in "${@:2}"; do echo "$key: $(examples/reader.py "$1" path "$key")"; done; }
-build/reference/release/sample 10 2 400 400 80 >"$kit/sample.table"
-examples/reader.py "$kit/sample.table" >"$kit/orders"
-read -ra held <<<"$(cut -d ' ' -f 1 "$kit/orders" | tr '\n' ' ')"
-"$kit/way" "$kit/sample.table" "${held[@]}" | sed 's/^\(.*\): .*; \(.*\) of \(.*\) displayed$/\1 \3 \2/' | diff "$kit/orders" -
-[ ${#held[@]} -eq 400 ]
-some=(1 2147483646)
-for i in 0 57 114 171 228 285 342 399; do some+=("${held[i]}" $((held[i] - 1)) $((held[i] + 1))); done
-ways "$kit/sample.table" "${some[@]}" | diff <(read_ways "$kit/sample.table" "${some[@]}") -
+tried=0
+for version in 1 2; do
+    if [ $version = 1 ]; then priced=(); else priced=(priced); fi
+    build/reference/release/sample 10 2 400 400 80 "${priced[@]}" >"$kit/sample.table"
+    examples/reader.py "$kit/sample.table" >"$kit/orders"
+    read -ra held <<<"$(cut -d ' ' -f 1 "$kit/orders" | tr '\n' ' ')"
+    "$kit/way" "$kit/sample.table" "${held[@]}" | sed 's/^\(.*\): .*; \(.*\) of \(.*\) displayed/\1 \3 \2/; s/, at / /' | diff "$kit/orders" -
+    [ ${#held[@]} -eq 400 ]
+    [ "$(wc -w <"$kit/orders")" -eq $((400 * (2 + version))) ]
+    some=(1 2147483646)
+    for i in 0 57 114 171 228 285 342 399; do some+=("${held[i]}" $((held[i] - 1)) $((held[i] + 1))); done
+    ways "$kit/sample.table" "${some[@]}" | diff <(read_ways "$kit/sample.table" "${some[@]}") -
+    tried=$((tried + ${#some[@]}))
+done
 ways "$kit/orders.table" 4711 4712 4716 | diff <(read_ways "$kit/orders.table" 4711 4712 4716) -
 
-# The header by itself, as older C and as C++; and the gateway as C++.
-for language in "c -std=c99" "c++ -std=c++11"; do
+# The header by itself and its macros, as C and as C++, old and newer; and the gateway as C++.
+cat > "$kit/lengths.c" <<'C'
+#include <balluchaw.h>
+typedef char right[BALLUCHAW_LENGTH(1, 2, 4) == 181 && BALLUCHAW_LENGTH(2, 2, 4) == 213 && BALLUCHAW_ROW(1) == 12 && BALLUCHAW_ROW(2) == 16 ? 1 : -1];
+size_t longest(uint32_t version, uint32_t nodes, int blocks);
+size_t longest(uint32_t version, uint32_t nodes, int blocks) { return BALLUCHAW_LENGTH(version, nodes, blocks) + BALLUCHAW_ROW(version); }
+C
+for language in "c -std=c99" "c -std=c11" "c++ -std=c++11" "c++ -std=c++17"; do
     read -ra words <<<"$language"
-    echo '#include <balluchaw.h>' | clang -x "${words[@]}" -Wall -Wextra -Wpedantic -Werror "${flags[@]}" -fsyntax-only -
+    clang -x "${words[@]}" -Wall -Wextra -Wpedantic -Wconversion -Werror "${flags[@]}" -fsyntax-only "$kit/lengths.c"
 done
 clang -x c++ -std=c++11 -Wall -Wextra -Wpedantic -Werror "${flags[@]}" -fsyntax-only "$kit/gateway.c"
 
@@ -101,4 +145,4 @@ MAKEFLAGS= make --no-print-directory --silent uninstall PREFIX="$prefix"
 left=$(find "$prefix" ! -type d ! -name 'other.*')
 [ -z "$left" ] || { echo "left behind: $left"; exit 1; }
 [ "$(cat "$prefix"/lib/other.a "$prefix"/share/man/man3/other.3)" = $'not ours\nnot ours' ]
-echo "install: $installed files put in place, $(wc -l <<<"$calls") calls in archive, header and manual, the examples compiled with pkg-config and run, ${#some[@]} ways down as the reader finds them, all $installed files taken away again"
+echo "install: $installed files put in place, $(wc -l <<<"$calls") calls in archive, header and manual, the examples compiled with pkg-config and run, $tried ways down as the reader finds them, all $installed files taken away again"

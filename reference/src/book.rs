@@ -2,9 +2,11 @@
 //! each with its questions after 4" (document 02, request A.4).
 //!
 //! "It is given the sizes and seed of make and then each call in turn with its
-//! arguments, but no reply and no byte of the table."
+//! arguments, but no reply and no byte of the table." The version is given too; "there
+//! an order has its price, and amend replaces it along with the quantities" (request
+//! A.6).
 
-use crate::lists::{chunks, lists, Orders, Quantities};
+use crate::lists::{chunks, lists, Order, Orders};
 use crate::sizes::{Made, P};
 
 /// "Its state is a set of orders, empty at first."
@@ -31,12 +33,14 @@ impl Book {
         &self.orders
     }
 
-    /// Questions 5, 6, 13, 7 and 8. If none turns the enter down, "the order is
+    /// Questions 14, 5, 6, 13, 7 and 8. If none turns the enter down, "the order is
     /// added". Gives the number of the question that turns it down, or 0.
-    pub fn enter(&mut self, key: u32, total: u32, displayed: u32) -> u32 {
+    pub fn enter(&mut self, key: u32, new: Order) -> u32 {
+        let [fourteen, five, six] = self.first_questions(key, &new);
         let questions = [
-            (5, (1..=P - 1).contains(&key)),
-            (6, total >= 1 && displayed <= total),
+            fourteen,
+            five,
+            six,
             (13, !self.orders.contains_key(&key)),
             (7, self.n() < self.made.sizes.orders),
         ];
@@ -45,7 +49,7 @@ impl Book {
             return refusal;
         }
         let mut resulting = self.orders.clone();
-        resulting.insert(key, Quantities { total, displayed });
+        resulting.insert(key, new);
         let chunks = chunks(&self.made, &lists(&self.made, &resulting)).len();
         if chunks > self.made.sizes.blocks as usize {
             return 8;
@@ -54,19 +58,27 @@ impl Book {
         0
     }
 
-    /// Questions 5, 6 and 9. If none turns the amend down, the order "replaces the
-    /// one with its key".
-    pub fn amend(&mut self, key: u32, total: u32, displayed: u32) -> u32 {
-        let questions = [
-            (5, (1..=P - 1).contains(&key)),
-            (6, total >= 1 && displayed <= total),
-            (9, self.orders.contains_key(&key)),
-        ];
-        let refusal = first_no(&questions);
+    /// Questions 14, 5, 6 and 9. If none turns the amend down, the order "replaces
+    /// the one with its key".
+    pub fn amend(&mut self, key: u32, new: Order) -> u32 {
+        let [fourteen, five, six] = self.first_questions(key, &new);
+        let nine = (9, self.orders.contains_key(&key));
+        let refusal = first_no(&[fourteen, five, six, nine]);
         if refusal == 0 {
-            self.orders.insert(key, Quantities { total, displayed });
+            self.orders.insert(key, new);
         }
         refusal
+    }
+
+    /// What both ask first.
+    fn first_questions(&self, key: u32, new: &Order) -> [(u32, bool); 3] {
+        let version = self.made.sizes.version;
+        let quantities = new.total >= 1 && new.displayed <= new.total;
+        [
+            (14, version == 2 || new.price == 0),
+            (5, (1..=P - 1).contains(&key)),
+            (6, quantities && (version == 1 || new.price >= 1)),
+        ]
     }
 
     /// "Questions 5 and 9 are asked of this set. If neither turns it down, that

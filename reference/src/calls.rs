@@ -1,26 +1,27 @@
 //! The calls on byte buffers ("Calls and their questions"), the descent of
 //! document 02's request A.1, seek by the reserve of its request A.2 and with the
-//! lowest order by its request A.5, and enter and amend, which its request A.4 has
-//! in place of put.
+//! lowest order by its request A.5, enter and amend, which its request A.4 has in
+//! place of put, and the price of its request A.6.
 //!
 //! "Questions run in this order; the first "no" ends the call with its number.
 //! All other parts of that answer are 0 and no lent byte changes. Success is 0."
 //! Only a descent's 9 writes and gives a count.
 
-use crate::image::{held, image, is_image, obeys_rule_1};
-use crate::lists::{lowest_with, Orders, Quantities};
+use crate::image::{held, image, is_image, obeys_rule_1, write_row};
+use crate::lists::{lowest_with, Order, Orders};
 use crate::paths::{path, NUMBER};
-use crate::sizes::{are_quantities, is_key, Made, Seed, Sizes, NODE};
+use crate::sizes::{is_key, Made, Seed, Sizes};
 
-/// An answer. A lookup or descent that succeeds repeats the key; how many orders
-/// a span wrote, or blocks a descent, stands in `count`; what a call does not
-/// give is 0.
+/// An answer. A lookup or descent that succeeds repeats the key; "Lookup, descent
+/// and seek give the price too" (request A.6), 0 in version 1; how many orders a span
+/// wrote, or blocks a descent, stands in `count`; what a call does not give is 0.
 #[derive(Clone, Copy, Debug, Default, PartialEq, Eq)]
 pub struct Reply {
     pub number: u32,
     pub key: u32,
     pub total: u32,
     pub displayed: u32,
+    pub price: u32,
     pub count: u32,
 }
 
@@ -36,12 +37,12 @@ impl Reply {
         Reply::default()
     }
 
-    pub fn order(key: u32, quantities: &Quantities) -> Reply {
-        let Quantities { total, displayed } = *quantities;
+    pub fn order(key: u32, order: &Order) -> Reply {
         Reply {
             key,
-            total,
-            displayed,
+            total: order.total,
+            displayed: order.displayed,
+            price: order.price,
             ..Reply::default()
         }
     }
@@ -59,20 +60,8 @@ impl Reply {
 }
 
 /// Make: 1, 2, 3. "It then overwrites every byte with the image of no orders."
-pub fn make(
-    gamma: u32,
-    nodes: u32,
-    orders: u32,
-    blocks: u32,
-    seed: &[u8],
-    table: &mut [u8],
-) -> Reply {
-    let sizes = Sizes {
-        gamma,
-        nodes,
-        orders,
-        blocks,
-    };
+pub fn make(sizes: &Sizes, seed: &[u8], table: &mut [u8]) -> Reply {
+    let sizes = *sizes;
     let seed = match Seed::from_bytes(seed) {
         Some(seed) => seed,
         None => return Reply::refused(1),
@@ -97,9 +86,9 @@ pub fn check(table: &[u8]) -> Reply {
 }
 
 /// Enter, by request A.4: "takes a key that is not held and asks 4, 5, 6, 13, 7,
-/// 8"; 13 is "is the key free?"
-pub fn enter(table: &mut [u8], key: u32, total: u32, displayed: u32) -> Reply {
-    let (made, mut orders) = match ask_4_5_6(table, key, total, displayed) {
+/// 8"; 13 is "is the key free?" By request A.6 it asks 14 after 4.
+pub fn enter(table: &mut [u8], key: u32, new: Order) -> Reply {
+    let (made, mut orders) = match ask_4_14_5_6(table, key, &new) {
         Ok(held) => held,
         Err(refusal) => return refusal,
     };
@@ -109,7 +98,7 @@ pub fn enter(table: &mut [u8], key: u32, total: u32, displayed: u32) -> Reply {
     if orders.len() >= made.sizes.orders as usize {
         return Reply::refused(7);
     }
-    orders.insert(key, Quantities { total, displayed });
+    orders.insert(key, new);
     match image(&made, &orders) {
         Some(after) => {
             table.copy_from_slice(&after);
@@ -120,32 +109,37 @@ pub fn enter(table: &mut [u8], key: u32, total: u32, displayed: u32) -> Reply {
 }
 
 /// Amend, by request A.4: "replaces the quantities of a held one and asks 4, 5, 6,
-/// 9".
-pub fn amend(table: &mut [u8], key: u32, total: u32, displayed: u32) -> Reply {
-    let (made, mut orders) = match ask_4_5_6(table, key, total, displayed) {
+/// 9". By request A.6 it asks 14 after 4, and replaces the price "along with the
+/// quantities".
+pub fn amend(table: &mut [u8], key: u32, new: Order) -> Reply {
+    let (made, mut orders) = match ask_4_14_5_6(table, key, &new) {
         Ok(held) => held,
         Err(refusal) => return refusal,
     };
     if !orders.contains_key(&key) {
         return Reply::refused(9);
     }
-    orders.insert(key, Quantities { total, displayed });
+    orders.insert(key, new);
     let after = image(&made, &orders);
     table.copy_from_slice(&after.expect("the keys are the same, so the chunks are as many"));
     Reply::done()
 }
 
-/// The first questions of enter and amend. What the table is made with and holds,
-/// or the refusal.
-fn ask_4_5_6(table: &[u8], key: u32, total: u32, displayed: u32) -> Result<(Made, Orders), Reply> {
-    let held = held(table).ok_or(Reply::refused(4))?;
+/// The first questions of enter and amend; 14 is "is the price 0 when the table is
+/// version 1?" What the table is made with and holds, or the refusal.
+fn ask_4_14_5_6(table: &[u8], key: u32, new: &Order) -> Result<(Made, Orders), Reply> {
+    let (made, orders) = held(table).ok_or(Reply::refused(4))?;
+    let version = made.sizes.version;
+    if version == 1 && new.price != 0 {
+        return Err(Reply::refused(14));
+    }
     if !is_key(key) {
         return Err(Reply::refused(5));
     }
-    if !are_quantities(total, displayed) {
+    if !new.is_allowed(version) {
         return Err(Reply::refused(6));
     }
-    Ok(held)
+    Ok((made, orders))
 }
 
 /// Cancel: 4, 5, 9.
@@ -165,7 +159,8 @@ pub fn cancel(table: &mut [u8], key: u32) -> Reply {
     Reply::done()
 }
 
-/// Lookup: 4, 5, 9. "Lookup gives total and displayed."
+/// Lookup: 4, 5, 9. "Lookup gives total and displayed", and by request A.6 "the price
+/// too".
 pub fn lookup(table: &[u8], key: u32) -> Reply {
     let orders = match held(table) {
         Some((_, orders)) => orders,
@@ -175,7 +170,7 @@ pub fn lookup(table: &[u8], key: u32) -> Reply {
         return Reply::refused(5);
     }
     match orders.get(&key) {
-        Some(quantities) => Reply::order(key, quantities),
+        Some(order) => Reply::order(key, order),
         None => Reply::refused(9),
     }
 }
@@ -203,7 +198,7 @@ pub fn descent(table: &[u8], key: u32, output: &mut [u8]) -> Option<Reply> {
         place.copy_from_slice(&block.to_be_bytes());
     }
     let reply = match orders.get(&key) {
-        Some(quantities) => Reply::order(key, quantities),
+        Some(order) => Reply::order(key, order),
         None => Reply::refused(9),
     };
     Some(reply.with_count(path.len()))
@@ -218,10 +213,11 @@ pub fn stays_within(reply: &Reply, before: &[u8], after: &[u8]) -> bool {
 }
 
 /// Span: 4, 5, 10, 11. "It writes key, total, displayed of each, rising, and
-/// gives their number; output bytes beyond them keep their values."
+/// gives their number; output bytes beyond them keep their values." By request A.6
+/// "Span rows in version 2 have 16 bytes, and 11 counts those."
 pub fn span(table: &[u8], lo: u32, hi: u32, output: &mut [u8]) -> Reply {
-    let orders = match held(table) {
-        Some((_, orders)) => orders,
+    let (version, orders) = match held(table) {
+        Some((made, orders)) => (made.sizes.version, orders),
         None => return Reply::refused(4),
     };
     if !is_key(lo) || !is_key(hi) {
@@ -230,16 +226,15 @@ pub fn span(table: &[u8], lo: u32, hi: u32, output: &mut [u8]) -> Reply {
     if lo > hi {
         return Reply::refused(10);
     }
-    let count = orders.range(lo..=hi).count();
-    if output.len() < NODE * count {
+    let mut rows = Vec::new();
+    for (&key, order) in orders.range(lo..=hi) {
+        write_row(version, key, order, &mut rows);
+    }
+    if output.len() < rows.len() {
         return Reply::refused(11);
     }
-    for ((key, order), place) in orders.range(lo..=hi).zip(output.chunks_exact_mut(NODE)) {
-        place[0..4].copy_from_slice(&key.to_be_bytes());
-        place[4..8].copy_from_slice(&order.total.to_be_bytes());
-        place[8..12].copy_from_slice(&order.displayed.to_be_bytes());
-    }
-    Reply::count(count)
+    output[..rows.len()].copy_from_slice(&rows);
+    Reply::count(orders.range(lo..=hi).count())
 }
 
 /// Seek: 4, 5, 10, 12. By request A.5 "It must give the order with the smallest

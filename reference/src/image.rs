@@ -1,16 +1,13 @@
 //! The bytes of a table and when they are an image ("Bytes of the table",
 //! "When bytes are an image").
 
-use crate::lists::{chunks, home, lists, Chunk, Label, Orders, Quantities};
+use crate::lists::{chunks, home, lists, Chunk, Label, Order, Orders};
 use crate::sizes::{
-    are_quantities, is_key, number_at, short_at, Made, Seed, Sizes, BLOCK_HEAD, FRONT, HEADER,
-    NODE, SEED,
+    is_key, number_at, row, short_at, Made, Seed, Sizes, BLOCK_HEAD, FRONT, HEADER, SEED,
 };
 
-/// "version, 1".
-pub const VERSION: u8 = 1;
-
-/// Places of the header fields; the version is at 0.
+/// Places of the header fields.
+const VERSION_AT: usize = 0;
 const LENGTH_AT: usize = 1;
 const GAMMA_AT: usize = 5;
 const NODES_AT: usize = 6;
@@ -69,7 +66,7 @@ pub fn table(made: &Made, held: usize, arrangement: &Arrangement) -> Vec<u8> {
 /// Bytes 0..52.
 fn write_header(made: &Made, held: usize, bytes: &mut Vec<u8>) {
     let sizes = &made.sizes;
-    bytes.push(VERSION);
+    bytes.push(sizes.version as u8);
     bytes.extend((sizes.length() as u32).to_be_bytes());
     bytes.push(sizes.gamma as u8);
     bytes.push(sizes.nodes as u8);
@@ -80,8 +77,8 @@ fn write_header(made: &Made, held: usize, bytes: &mut Vec<u8>) {
 }
 
 /// "A block: level (1 byte), node count (1), chunk number (2), first key of the
-/// partition (4), then B nodes of key, total, displayed (4 each). [..] Unused
-/// nodes are zero. An empty block is all zero."
+/// partition (4), then B nodes [..]. Unused nodes are zero. An empty block is all
+/// zero."
 fn write_block(sizes: &Sizes, chunk: Option<&Chunk>, bytes: &mut Vec<u8>) {
     let end = bytes.len() + sizes.block_length();
     if let Some(Chunk { label, nodes }) = chunk {
@@ -90,22 +87,24 @@ fn write_block(sizes: &Sizes, chunk: Option<&Chunk>, bytes: &mut Vec<u8>) {
         bytes.extend((label.chunk_number as u16).to_be_bytes());
         bytes.extend(label.first_key.to_be_bytes());
         for node in *nodes {
-            write_node(label.level, node.key, node.quantities, bytes);
+            write_node(sizes.version, label.level, node.key, &node.order, bytes);
         }
     }
     bytes.resize(end, 0);
 }
 
-/// "Both quantities are 0 at levels above 1 and for the front", whose element
-/// has no others.
-fn write_node(level: u32, key: u32, quantities: Quantities, bytes: &mut Vec<u8>) {
-    let Quantities { total, displayed } = quantities;
-    let numbers = if level == 1 {
-        [key, total, displayed]
-    } else {
-        [key, 0, 0]
-    };
-    for number in numbers {
+/// "Both quantities are 0 at levels above 1 and for the front", and so is the price
+/// (request A.6). The front's element has no others.
+fn write_node(version: u32, level: u32, key: u32, order: &Order, bytes: &mut Vec<u8>) {
+    let none = Order::default();
+    write_row(version, key, if level == 1 { order } else { &none }, bytes);
+}
+
+/// A row of a span, and a node that has the order: "key, total, displayed" and in
+/// version 2 price, four bytes each.
+pub fn write_row(version: u32, key: u32, order: &Order, bytes: &mut Vec<u8>) {
+    let numbers = [key, order.total, order.displayed, order.price];
+    for number in &numbers[..row(version) / 4] {
         bytes.extend(number.to_be_bytes());
     }
 }
@@ -117,31 +116,42 @@ fn write_node(level: u32, key: u32, quantities: Quantities, bytes: &mut Vec<u8>)
 pub struct Block<'a> {
     pub label: Label,
     pub count: u32,
+    version: u32,
     bytes: &'a [u8],
 }
 
-/// A node as its bytes say.
+/// A node as its bytes say. In version 1 "their price is 0".
 pub struct Node {
     pub key: u32,
-    pub quantities: Quantities,
+    pub order: Order,
 }
 
 impl Block<'_> {
     /// The counted nodes, no more than there are.
     pub fn nodes(&self) -> impl Iterator<Item = Node> + '_ {
-        let places = self.bytes[BLOCK_HEAD..].chunks_exact(NODE);
-        places.take(self.count as usize).map(|bytes| Node {
-            key: number_at(bytes, 0),
-            quantities: Quantities {
-                total: number_at(bytes, 4),
-                displayed: number_at(bytes, 8),
+        let places = self.bytes[BLOCK_HEAD..].chunks_exact(row(self.version));
+        places.take(self.count as usize).map(read_node)
+    }
+}
+
+/// A node of 12 or 16 bytes.
+fn read_node(bytes: &[u8]) -> Node {
+    Node {
+        key: number_at(bytes, 0),
+        order: Order {
+            total: number_at(bytes, 4),
+            displayed: number_at(bytes, 8),
+            price: if bytes.len() > 12 {
+                number_at(bytes, 12)
+            } else {
+                0
             },
-        })
+        },
     }
 }
 
 /// The head of a block as it stands; None for an empty block, which "is all zero".
-fn read_block(bytes: &[u8]) -> Option<Block<'_>> {
+fn read_block(version: u32, bytes: &[u8]) -> Option<Block<'_>> {
     let empty = bytes.iter().all(|&byte| byte == 0);
     (!empty).then(|| Block {
         label: Label {
@@ -150,6 +160,7 @@ fn read_block(bytes: &[u8]) -> Option<Block<'_>> {
             chunk_number: short_at(bytes, 2),
         },
         count: u32::from(bytes[1]),
+        version,
         bytes,
     })
 }
@@ -158,7 +169,7 @@ fn read_block(bytes: &[u8]) -> Option<Block<'_>> {
 fn read_blocks<'a>(sizes: &Sizes, table: &'a [u8]) -> Vec<Option<Block<'a>>> {
     table[HEADER..]
         .chunks_exact(sizes.block_length())
-        .map(read_block)
+        .map(|bytes| read_block(sizes.version, bytes))
         .collect()
 }
 
@@ -168,13 +179,14 @@ pub fn blocks(table: &[u8]) -> Option<Vec<Option<Block<'_>>>> {
     Some(read_blocks(&header.made.sizes, table))
 }
 
-/// The sizes as they stand and a seed that make allows. None when there are
+/// Version and sizes as they stand and a seed that make allows. None when there are
 /// fewer than 53 bytes or the seed is none.
 fn read_made(table: &[u8]) -> Option<Made> {
     if table.len() < HEADER {
         return None;
     }
     let sizes = Sizes {
+        version: u32::from(table[VERSION_AT]),
         gamma: u32::from(table[GAMMA_AT]),
         nodes: u32::from(table[NODES_AT]),
         orders: short_at(table, ORDERS_AT),
@@ -206,7 +218,7 @@ pub fn held(table: &[u8]) -> Option<(Made, Orders)> {
         .map(|block| block.map(|block| block.label))
         .collect();
     let obeyed = orders.len() == held
-        && are_orders(&orders)
+        && are_orders(made.sizes.version, &orders)
         && rule_2(&made, &orders, &blocks)
         && rule_3(&made, &labels);
     obeyed.then_some((made, orders))
@@ -220,13 +232,12 @@ struct Header {
 
 /// "There are at least 53 bytes, the version is 1, the sizes and seed numbers are
 /// ones that make allows, the length field has the value above and equals the
-/// lent length, and n ≤ N."
+/// lent length, and n ≤ N." By request A.6 the version, too, is one that make allows.
 fn rule_1(table: &[u8]) -> Option<Header> {
     let made = read_made(table)?;
     let length = number_at(table, LENGTH_AT) as usize;
     let held = short_at(table, HELD_AT);
-    let obeyed = table[0] == VERSION
-        && made.sizes.allowed()
+    let obeyed = made.sizes.allowed()
         && length == made.sizes.length()
         && length == table.len()
         && held <= made.sizes.orders;
@@ -246,14 +257,14 @@ fn level_1_orders(blocks: &[Option<Block>]) -> Orders {
     let nodes = level_1
         .flat_map(Block::nodes)
         .filter(|node| node.key != FRONT);
-    nodes.map(|node| (node.key, node.quantities)).collect()
+    nodes.map(|node| (node.key, node.order)).collect()
 }
 
-/// "key 1..p−1, total 1..4,294,967,295, displayed 0..total", all of them.
-fn are_orders(orders: &Orders) -> bool {
+/// Whether all of them are orders of a table of this version, "key 1..p−1".
+fn are_orders(version: u32, orders: &Orders) -> bool {
     orders
         .iter()
-        .all(|(&key, order)| is_key(key) && are_quantities(order.total, order.displayed))
+        .all(|(&key, order)| is_key(key) && order.is_allowed(version))
 }
 
 /// "The non-empty blocks, in the byte form above, are exactly the chunks of the
@@ -318,7 +329,7 @@ pub fn is_image_by_rebuilding(table: &[u8]) -> bool {
         return false;
     }
     let orders = level_1_orders(&read_blocks(&made.sizes, table));
-    are_orders(&orders)
+    are_orders(made.sizes.version, &orders)
         && orders.len() <= made.sizes.orders as usize
         && image(&made, &orders).as_deref() == Some(table)
 }

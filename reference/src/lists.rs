@@ -3,14 +3,22 @@
 use crate::sizes::{Made, FRONT, P};
 use std::collections::BTreeMap;
 
-/// The two quantities of an order.
-#[derive(Clone, Copy, Debug, PartialEq, Eq)]
-pub struct Quantities {
+/// An order beside its key. In version 1 the price is 0.
+#[derive(Clone, Copy, Debug, Default, PartialEq, Eq)]
+pub struct Order {
     pub total: u32,
     pub displayed: u32,
+    pub price: u32,
 }
 
-impl Quantities {
+impl Order {
+    /// "total 1..4,294,967,295, displayed 0..total", and by request A.6 "a limit
+    /// price, 1..4,294,967,295 ticks", which version 1 has not: there 14 asks for 0.
+    pub fn is_allowed(&self, version: u32) -> bool {
+        let is_priced = version == 1 || self.price >= 1;
+        self.total >= 1 && self.displayed <= self.total && is_priced
+    }
+
     /// "0: wholly hidden".
     pub fn is_hidden(&self) -> bool {
         self.displayed == 0
@@ -29,12 +37,12 @@ impl Quantities {
 }
 
 /// A set of orders, by key.
-pub type Orders = BTreeMap<u32, Quantities>;
+pub type Orders = BTreeMap<u32, Order>;
 
 /// What a seek gives, by request A.5: "the order with the smallest key in lo..hi
 /// that has the reserve", which is one of r or more. None where no order there has
 /// it.
-pub fn lowest_with(orders: &Orders, lo: u32, hi: u32, r: u32) -> Option<(u32, Quantities)> {
+pub fn lowest_with(orders: &Orders, lo: u32, hi: u32, r: u32) -> Option<(u32, Order)> {
     orders
         .iter()
         .map(|(&key, &order)| (key, order))
@@ -43,11 +51,12 @@ pub fn lowest_with(orders: &Orders, lo: u32, hi: u32, r: u32) -> Option<(u32, Qu
         .min_by_key(|&(key, _)| key)
 }
 
-/// An element of a list: the front or a held key. The front's quantities are 0.
+/// An element of a list: the front or a held key. The front "is no order": the
+/// numbers of its order are 0.
 #[derive(Clone, Copy, Debug, PartialEq, Eq)]
 pub struct Element {
     pub key: u32,
-    pub quantities: Quantities,
+    pub order: Order,
     pub level: u32,
 }
 
@@ -87,21 +96,13 @@ pub fn lists(made: &Made, orders: &Orders) -> Vec<List> {
 
 /// The front and all held keys, rising.
 fn all_elements(made: &Made, orders: &Orders) -> List {
-    let element = |key, quantities| Element {
+    let element = |key, order| Element {
         key,
-        quantities,
+        order,
         level: made.level(key),
     };
-    let front = element(
-        FRONT,
-        Quantities {
-            total: 0,
-            displayed: 0,
-        },
-    );
-    let held = orders
-        .iter()
-        .map(|(&key, &quantities)| element(key, quantities));
+    let front = element(FRONT, Order::default());
+    let held = orders.iter().map(|(&key, &order)| element(key, order));
     std::iter::once(front).chain(held).collect()
 }
 

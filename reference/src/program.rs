@@ -2,11 +2,15 @@
 
 use crate::calls::{self, Reply};
 use crate::image::{self, Block};
-use crate::sizes::{number_at, Sizes, NODE};
+use crate::lists::Order;
+use crate::sizes::{number_at, row, Sizes};
 use std::io::{self, BufRead, Write};
 
 /// "a table over 65,536 bytes" is not made, so no span is longer either.
 pub const BUFFER: usize = 65_536;
+
+/// "The program keeps to version 1" (document 02, request A.6).
+const VERSION: u32 = 1;
 
 /// The whole output for a whole input.
 pub fn program(input: &[u8]) -> Vec<u8> {
@@ -88,6 +92,7 @@ fn read_line(line: &[u8]) -> Option<Line> {
     match (word, fields.as_slice()) {
         (b"make", &[gamma, nodes, orders, blocks, ref seed @ ..]) if seed.len() == 10 => {
             let sizes = Sizes {
+                version: VERSION,
                 gamma,
                 nodes,
                 orders,
@@ -194,13 +199,7 @@ impl Console {
     fn make(&mut self, sizes: &Sizes, seed: &[u8]) -> u32 {
         let length = if sizes.allowed() { sizes.length() } else { 0 };
         let mut table = vec![0; length];
-        let Sizes {
-            gamma,
-            nodes,
-            orders,
-            blocks,
-        } = *sizes;
-        let reply = calls::make(gamma, nodes, orders, blocks, seed, &mut table);
+        let reply = calls::make(sizes, seed, &mut table);
         if reply.number == 0 {
             self.table = table;
         }
@@ -214,7 +213,8 @@ impl Console {
             return writeln!(output, "{}", reply.number);
         }
         writeln!(output, "0 {}", reply.count)?;
-        for order in self.found.chunks_exact(NODE).take(reply.count as usize) {
+        let rows = self.found.chunks_exact(row(VERSION));
+        for order in rows.take(reply.count as usize) {
             let [key, total, displayed] = [0, 4, 8].map(|place| number_at(order, place));
             writeln!(output, "{key} {total} {displayed}")?;
         }
@@ -228,7 +228,12 @@ impl Console {
 pub fn put(table: &mut [u8], key: u32, total: u32, displayed: u32) -> Reply {
     let is_held = calls::lookup(table, key).number == 0;
     let call = if is_held { calls::amend } else { calls::enter };
-    call(table, key, total, displayed)
+    let new = Order {
+        total,
+        displayed,
+        price: 0,
+    };
+    call(table, key, new)
 }
 
 /// "`blocks` prints 0, then for each block its number and either `-` or level,

@@ -1,7 +1,7 @@
 //! Made-up numbers for the vectors, the tests and the benchmarks, the same on every run.
 
 use crate::image::image;
-use crate::lists::{chunks, lists, Orders, Quantities};
+use crate::lists::{chunks, lists, Order, Orders};
 use crate::sizes::{Made, Seed, Sizes, P};
 
 /// A xorshift generator with 64 bits of state, never 0.
@@ -126,9 +126,10 @@ pub fn some_seed(generator: &mut Xorshift) -> Seed {
     }
 }
 
-/// Any total and displayed that an order may have, the edges often: hidden,
-/// displayed whole, and as little displayed as leaves the greatest reserve.
-pub fn some_quantities(generator: &mut Xorshift) -> (u32, u32) {
+/// Any order that a table of this version may have, the edges often: hidden,
+/// displayed whole, as little displayed as leaves the greatest reserve; the lowest
+/// price and the highest.
+pub fn some_order(generator: &mut Xorshift, version: u32) -> Order {
     let total = match generator.below(4) {
         0 => 1,
         1 => u32::MAX,
@@ -141,7 +142,26 @@ pub fn some_quantities(generator: &mut Xorshift) -> (u32, u32) {
         5 => total,
         _ => generator.within(0, total),
     };
-    (total, displayed)
+    let price = if version == 1 {
+        0
+    } else {
+        some_price(generator)
+    };
+    Order {
+        total,
+        displayed,
+        price,
+    }
+}
+
+/// Any price of version 2, the edges often.
+pub fn some_price(generator: &mut Xorshift) -> u32 {
+    match generator.below(6) {
+        0 => 1,
+        1 => u32::MAX,
+        2 => generator.within(1, 200),
+        _ => generator.within(1, u32::MAX),
+    }
 }
 
 /// The seed of a made-up table.
@@ -169,30 +189,20 @@ impl Shape {
     }
 }
 
-/// The image of `held` made-up orders, at most `orders`, in as many blocks as make
-/// the chunks `percent` of them.
-pub fn sample(
-    gamma: u32,
-    nodes: u32,
-    orders: u32,
-    held: u32,
-    percent: u32,
-    shape: Shape,
-) -> Vec<u8> {
+/// The image of `held` made-up orders, at most N, with these version, γ, B and N, in
+/// as many blocks as make the chunks `percent` of them.
+pub fn sample(sizes: &Sizes, held: u32, percent: u32, shape: Shape) -> Vec<u8> {
     let mut generator = Xorshift::new(u64::from(held));
     let seed = shape.seed(&mut generator);
     let mut book = Orders::new();
     while book.len() < held as usize {
-        let (total, displayed) = some_quantities(&mut generator);
-        book.insert(generator.within(1, P - 1), Quantities { total, displayed });
+        let order = some_order(&mut generator, sizes.version);
+        book.insert(generator.within(1, P - 1), order);
     }
-    let sizes = Sizes {
-        gamma,
-        nodes,
-        orders,
-        blocks: 0,
+    let mut made = Made {
+        sizes: *sizes,
+        seed,
     };
-    let mut made = Made { sizes, seed };
     let count = chunks(&made, &lists(&made, &book)).len() as u32;
     made.sizes.blocks = ((count * 100 + percent - 1) / percent).max(made.sizes.beta());
     assert!(made.sizes.allowed(), "{} chunks, {sizes:?}", count);

@@ -2,7 +2,7 @@
 
 use crate::calls::Reply;
 use crate::image::held;
-use crate::lists::{chunks, lists, Chunk, Label, Orders, Quantities};
+use crate::lists::{chunks, lists, Chunk, Label, Order, Orders};
 use crate::samples::Xorshift;
 use crate::sizes::Made;
 
@@ -15,7 +15,7 @@ pub fn some_seek(generator: &mut Xorshift, orders: &Orders, range: (u32, u32)) -
     } else {
         range
     };
-    let inside: Vec<Quantities> = orders
+    let inside: Vec<Order> = orders
         .iter()
         .filter(|(&key, _)| lo <= key && key <= hi)
         .map(|(_, &order)| order)
@@ -54,7 +54,7 @@ fn any_reserve(generator: &mut Xorshift) -> u32 {
 }
 
 /// An r at and just beyond what an order has in reserve, and what it has in all.
-fn reserve_near(generator: &mut Xorshift, order: &Quantities) -> u32 {
+fn reserve_near(generator: &mut Xorshift, order: &Order) -> u32 {
     let (reserve, total) = (order.reserve(), order.total);
     let up_to_total = generator.within(1, total);
     generator.pick(&[
@@ -111,7 +111,7 @@ pub const SEEKS: [(&str, fn(&Sought) -> bool); 23] = [
     }),
     ("an order behind the lowest", |s| s.passed().is_some()),
     ("an order behind the lowest, which lacks one", |s| {
-        let lacks_one = |order: &Quantities| order.reserve() > 0 && order.reserve() + 1 == s.r;
+        let lacks_one = |order: &Order| order.reserve() > 0 && order.reserve() + 1 == s.r;
         s.passed().map_or(false, |(_, order)| lacks_one(order))
     }),
     (
@@ -191,47 +191,47 @@ impl Sought {
         self.reply.number == 12
     }
 
-    fn given(&self) -> Option<&Quantities> {
+    fn given(&self) -> Option<&Order> {
         self.orders.get(&self.reply.key)
     }
 
     /// The orders in lo..hi, rising.
-    fn inside(&self) -> impl Iterator<Item = (u32, &Quantities)> {
+    fn inside(&self) -> impl Iterator<Item = (u32, &Order)> {
         let range = self.orders.range(self.lo..=self.hi);
         range.map(|(&key, order)| (key, order))
     }
 
     /// Those that have the reserve.
-    fn having(&self) -> impl Iterator<Item = &Quantities> {
+    fn having(&self) -> impl Iterator<Item = &Order> {
         let orders = self.inside().map(|(_, order)| order);
         orders.filter(move |order| order.reserve() >= self.r)
     }
 
-    fn any(&self, suits: impl Fn(&Quantities) -> bool) -> bool {
+    fn any(&self, suits: impl Fn(&Order) -> bool) -> bool {
         self.inside().any(|(_, order)| suits(order))
     }
 
     /// Whether some hidden order in lo..hi suits, by its key and total.
     fn any_hidden(&self, suits: impl Fn(u32, u32) -> bool) -> bool {
-        let suits = |(key, order): (u32, &Quantities)| order.is_hidden() && suits(key, order.total);
+        let suits = |(key, order): (u32, &Order)| order.is_hidden() && suits(key, order.total);
         self.inside().any(suits)
     }
 
     /// Whether the order given is so beside another that has the reserve, which is
     /// not 0.
-    fn compares(&self, so: fn(&Quantities, &Quantities) -> bool) -> bool {
+    fn compares(&self, so: fn(&Order, &Order) -> bool) -> bool {
         let so_given = |given| self.having().any(|other| so(given, other));
         self.r > 0 && self.given().map_or(false, so_given)
     }
 
     /// The lowest order in lo..hi, whether or not it has the reserve.
-    fn lowest(&self) -> Option<(u32, &Quantities)> {
+    fn lowest(&self) -> Option<(u32, &Order)> {
         self.inside().next()
     }
 
     /// The lowest order in lo..hi where another is given.
-    fn passed(&self) -> Option<(u32, &Quantities)> {
-        let is_passed = |&(key, _): &(u32, &Quantities)| !self.is_12() && key != self.reply.key;
+    fn passed(&self) -> Option<(u32, &Order)> {
+        let is_passed = |&(key, _): &(u32, &Order)| !self.is_12() && key != self.reply.key;
         self.lowest().filter(is_passed)
     }
 

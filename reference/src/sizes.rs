@@ -6,15 +6,27 @@ pub const P: u32 = 2_147_483_647;
 /// The front element's key; it "is no order".
 pub const FRONT: u32 = 0;
 
-/// Bytes of the header, of a block's head, of a node and of a seed.
+/// Bytes of the header, of a block's head and of a seed.
 pub const HEADER: usize = 53;
 pub const BLOCK_HEAD: usize = 8;
-pub const NODE: usize = 12;
 pub const SEED: usize = 40;
 
-/// γ, B, N and M.
+/// Bytes of a node and of a span's row: "key, total, displayed (4 each)"; other
+/// versions than 1 have "key, total, displayed, price, 16 bytes each" (document 02,
+/// request A.6).
+pub fn row(version: u32) -> usize {
+    if version == 1 {
+        12
+    } else {
+        16
+    }
+}
+
+/// What make is asked for beside the seed: the version, γ, B, N and M.
 #[derive(Clone, Copy, Debug, PartialEq, Eq)]
 pub struct Sizes {
+    /// 1 or 2
+    pub version: u32,
     /// γ
     pub gamma: u32,
     /// B, nodes in a block
@@ -26,10 +38,12 @@ pub struct Sizes {
 }
 
 impl Sizes {
-    /// γ 2..64, B 2..32, N 1..65,535, M β..65,535.
+    /// "Make takes the version, 1 or 2, another answering 2" (document 02, request
+    /// A.6). γ 2..64, B 2..32, N 1..65,535, M β..65,535.
     pub fn allowed(&self) -> bool {
         // β has a meaning only once γ and N are in range.
-        (2..=64).contains(&self.gamma)
+        (1..=2).contains(&self.version)
+            && (2..=64).contains(&self.gamma)
             && (2..=32).contains(&self.nodes)
             && (1..=65_535).contains(&self.orders)
             && (self.beta()..=65_535).contains(&self.blocks)
@@ -48,10 +62,11 @@ impl Sizes {
 
     /// Bytes of one block.
     pub fn block_length(&self) -> usize {
-        BLOCK_HEAD + NODE * self.nodes as usize
+        BLOCK_HEAD + row(self.version) * self.nodes as usize
     }
 
-    /// "length of the table in bytes, 53 + M·(8 + 12·B)".
+    /// "length of the table in bytes, 53 + M·(8 + 12·B)"; in version 2 "53 + M·(8 +
+    /// 16·B)".
     pub fn length(&self) -> usize {
         HEADER + self.blocks as usize * self.block_length()
     }
@@ -98,7 +113,8 @@ impl Seed {
     }
 }
 
-/// What a table is made with: "the sizes and seed of make".
+/// What a table is made with: "the sizes and seed of make", and its version, which
+/// the image and the plain book "are given too" (document 02, request A.6).
 #[derive(Clone, Copy, Debug, PartialEq, Eq)]
 pub struct Made {
     pub sizes: Sizes,
@@ -126,11 +142,6 @@ impl Made {
 /// "key 1..p−1".
 pub fn is_key(key: u32) -> bool {
     (1..P).contains(&key)
-}
-
-/// "total 1..4,294,967,295, displayed 0..total".
-pub fn are_quantities(total: u32, displayed: u32) -> bool {
-    total >= 1 && displayed <= total
 }
 
 /// Four bytes big-endian.

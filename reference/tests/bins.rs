@@ -2,11 +2,12 @@
 
 mod common;
 
-use common::is_full;
+use common::{is_full, priced};
 use reference::calls::{self, Reply};
 use reference::program::program;
 use reference::samples::fnv_1a;
 use reference::seeks::{Sought, SEEKS};
+use reference::sizes::Sizes;
 use std::collections::{BTreeMap, BTreeSet};
 use std::io::Write;
 use std::process::{Command, Stdio};
@@ -79,10 +80,11 @@ fn vectors_are_the_same_every_time() {
 #[derive(Default)]
 struct Reader {
     store: Vec<u8>,
-    /// How often each word, each number, and each number of each call came.
+    /// How often each word, each number, and each number of each call in each version
+    /// came.
     words: BTreeMap<String, u32>,
     numbers: BTreeMap<u32, u32>,
-    pairs: BTreeMap<(String, u32), u32>,
+    pairs: BTreeMap<(String, u32, u32), u32>,
     /// Descents whose answer no definition decides.
     undecided: u32,
     full: u32,
@@ -94,14 +96,20 @@ struct Reader {
     last: String,
 }
 
-/// Enters and amends where a later question has a "no" too, or a table is full.
-const TICKETS: [&str; 6] = [
+/// Enters and amends where a later question has a "no" too, where the price decides, or
+/// where a table is full.
+const TICKETS: [&str; 11] = [
     "13 on a table with N orders",
     "13 on a table with M chunks",
     "an amend on a table with N orders",
     "an amend on a table with M chunks",
     "6 to an enter of a held key",
     "6 to an amend of a free key",
+    "14 with a bad key",
+    "14 with bad quantities",
+    "5 with price 0 in version 2",
+    "6 by the price alone",
+    "an amend of the price alone",
 ];
 
 fn number(field: &str) -> u32 {
@@ -156,17 +164,22 @@ impl Reader {
             key,
             total,
             displayed,
+            price,
             count,
         } = reply;
-        let mut found = format!("{number} {key} {total} {displayed} {count} {store:016x}");
+        let mut found = format!("{number} {key} {total} {displayed} {price} {count} {store:016x}");
         if ["span", "descent"].contains(&asked[0]) {
             found += &format!(" {:016x}", fnv_1a(&output));
         }
         assert_eq!(found, answer, "{line}");
         *self.numbers.entry(number).or_default() += 1;
-        let pair = (asked[0].to_string(), number);
+        let version = match asked[0] {
+            "make" => asked[1].parse().unwrap(),
+            _ => before[0].into(),
+        };
+        let pair = (asked[0].to_string(), version, number);
         *self.pairs.entry(pair).or_default() += 1;
-        if ["enter", "amend"].contains(&asked[0]) && ![4, 5].contains(&number) {
+        if ["enter", "amend"].contains(&asked[0]) && number != 4 {
             self.full += u32::from(number == 0 && is_full(&self.store[..place(asked[1])]).1);
             self.count_ticket(&asked, number, &before);
         }
@@ -179,9 +192,13 @@ impl Reader {
 
     fn count_ticket(&mut self, asked: &[&str], answer: u32, before: &[u8]) {
         let table = &before[..place(asked[1])];
-        let held = calls::lookup(table, number(asked[2])).number == 0;
+        let own = calls::lookup(table, number(asked[2]));
+        let held = own.number == 0;
         let (n_orders, m_chunks) = is_full(table);
         let amend = asked[0] == "amend";
+        let [total, displayed, price] = [3, 4, 5].map(|field| number(asked[field]));
+        let bad = total == 0 || displayed > total;
+        let same = (total, displayed) == (own.total, own.displayed);
         let kinds = [
             answer == 13 && n_orders,
             answer == 13 && m_chunks,
@@ -189,6 +206,11 @@ impl Reader {
             answer == 0 && amend && m_chunks,
             answer == 6 && !amend && held,
             answer == 6 && amend && !held,
+            answer == 14 && own.number == 5,
+            answer == 14 && bad,
+            answer == 5 && price == 0 && table[0] == 2,
+            answer == 6 && !bad,
+            answer == 0 && amend && same && price != own.price,
         ];
         for (count, met) in self.tickets.iter_mut().zip(kinds) {
             *count += u32::from(met);
@@ -210,21 +232,27 @@ impl Reader {
         let mut output = Vec::new();
         let store = &mut self.store;
         let reply = match *asked {
-            ["make", gamma, nodes, orders, blocks, seed, length] => {
-                let sizes = [gamma, nodes, orders, blocks].map(number);
+            ["make", version, gamma, nodes, orders, blocks, seed, length] => {
+                let sizes = Sizes {
+                    version: number(version),
+                    gamma: number(gamma),
+                    nodes: number(nodes),
+                    orders: number(orders),
+                    blocks: number(blocks),
+                };
                 let seed = unhex(seed);
                 self.odd_seeds += u32::from(seed.len() != 40);
-                let table = &mut store[..place(length)];
-                calls::make(sizes[0], sizes[1], sizes[2], sizes[3], &seed, table)
+                calls::make(&sizes, &seed, &mut store[..place(length)])
             }
             ["check", length] => calls::check(&store[..place(length)]),
-            [word @ ("enter" | "amend"), length, key, total, displayed] => {
+            [word @ ("enter" | "amend"), length, key, total, displayed, price] => {
                 let table = &mut store[..place(length)];
                 let call = match word {
                     "enter" => calls::enter,
                     _ => calls::amend,
                 };
-                call(table, number(key), number(total), number(displayed))
+                let [total, displayed, price] = [total, displayed, price].map(number);
+                call(table, number(key), priced(total, displayed, price))
             }
             ["cancel", length, key] => calls::cancel(&mut store[..place(length)], number(key)),
             ["lookup", length, key] => calls::lookup(&store[..place(length)], number(key)),
@@ -250,8 +278,8 @@ impl Reader {
 const CALLS: [(&str, &[u32]); 9] = [
     ("make", &[0, 1, 2, 3]),
     ("check", &[0, 4]),
-    ("enter", &[0, 4, 5, 6, 7, 8, 13]),
-    ("amend", &[0, 4, 5, 6, 9]),
+    ("enter", &[0, 4, 5, 6, 7, 8, 13, 14]),
+    ("amend", &[0, 4, 5, 6, 9, 14]),
     ("cancel", &[0, 4, 5, 9]),
     ("lookup", &[0, 4, 5, 9]),
     ("descent", &[0, 4, 5, 9, 11]),
@@ -259,15 +287,22 @@ const CALLS: [(&str, &[u32]); 9] = [
     ("seek", &[0, 4, 5, 10, 12]),
 ];
 
-/// Reads a run and sees that every call gave all its numbers, and that every kind of
-/// seek is there.
+/// Reads a run and sees that every call gave all its numbers in either version, and
+/// that every kind of seek is there.
 fn read(text: &str) -> Reader {
     let mut reader = Reader::default();
     text.lines().for_each(|line| reader.line(line));
-    for (call, numbers) in CALLS {
-        for &number in numbers {
-            let times = reader.pairs.get(&(call.to_string(), number));
-            assert!(times.is_some(), "{call} never answered {number}");
+    for version in [1, 2] {
+        for (call, numbers) in CALLS {
+            for &number in numbers {
+                let times = reader.pairs.get(&(call.to_string(), version, number));
+                let can = (version, number) != (2, 14);
+                assert_eq!(
+                    times.is_some(),
+                    can,
+                    "{call} answered {number} in {version}"
+                );
+            }
         }
     }
     for ((kind, _), times) in SEEKS.iter().zip(reader.seeks) {
@@ -292,7 +327,7 @@ fn vectors_can_be_read() {
         let times = reader.words.get(word).copied().unwrap_or(0);
         assert!(times >= 15, "{word}: {times}");
     }
-    for number in 0..=13 {
+    for number in 0..=14 {
         let times = reader.numbers.get(&number).copied().unwrap_or(0);
         assert!(times >= 7, "{number}: {times}");
     }

@@ -3,11 +3,13 @@
 
 mod common;
 
-use common::{damaged_table, document, found, full_table, made_table, refused};
+use common::{
+    damaged_table, document, found, full_table, in_version, made_table, priced, refused, sizes,
+};
 use reference::calls::{cancel, check, enter, lookup, make, span, Reply};
 use reference::image::is_image;
 use reference::samples::identity_seed;
-use reference::sizes::{Made, Sizes, P};
+use reference::sizes::{Made, P};
 
 /// Where several questions have the answer "no", the first one's number is given.
 #[test]
@@ -15,11 +17,12 @@ fn make_asks_in_order() {
     let seed = identity_seed().bytes();
     let mut large = seed.clone();
     large[0] = 0xff;
+    let (right, wrong) = (sizes(2, 2, 2, 4), sizes(1, 2, 2, 4));
     let wrong_length = vec![9; 180];
     let length = vec![9; 181];
     for seed in [&seed[..39], &large[..], &[]] {
-        assert_eq!(refused(&wrong_length, |t| make(1, 2, 2, 4, seed, t)), 1);
-        assert_eq!(refused(&length, |t| make(2, 2, 2, 4, seed, t)), 1);
+        assert_eq!(refused(&wrong_length, |t| make(&wrong, seed, t)), 1);
+        assert_eq!(refused(&length, |t| make(&right, seed, t)), 1);
     }
     for (gamma, nodes, orders, blocks) in [
         (1, 2, 2, 4),
@@ -28,23 +31,24 @@ fn make_asks_in_order() {
         (2, 2, 2, 2),
         (2, 2, 2, 65_536),
     ] {
-        let call = |table: &mut [u8]| make(gamma, nodes, orders, blocks, &seed, table);
+        let wrong = sizes(gamma, nodes, orders, blocks);
+        let call = |table: &mut [u8]| make(&wrong, &seed, table);
         assert_eq!(refused(&wrong_length, call), 2);
         assert_eq!(refused(&length, call), 2);
     }
     for length in [0, 1, 53, 180, 182, 213] {
-        assert_eq!(refused(&vec![9; length], |t| make(2, 2, 2, 4, &seed, t)), 3);
+        assert_eq!(refused(&vec![9; length], |t| make(&right, &seed, t)), 3);
     }
     let mut table = length;
-    assert_eq!(make(2, 2, 2, 4, &seed, &mut table), Reply::done());
+    assert_eq!(make(&right, &seed, &mut table), Reply::done());
     assert_eq!(table, made_table(&document()));
 }
 
 #[test]
 fn make_overwrites_a_used_table() {
     let mut table = full_table();
-    let seed = identity_seed().bytes();
-    assert_eq!(make(2, 2, 2, 4, &seed, &mut table), Reply::done());
+    let Made { sizes, seed } = document();
+    assert_eq!(make(&sizes, &seed.bytes(), &mut table), Reply::done());
     assert_eq!(table, made_table(&document()));
     assert!(is_image(&table));
 }
@@ -121,6 +125,7 @@ fn span_writes_rising_orders_and_no_more() {
         key: 0,
         total: 0,
         displayed: 0,
+        price: 0,
         count: 2,
     };
     assert_eq!(span(&table, 3, 6, &mut output), two);
@@ -136,20 +141,17 @@ fn span_writes_rising_orders_and_no_more() {
 
 /// The largest sizes of all, and the length field of such a table.
 #[test]
-fn the_largest_table() {
-    let sizes = Sizes {
-        gamma: 64,
-        nodes: 32,
-        orders: 65_535,
-        blocks: 65_535,
-    };
+fn the_largest_tables() {
     let made = Made {
-        sizes,
+        sizes: sizes(64, 32, 65_535, 65_535),
         seed: identity_seed(),
     };
-    let mut table = made_table(&made);
-    assert_eq!(table.len(), 53 + 65_535 * (8 + 12 * 32));
-    assert_eq!(table[1..5], (table.len() as u32).to_be_bytes());
-    assert_eq!(enter(&mut table, P - 1, u32::MAX, 1), Reply::done());
-    assert_eq!(lookup(&table, P - 1), found(P - 1, u32::MAX, 1));
+    for (version, row, price) in [(1, 12, 0), (2, 16, u32::MAX)] {
+        let mut table = made_table(&in_version(version, made));
+        assert_eq!(table.len(), 53 + 65_535 * (8 + row * 32));
+        assert_eq!(table[1..5], (table.len() as u32).to_be_bytes());
+        let order = priced(u32::MAX, 1, price);
+        assert_eq!(enter(&mut table, P - 1, order), Reply::done());
+        assert_eq!(lookup(&table, P - 1), Reply::order(P - 1, &order));
+    }
 }

@@ -8,7 +8,7 @@ use reference::calls;
 use reference::image::{image, is_image, is_image_by_rebuilding, table};
 use reference::lists::{chunks, lists, Orders};
 use reference::samples::{identity_seed, zero_seed, Xorshift};
-use reference::sizes::{Made, P};
+use reference::sizes::{row, Made, P};
 
 /// What both ways say; they must agree.
 fn judged(table: &[u8]) -> bool {
@@ -143,7 +143,7 @@ fn spoil(generator: &mut Xorshift, made: &Made, table: &mut [u8]) {
         generator.below(blocks) as usize,
     );
     let (one, two) = (53 + one * width, 53 + two * width);
-    match generator.below(6) {
+    match generator.below(7) {
         0 => {
             for i in 0..width {
                 table.swap(one + i, two + i);
@@ -153,11 +153,24 @@ fn spoil(generator: &mut Xorshift, made: &Made, table: &mut [u8]) {
         2 => table[one..one + width].fill(0),
         3 => table[53..].rotate_right(width),
         4 => {
-            let number = generator.below(3 * made.sizes.nodes.min(5)) as usize;
+            let numbers = row(made.sizes.version) as u32 / 4;
+            let number = generator.below(numbers * made.sizes.nodes.min(5)) as usize;
             let value = generator.pick(&[0, 1, 2, 3, P - 1, P, u32::MAX]);
             table[one + 8 + 4 * number..][..4].copy_from_slice(&value.to_be_bytes());
         }
-        _ => table[11..13].copy_from_slice(&(generator.below(70) as u16).to_be_bytes()),
+        5 => table[11..13].copy_from_slice(&(generator.below(70) as u16).to_be_bytes()),
+        _ => other_version(table, made),
+    }
+}
+
+/// The other version; with the B that leaves the blocks as long as they are, where
+/// there is one, so that rule 1 holds.
+fn other_version(table: &mut [u8], made: &Made) {
+    let version = 3 - made.sizes.version;
+    table[0] = version as u8;
+    let bytes = row(made.sizes.version) * made.sizes.nodes as usize;
+    if bytes % row(version) == 0 {
+        table[6] = (bytes / row(version)) as u8;
     }
 }
 
@@ -441,7 +454,7 @@ fn going_round_the_end() {
     // Levels 1 to 5 have the homes 7, 5, 3, 1, 8. Key 5 has level 5, so it opens
     // a partition at each of levels 1 to 4, and level 5 finds block 8 taken.
     assert_eq!(levels(&made, &table), [0, 4, 0, 3, 0, 2, 0, 1, 5]);
-    assert_eq!(calls::enter(&mut table, 5, 1, 1).number, 0);
+    assert_eq!(calls::enter(&mut table, 5, order(1, 1)).number, 0);
     assert_eq!(levels(&made, &table), [5, 4, 4, 3, 3, 2, 2, 1, 1]);
     assert!(judged(&table));
     for turn in 1..9 {
@@ -465,8 +478,8 @@ fn damaged_tables_answer_4() {
     let mut output = [7; 40];
     let numbers = [
         calls::check(&table).number,
-        calls::enter(&mut table, 3, 1, 1).number,
-        calls::amend(&mut table, 3, 1, 1).number,
+        calls::enter(&mut table, 3, order(1, 1)).number,
+        calls::amend(&mut table, 3, order(1, 1)).number,
         calls::cancel(&mut table, 3).number,
         calls::lookup(&table, 3).number,
         calls::span(&table, 1, 9, &mut output).number,

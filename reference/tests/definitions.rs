@@ -9,7 +9,7 @@ use reference::lists::{chunks, home, lists, Label, Orders};
 use reference::samples::{
     identity_seed, largest_seed, power_seed, random_seed, seed_with, some_seed, Xorshift, EDGE_KEYS,
 };
-use reference::sizes::{is_key, Made, Seed, P};
+use reference::sizes::{is_key, Made, Seed, Sizes, P};
 
 // ---- the second way --------------------------------------------------------
 
@@ -129,14 +129,17 @@ fn slow_image(made: &Made, orders: &Orders, generator: &mut Xorshift) -> Vec<u8>
 type Placed = Option<((u32, u32, u32), Vec<u32>)>;
 
 fn slow_bytes(made: &Made, orders: &Orders, placed: &[Placed]) -> Vec<u8> {
-    let block_length = 8 + 12 * made.sizes.nodes as usize;
+    // Document 02, A.6: nodes of 16 bytes, the last four for the price.
+    let version = made.sizes.version;
+    let row = if version == 2 { 16 } else { 12 };
+    let block_length = 8 + row * made.sizes.nodes as usize;
     let length = 53 + placed.len() * block_length;
     let mut bytes = vec![0; length];
     let mut write = |place: usize, width: usize, number: u32| {
         let four = number.to_be_bytes();
         bytes[place..place + width].copy_from_slice(&four[4 - width..]);
     };
-    write(0, 1, 1);
+    write(0, 1, version);
     write(1, 4, length as u32);
     write(5, 1, made.sizes.gamma);
     write(6, 1, made.sizes.nodes);
@@ -158,10 +161,14 @@ fn slow_bytes(made: &Made, orders: &Orders, placed: &[Placed]) -> Vec<u8> {
         write(place + 2, 2, *chunk_number);
         write(place + 4, 4, *first_key);
         for (i, key) in keys.iter().enumerate() {
-            write(place + 8 + 12 * i, 4, *key);
+            let node = place + 8 + row * i;
+            write(node, 4, *key);
             if *level == 1 && *key != 0 {
-                write(place + 12 + 12 * i, 4, orders[key].total);
-                write(place + 16 + 12 * i, 4, orders[key].displayed);
+                write(node + 4, 4, orders[key].total);
+                write(node + 8, 4, orders[key].displayed);
+                if version == 2 {
+                    write(node + 12, 4, orders[key].price);
+                }
             }
         }
     }
@@ -494,7 +501,10 @@ fn images_end_at_the_number_of_blocks() {
     for _ in 0..3000 {
         let made = some_made(&mut generator);
         let loose = Made {
-            sizes: sizes(made.sizes.gamma, made.sizes.nodes, made.sizes.orders, 2000),
+            sizes: Sizes {
+                blocks: 2000,
+                ..made.sizes
+            },
             ..made
         };
         let orders = some_orders(&mut generator, &loose, 60);

@@ -60,6 +60,7 @@ fn the_document_s_run() {
         key: 3,
         total: 100,
         displayed: 20,
+        price: 0,
         count: 3,
     };
     assert_eq!(ask(&table, 3, 6), (three, vec![3, 1, 0]));
@@ -68,6 +69,7 @@ fn the_document_s_run() {
         key: 6,
         total: 50,
         displayed: 50,
+        price: 0,
         count: 3,
     };
     assert_eq!(ask(&table, 6, 6), (six, vec![3, 1, 2]));
@@ -265,6 +267,7 @@ fn nine_writes_its_path() {
         key: 0,
         total: 0,
         displayed: 0,
+        price: 0,
         count: 3,
     };
     assert_eq!(descent(&full_table(), 4, &mut output), Some(nine));

@@ -2,7 +2,7 @@
 
 mod common;
 
-use common::{document, full_table, made_table, order, sizes};
+use common::{document, found, full_table, made_table, order, sizes};
 use reference::calls::{self, Reply};
 use reference::image::{blocks, image, is_image};
 use reference::lists::{home, Label, Orders};
@@ -57,18 +57,6 @@ fn p4() -> Vec<Shown> {
     ]
 }
 
-fn make(sizes: &Sizes, seed: &[u8], table: &mut [u8]) -> u32 {
-    calls::make(
-        sizes.gamma,
-        sizes.nodes,
-        sizes.orders,
-        sizes.blocks,
-        seed,
-        table,
-    )
-    .number
-}
-
 #[test]
 fn full_run() {
     assert_eq!(program(RUN.as_bytes()), RUN_OUTPUT.as_bytes());
@@ -96,8 +84,8 @@ fn bytes_of_the_full_run() {
     let expected: Vec<u8> = digits.chunks(2).map(byte).collect();
 
     let mut table = made_table(&document());
-    calls::enter(&mut table, 6, 50, 50);
-    calls::enter(&mut table, 3, 100, 20);
+    calls::enter(&mut table, 6, order(50, 50));
+    calls::enter(&mut table, 3, order(100, 20));
     assert_eq!(table, expected);
     assert!(is_image(&expected));
 }
@@ -129,10 +117,16 @@ fn p4_either_order() {
     let mut one = made_table(&document());
     let mut two = one.clone();
     for (key, total, displayed) in orders {
-        assert_eq!(calls::enter(&mut one, key, total, displayed), Reply::done());
+        assert_eq!(
+            calls::enter(&mut one, key, order(total, displayed)),
+            Reply::done()
+        );
     }
     for (key, total, displayed) in orders.into_iter().rev() {
-        assert_eq!(calls::enter(&mut two, key, total, displayed), Reply::done());
+        assert_eq!(
+            calls::enter(&mut two, key, order(total, displayed)),
+            Reply::done()
+        );
     }
     assert_eq!(one, two);
     assert_eq!(shown(&one), p4());
@@ -152,9 +146,9 @@ fn p5_cancel_clears_the_node() {
 #[test]
 fn p6_five_chunks() {
     let mut table = made_table(&document());
-    assert_eq!(calls::enter(&mut table, 3, 1, 0).number, 0);
+    assert_eq!(calls::enter(&mut table, 3, order(1, 0)).number, 0);
     let before = table.clone();
-    assert_eq!(calls::enter(&mut table, 4, 1, 0), Reply::refused(8));
+    assert_eq!(calls::enter(&mut table, 4, order(1, 0)), Reply::refused(8));
     assert_eq!(table, before);
 }
 
@@ -163,14 +157,23 @@ fn p7_keys_at_the_edges() {
     let empty = made_table(&document());
     for key in [0, 2_147_483_647] {
         let mut table = empty.clone();
-        assert_eq!(calls::enter(&mut table, key, 1, 0), Reply::refused(5));
-        assert_eq!(calls::amend(&mut table, key, 1, 0), Reply::refused(5));
+        assert_eq!(
+            calls::enter(&mut table, key, order(1, 0)),
+            Reply::refused(5)
+        );
+        assert_eq!(
+            calls::amend(&mut table, key, order(1, 0)),
+            Reply::refused(5)
+        );
         assert_eq!(calls::cancel(&mut table, key), Reply::refused(5));
         assert_eq!(calls::lookup(&table, key), Reply::refused(5));
         assert_eq!(table, empty);
     }
     let mut table = empty;
-    assert_eq!(calls::enter(&mut table, 2_147_483_646, 1, 0), Reply::done());
+    assert_eq!(
+        calls::enter(&mut table, 2_147_483_646, order(1, 0)),
+        Reply::done()
+    );
     assert_eq!(document().level(2_147_483_646), 2);
     let label = Label {
         level: 1,
@@ -187,15 +190,12 @@ fn p7_keys_at_the_edges() {
 #[test]
 fn p8_quantities() {
     let mut table = made_table(&document());
-    assert_eq!(calls::enter(&mut table, 3, 100, 101), Reply::refused(6));
-    assert_eq!(calls::enter(&mut table, 3, 100, 100), Reply::done());
-    let found = Reply {
-        key: 3,
-        total: 100,
-        displayed: 100,
-        ..Reply::done()
-    };
-    assert_eq!(calls::lookup(&table, 3), found);
+    assert_eq!(
+        calls::enter(&mut table, 3, order(100, 101)),
+        Reply::refused(6)
+    );
+    assert_eq!(calls::enter(&mut table, 3, order(100, 100)), Reply::done());
+    assert_eq!(calls::lookup(&table, 3), found(3, 100, 100));
 }
 
 #[test]
@@ -208,16 +208,15 @@ fn p9_seed_numbers_and_blocks() {
             bytes
         };
         let mut table = vec![0; sizes.length()];
-        assert_eq!(make(&sizes, &with(P), &mut table), 1);
+        assert_eq!(calls::make(&sizes, &with(P), &mut table).number, 1);
         assert_eq!(table, vec![0; sizes.length()]);
-        assert_eq!(make(&sizes, &with(P - 1), &mut table), 0);
+        assert_eq!(calls::make(&sizes, &with(P - 1), &mut table).number, 0);
     }
     for (blocks, number) in [(2, 2), (3, 0)] {
         let sizes = Sizes { blocks, ..sizes };
-        assert_eq!(
-            make(&sizes, &seed.bytes(), &mut vec![0; sizes.length()]),
-            number
-        );
+        let mut table = vec![0; sizes.length()];
+        let reply = calls::make(&sizes, &seed.bytes(), &mut table);
+        assert_eq!(reply.number, number);
     }
 }
 
@@ -225,7 +224,7 @@ fn p9_seed_numbers_and_blocks() {
 fn run_only() {
     let mut table = made_table(&document());
     assert_eq!(calls::span(&table, 1, P - 1, &mut []), Reply::count(0));
-    calls::enter(&mut table, 3, 100, 20);
+    calls::enter(&mut table, 3, order(100, 20));
     let mut eleven = [7; 11];
     assert_eq!(
         calls::span(&table, 1, P - 1, &mut eleven),
@@ -244,7 +243,7 @@ fn run_only() {
 fn later_chunks_are_pulled_back() {
     let mut table = made_table(&document());
     let empty = table.clone();
-    calls::enter(&mut table, 6, 50, 50);
+    calls::enter(&mut table, 6, order(50, 50));
     // Key 6's level 1 chunk stands between those of levels 1 and 3.
     assert_eq!(shown(&table)[2], Some((1, 0, 6, vec![6])));
     calls::cancel(&mut table, 6);

@@ -9,12 +9,12 @@ use common::{
 };
 use reference::calls::{amend, cancel, enter, lookup, Reply};
 use reference::image::{held, image};
-use reference::lists::{Orders, Quantities};
+use reference::lists::Orders;
 use reference::program::put;
-use reference::samples::{some_quantities, Xorshift};
-use reference::sizes::{number_at, Made, P};
+use reference::samples::{some_order, some_price, Xorshift};
+use reference::sizes::{number_at, row, Made, P};
 
-/// Quantities that 6 turns down.
+/// Order that 6 turns down.
 const BAD: [(u32, u32); 4] = [(0, 0), (0, 1), (1, 2), (u32::MAX - 1, u32::MAX)];
 
 /// Keys 3 and 6, room for one order more, and every block used.
@@ -48,24 +48,27 @@ fn the_tables_are_full_as_they_are_called() {
 // ---- questions -------------------------------------------------------------
 
 /// 4 before 5 before 6, whatever comes after: on a full table, of a key that is
-/// held and of one that is not.
+/// held and of one that is not. versions.rs has 14 between 4 and 5.
 #[test]
 fn both_ask_4_5_6_first() {
     for call in [enter, amend] {
         for (key, total, displayed) in [(3, 1, 1), (4, 1, 1), (0, 1, 1), (3, 0, 1), (0, 0, 1)] {
-            let ask = |table: &mut [u8]| call(table, key, total, displayed);
+            let ask = |table: &mut [u8]| call(table, key, order(total, displayed));
             assert_eq!(refused(&damaged_table(), ask), 4);
             assert_eq!(refused(&full_table()[..180], ask), 4);
             assert_eq!(refused(&[], ask), 4);
         }
         for table in [full_table(), full_of_chunks(), made_table(&document())] {
             for key in [0, P, u32::MAX] {
-                assert_eq!(refused(&table, |t| call(t, key, 1, 1)), 5);
-                assert_eq!(refused(&table, |t| call(t, key, 0, 1)), 5);
+                assert_eq!(refused(&table, |t| call(t, key, order(1, 1))), 5);
+                assert_eq!(refused(&table, |t| call(t, key, order(0, 1))), 5);
             }
             for (total, displayed) in BAD {
                 for key in [3, 4, 6, P - 1] {
-                    assert_eq!(refused(&table, |t| call(t, key, total, displayed)), 6);
+                    assert_eq!(
+                        refused(&table, |t| call(t, key, order(total, displayed))),
+                        6
+                    );
                 }
             }
         }
@@ -83,7 +86,10 @@ fn enter_asks_13_before_7_and_8() {
     };
     for table in [full_table(), full_of_orders(), full_of_chunks(), half] {
         for (total, displayed) in [(100, 20), (1, 0), (u32::MAX, u32::MAX)] {
-            assert_eq!(refused(&table, |t| enter(t, 3, total, displayed)), 13);
+            assert_eq!(
+                refused(&table, |t| enter(t, 3, order(total, displayed))),
+                13
+            );
         }
     }
 }
@@ -91,12 +97,12 @@ fn enter_asks_13_before_7_and_8() {
 /// 7 before 8: key 4 is one order too many and makes too many chunks.
 #[test]
 fn enter_asks_7_before_8() {
-    assert_eq!(refused(&full_table(), |t| enter(t, 4, 10, 0)), 7);
-    assert_eq!(refused(&full_of_orders(), |t| enter(t, 4, 10, 0)), 7);
-    assert_eq!(refused(&full_of_chunks(), |t| enter(t, 4, 10, 0)), 8);
+    assert_eq!(refused(&full_table(), |t| enter(t, 4, order(10, 0))), 7);
+    assert_eq!(refused(&full_of_orders(), |t| enter(t, 4, order(10, 0))), 7);
+    assert_eq!(refused(&full_of_chunks(), |t| enter(t, 4, order(10, 0))), 8);
     let mut one = made_table(&document());
-    assert_eq!(enter(&mut one, 3, 100, 20), Reply::done());
-    assert_eq!(refused(&one, |t| enter(t, 4, 10, 0)), 8);
+    assert_eq!(enter(&mut one, 3, order(100, 20)), Reply::done());
+    assert_eq!(refused(&one, |t| enter(t, 4, order(10, 0))), 8);
 }
 
 /// Amend has 9 and nothing behind it.
@@ -110,7 +116,7 @@ fn amend_asks_9_last() {
     ];
     for table in tables {
         for key in [1, 2, 4, 5, 7, P - 1] {
-            assert_eq!(refused(&table, |t| amend(t, key, 10, 0)), 9);
+            assert_eq!(refused(&table, |t| amend(t, key, order(10, 0))), 9);
         }
     }
 }
@@ -120,58 +126,59 @@ fn amend_asks_9_last() {
 fn a_cancelled_key_is_free() {
     let mut table = full_table();
     assert_eq!(cancel(&mut table, 3), Reply::done());
-    assert_eq!(refused(&table, |t| amend(t, 3, 100, 20)), 9);
-    assert_eq!(enter(&mut table, 3, 100, 20), Reply::done());
+    assert_eq!(refused(&table, |t| amend(t, 3, order(100, 20))), 9);
+    assert_eq!(enter(&mut table, 3, order(100, 20)), Reply::done());
     assert_eq!(table, full_table());
 }
 
 // ---- what they leave -------------------------------------------------------
 
-/// No table is too full for an amend. Only the eight bytes behind the key change,
-/// and back again.
+/// No table is too full for an amend. Only the bytes behind the key change, and back
+/// again.
 #[test]
 fn amend_on_a_full_table() {
     for full in [full_table(), full_of_orders(), full_of_chunks()] {
         for (key, was) in [(3, order(100, 20)), (6, order(50, 50))] {
             let mut table = full.clone();
             for (total, displayed) in [(1, 0), (u32::MAX, u32::MAX), (7, 7), (7, 6), (8, 6)] {
-                assert_eq!(amend(&mut table, key, total, displayed), Reply::done());
+                assert_eq!(
+                    amend(&mut table, key, order(total, displayed)),
+                    Reply::done()
+                );
                 let found = Reply::order(key, &order(total, displayed));
                 assert_eq!(lookup(&table, key), found);
-                only_quantities_differ(&full, &table, key);
+                only_its_node_differs(&full, &table, key);
             }
-            assert_eq!(
-                amend(&mut table, key, was.total, was.displayed),
-                Reply::done()
-            );
+            assert_eq!(amend(&mut table, key, was), Reply::done());
             assert_eq!(table, full);
         }
     }
 }
 
-/// Whether the tables are equal but for the eight bytes behind this key, in the one
-/// node of level 1 that has it.
-fn only_quantities_differ(one: &[u8], two: &[u8], key: u32) {
+/// Whether the tables are equal but for the bytes behind this key, in the one node of
+/// level 1 that has it.
+fn only_its_node_differs(one: &[u8], two: &[u8], key: u32) {
     let (made, _) = held(one).expect("an image");
+    let width = row(made.sizes.version);
     let blocks = one[53..]
         .chunks_exact(made.sizes.block_length())
         .enumerate();
     let mut nodes = Vec::new();
     for (number, block) in blocks.filter(|(_, block)| block[0] == 1) {
         let start = 53 + number * made.sizes.block_length() + 8;
-        let places = (0..usize::from(block[1])).map(|node| start + 12 * node);
+        let places = (0..usize::from(block[1])).map(|node| start + width * node);
         nodes.extend(places.filter(|&place| number_at(one, place) == key));
     }
     assert_eq!(nodes.len(), 1, "nodes of level 1 with {key}");
     let node = nodes[0];
     assert_eq!(one.len(), two.len());
     assert_eq!(one[..node + 4], two[..node + 4]);
-    assert_eq!(one[node + 12..], two[node + 12..]);
+    assert_eq!(one[node + width..], two[node + width..]);
 }
 
-/// In many tables: an amend changes two numbers and nothing else, an order entered
-/// and amended leaves the bytes of one entered so at once, and the same quantities
-/// again leave every byte.
+/// In many tables: an amend changes the numbers behind its key and nothing else, an
+/// order entered and amended leaves the bytes of one entered so at once, and the same
+/// order again leaves every byte.
 #[test]
 fn amend_in_many_tables() {
     let mut generator = Xorshift::new(51);
@@ -182,18 +189,16 @@ fn amend_in_many_tables() {
         let table = image(&made, &orders).expect("they fit");
         let (n_orders, m_chunks) = is_full(&table);
         for (&key, &was) in &orders {
-            let (total, displayed) = some_quantities(&mut generator);
+            let new = some_order(&mut generator, made.sizes.version);
             let mut after = table.clone();
-            assert_eq!(
-                amend(&mut after, key, was.total, was.displayed),
-                Reply::done()
-            );
-            assert_eq!(after, table, "the quantities that are there");
-            assert_eq!(amend(&mut after, key, total, displayed), Reply::done());
-            only_quantities_differ(&table, &after, key);
+            assert_eq!(amend(&mut after, key, was), Reply::done());
+            assert_eq!(after, table, "the order that is there");
+            assert_eq!(amend(&mut after, key, new), Reply::done());
+            assert_eq!(lookup(&after, key), Reply::order(key, &new));
+            only_its_node_differs(&table, &after, key);
             let mut entered = table.clone();
             assert_eq!(cancel(&mut entered, key), Reply::done());
-            assert_eq!(enter(&mut entered, key, total, displayed), Reply::done());
+            assert_eq!(enter(&mut entered, key, new), Reply::done());
             assert_eq!(entered, after);
             amended += 1;
             with_n_orders += u32::from(n_orders);
@@ -209,7 +214,7 @@ fn amend_in_many_tables() {
 #[test]
 fn every_number_of_both() {
     let mut generator = Xorshift::new(52);
-    let mut met = [[0; 14]; 2];
+    let mut met = [[0; 15]; 2];
     for _ in 0..3000 {
         let made = some_made(&mut generator);
         let orders = some_orders(&mut generator, &made, 60);
@@ -218,19 +223,22 @@ fn every_number_of_both() {
             0 => generator.pick(&[0, P, u32::MAX]),
             _ => some_key(&mut generator, &made),
         };
-        let (total, displayed) = match generator.below(8) {
-            0 => generator.pick(&BAD),
-            _ => some_quantities(&mut generator),
-        };
+        let mut new = some_order(&mut generator, made.sizes.version);
+        if generator.one_in(8) {
+            (new.total, new.displayed) = generator.pick(&BAD);
+        }
+        if generator.one_in(8) {
+            new.price = some_price(&mut generator);
+        }
         if generator.one_in(10) {
             table[generator.below(53) as usize] ^= 0x55;
         }
         for (call, met) in [enter, amend].into_iter().zip(&mut met) {
-            let number = call(&mut table.clone(), key, total, displayed).number;
+            let number = call(&mut table.clone(), key, new).number;
             met[number as usize] += 1;
         }
     }
-    let numbers: [&[usize]; 2] = [&[0, 4, 5, 6, 7, 8, 13], &[0, 4, 5, 6, 9]];
+    let numbers: [&[usize]; 2] = [&[0, 4, 5, 6, 7, 8, 13, 14], &[0, 4, 5, 6, 9, 14]];
     for (numbers, met) in numbers.into_iter().zip(met) {
         for (number, times) in met.into_iter().enumerate() {
             let right = match numbers.contains(&number) {
@@ -291,7 +299,7 @@ fn every_put(made: &Made, set: &Orders, table: &[u8], met: &mut [u32; 14]) {
             let mut after = table.to_vec();
             let reply = put(&mut after, key, total, displayed);
             let mut wanted = set.clone();
-            let new = Quantities { total, displayed };
+            let new = order(total, displayed);
             let number = put_of_document_01(made, &mut wanted, key, new);
             assert_eq!(
                 reply,

@@ -4,22 +4,23 @@
 mod common;
 
 use common::{
-    made_table, order, put_of_document_01, sizes, some_key, some_made, some_orders, walked_path,
+    in_version, made_table, order, priced, put_of_document_01, sizes, some_key, some_made,
+    some_orders, walked_path,
 };
 use reference::book::Book;
 use reference::calls::{self, Reply};
 use reference::image::{image, is_image, is_image_by_rebuilding};
-use reference::lists::{Orders, Quantities};
-use reference::program::{program, put};
-use reference::samples::{random_seed, some_quantities, Xorshift, EDGE_KEYS};
+use reference::lists::{Order, Orders};
+use reference::program::program;
+use reference::samples::{random_seed, some_order, some_price, Xorshift, EDGE_KEYS};
 use reference::seeks::some_seek;
-use reference::sizes::{Made, P};
+use reference::sizes::{row, Made, P};
 
 #[derive(Clone, Copy, Debug)]
 enum Call {
     Check,
-    Enter(u32, u32, u32),
-    Amend(u32, u32, u32),
+    Enter(u32, Order),
+    Amend(u32, Order),
     Cancel(u32),
     Lookup(u32),
     Descent(u32, usize),
@@ -55,13 +56,19 @@ fn any_call(generator: &mut Xorshift, book: &Book) -> Call {
     let key = any_key(generator, made);
     match generator.below(20) {
         0..=8 => {
-            let (total, displayed) = match generator.below(16) {
-                0 => generator.pick(&[(0, 0), (0, 5), (100, 101), (1, u32::MAX)]),
-                _ => some_quantities(generator),
-            };
+            let mut new = some_order(generator, made.sizes.version);
+            match generator.below(32) {
+                0..=1 => {
+                    (new.total, new.displayed) =
+                        generator.pick(&[(0, 0), (0, 5), (100, 101), (1, u32::MAX)])
+                }
+                2 => new.price = 0,
+                3 => new.price = some_price(generator),
+                _ => {}
+            }
             match generator.below(3) {
-                0 => Call::Amend(key, total, displayed),
-                _ => Call::Enter(key, total, displayed),
+                0 => Call::Amend(key, new),
+                _ => Call::Enter(key, new),
             }
         }
         9..=12 => Call::Cancel(key),
@@ -77,7 +84,8 @@ fn any_call(generator: &mut Xorshift, book: &Book) -> Call {
         17..=18 => {
             let (lo, hi) = any_range(generator, made);
             let orders = generator.below(made.sizes.orders + 2) as usize;
-            let length = (12 * orders + 1).saturating_sub(generator.below(3) as usize);
+            let width = row(made.sizes.version);
+            let length = (width * orders + 1).saturating_sub(generator.below(3) as usize);
             Call::Span(lo, hi, length)
         }
         _ => {
@@ -97,8 +105,8 @@ fn ask(table: &mut [u8], call: Call) -> (Reply, Vec<u8>) {
     let mut output = Vec::new();
     let reply = match call {
         Call::Check => calls::check(table),
-        Call::Enter(key, total, displayed) => calls::enter(table, key, total, displayed),
-        Call::Amend(key, total, displayed) => calls::amend(table, key, total, displayed),
+        Call::Enter(key, new) => calls::enter(table, key, new),
+        Call::Amend(key, new) => calls::amend(table, key, new),
         Call::Cancel(key) => calls::cancel(table, key),
         Call::Lookup(key) => calls::lookup(table, key),
         Call::Descent(key, length) => {
@@ -119,26 +127,17 @@ fn are_keys(lo: u32, hi: u32) -> bool {
 }
 
 /// The orders of the book in lo..hi.
-fn in_range(book: &Book, lo: u32, hi: u32) -> Vec<(u32, u32, u32)> {
-    let inside = book
-        .orders()
-        .iter()
-        .filter(|(&key, _)| lo <= key && key <= hi);
-    inside
-        .map(|(&key, order)| (key, order.total, order.displayed))
-        .collect()
+fn in_range(book: &Book, lo: u32, hi: u32) -> Vec<(u32, Order)> {
+    let orders = book.orders().iter().map(|(&key, &order)| (key, order));
+    orders.filter(|&(key, _)| lo <= key && key <= hi).collect()
 }
 
 /// What the book decides for the call.
 fn expected(book: &mut Book, call: Call) -> (Reply, Vec<u8>) {
     match call {
         Call::Check => (Reply::done(), vec![]),
-        Call::Enter(key, total, displayed) => {
-            (Reply::refused(book.enter(key, total, displayed)), vec![])
-        }
-        Call::Amend(key, total, displayed) => {
-            (Reply::refused(book.amend(key, total, displayed)), vec![])
-        }
+        Call::Enter(key, new) => (Reply::refused(book.enter(key, new)), vec![]),
+        Call::Amend(key, new) => (Reply::refused(book.amend(key, new)), vec![]),
         Call::Cancel(key) => (Reply::refused(book.cancel(key)), vec![]),
         Call::Lookup(key) => (expected_lookup(book, key), vec![]),
         Call::Descent(key, length) => expected_descent(book, key, length),
@@ -182,11 +181,15 @@ fn expected_span(book: &Book, lo: u32, hi: u32, length: usize) -> (Reply, Vec<u8
         return (Reply::refused(10), output);
     }
     let found = in_range(book, lo, hi);
-    let written: Vec<u8> = found
-        .iter()
-        .flat_map(|&(key, total, displayed)| [key, total, displayed])
-        .flat_map(u32::to_be_bytes)
-        .collect();
+    let mut written = Vec::new();
+    for (key, order) in &found {
+        for number in [*key, order.total, order.displayed] {
+            written.extend(number.to_be_bytes());
+        }
+        if book.made().sizes.version == 2 {
+            written.extend(order.price.to_be_bytes());
+        }
+    }
     if written.len() > length {
         return (Reply::refused(11), output);
     }
@@ -208,24 +211,28 @@ fn expected_seek(book: &Book, lo: u32, hi: u32, r: u32) -> Reply {
         return Reply::refused(10);
     }
     // Of a hidden order nothing is reserve; in another r more can be displayed.
-    let has = |&(_, total, displayed): &(u32, u32, u32)| match displayed {
+    let has = |(_, order): &(u32, Order)| match order.displayed {
         0 => r == 0,
-        _ => displayed.checked_add(r).map_or(false, |sum| sum <= total),
+        displayed => displayed
+            .checked_add(r)
+            .map_or(false, |sum| sum <= order.total),
     };
-    // The key stands first, and no two orders have one, so this is the smallest key.
-    match in_range(book, lo, hi).into_iter().filter(has).min() {
-        Some((key, total, displayed)) => Reply {
+    let having = in_range(book, lo, hi).into_iter().filter(has);
+    match having.min_by_key(|&(key, _)| key) {
+        Some((key, order)) => Reply {
+            number: 0,
             key,
-            total,
-            displayed,
-            ..Reply::done()
+            total: order.total,
+            displayed: order.displayed,
+            price: order.price,
+            count: 0,
         },
         None => Reply::refused(12),
     }
 }
 
 /// One history; counts the numbers answered.
-fn history(generator: &mut Xorshift, made: Made, calls: u32, seen: &mut [u32; 14]) {
+fn history(generator: &mut Xorshift, made: Made, calls: u32, seen: &mut [u32; 15]) {
     let mut table = made_table(&made);
     let mut book = Book::new(made);
     assert_eq!(table, image(&made, &Orders::new()).unwrap());
@@ -254,12 +261,12 @@ fn history(generator: &mut Xorshift, made: Made, calls: u32, seen: &mut [u32; 14
 #[test]
 fn tables_follow_the_book() {
     let mut generator = Xorshift::new(31);
-    let mut seen = [0; 14];
+    let mut seen = [0; 15];
     for _ in 0..400 {
         let made = some_made(&mut generator);
         history(&mut generator, made, 150, &mut seen);
     }
-    let expected = [0, 5, 6, 7, 8, 9, 10, 11, 12, 13];
+    let expected = [0, 5, 6, 7, 8, 9, 10, 11, 12, 13, 14];
     assert!(
         expected.iter().all(|&number: &usize| seen[number] > 300),
         "{seen:?}"
@@ -270,13 +277,15 @@ fn tables_follow_the_book() {
 #[test]
 fn a_larger_table_follows_the_book() {
     let mut generator = Xorshift::new(32);
-    let mut seen = [0; 14];
     let made = Made {
         sizes: sizes(3, 4, 300, 260),
         seed: random_seed(&mut generator),
     };
-    history(&mut generator, made, 4000, &mut seen);
-    assert!(seen[0] > 1000 && seen[7] + seen[8] > 50, "{seen:?}");
+    for version in [1, 2] {
+        let mut seen = [0; 15];
+        history(&mut generator, in_version(version, made), 2500, &mut seen);
+        assert!(seen[0] > 700 && seen[7] + seen[8] > 30, "{seen:?}");
+    }
 }
 
 /// Two histories that end with the same orders: one enters them straight away, the
@@ -293,14 +302,14 @@ fn equal_sets_have_equal_bytes() {
 
         let mut straight = made_table(&made);
         each(&keys, &wanted, |key, order| {
-            calls::enter(&mut straight, key, order.total, order.displayed)
+            calls::enter(&mut straight, key, order)
         });
 
         let mut roundabout = made_table(&made);
         for _ in 0..40 {
             let key = some_key(&mut generator, &made);
-            let (total, displayed) = some_quantities(&mut generator);
-            put(&mut roundabout, key, total, displayed);
+            let order = some_order(&mut generator, made.sizes.version);
+            put(&mut roundabout, key, order);
             calls::cancel(&mut roundabout, some_key(&mut generator, &made));
         }
         let (_, found) = reference::image::held(&roundabout).unwrap();
@@ -309,7 +318,7 @@ fn equal_sets_have_equal_bytes() {
         }
         generator.shuffle(&mut keys);
         each(&keys, &wanted, |key, order| {
-            put(&mut roundabout, key, order.total, order.displayed)
+            put(&mut roundabout, key, order)
         });
         assert!(straight == roundabout, "{made:?} {wanted:?}");
         largest = largest.max(wanted.len());
@@ -317,8 +326,15 @@ fn equal_sets_have_equal_bytes() {
     assert!(largest > 30, "{largest}");
 }
 
+/// Amends a held key and enters any other.
+fn put(table: &mut [u8], key: u32, new: Order) -> Reply {
+    let is_held = calls::lookup(table, key).number == 0;
+    let call = if is_held { calls::amend } else { calls::enter };
+    call(table, key, new)
+}
+
 /// Every one of these orders in turn; none is turned down.
-fn each(keys: &[u32], orders: &Orders, mut call: impl FnMut(u32, Quantities) -> Reply) {
+fn each(keys: &[u32], orders: &Orders, mut call: impl FnMut(u32, Order) -> Reply) {
     for &key in keys {
         assert_eq!(call(key, orders[&key]), Reply::done(), "{key}");
     }
@@ -329,9 +345,9 @@ fn each(keys: &[u32], orders: &Orders, mut call: impl FnMut(u32, Quantities) -> 
 fn the_book_asks_in_order() {
     let mut book = Book::new(common::document());
     assert!(book.orders().is_empty());
-    assert_eq!(book.enter(3, 100, 20), 0);
-    assert_eq!(book.enter(4, 10, 0), 8);
-    assert_eq!(book.enter(6, 50, 50), 0);
+    assert_eq!(book.enter(3, order(100, 20)), 0);
+    assert_eq!(book.enter(4, order(10, 0)), 8);
+    assert_eq!(book.enter(6, order(50, 50)), 0);
     let set: Orders = [(3, order(100, 20)), (6, order(50, 50))].into();
     for (key, total, displayed, enter, amend) in [
         (0, 0, 1, 5, 5),
@@ -341,19 +357,19 @@ fn the_book_asks_in_order() {
         (3, 1, 2, 6, 6),
         (4, 10, 0, 7, 9),
     ] {
-        assert_eq!(book.enter(key, total, displayed), enter);
-        assert_eq!(book.amend(key, total, displayed), amend);
+        assert_eq!(book.enter(key, order(total, displayed)), enter);
+        assert_eq!(book.amend(key, order(total, displayed)), amend);
         assert_eq!(*book.orders(), set);
     }
     for key in [3, 6] {
-        assert_eq!(book.enter(key, 7, 0), 13);
+        assert_eq!(book.enter(key, order(7, 0)), 13);
         assert_eq!(*book.orders(), set);
     }
     for (key, number) in [(0, 5), (P, 5), (u32::MAX, 5), (4, 9)] {
         assert_eq!(book.cancel(key), number);
         assert_eq!(*book.orders(), set);
     }
-    assert_eq!(book.amend(3, 7, 0), 0);
+    assert_eq!(book.amend(3, order(7, 0)), 0);
     assert_eq!(
         *book.orders(),
         [(3, order(7, 0)), (6, order(50, 50))].into()
@@ -363,6 +379,29 @@ fn the_book_asks_in_order() {
     assert_eq!(*book.orders(), [(6, order(50, 50))].into());
 }
 
+/// The book of a table of version 2 is given the version: 14 is none of its numbers,
+/// price 0 is a "no" to 6, and amend replaces the price. In version 1 14 comes first.
+#[test]
+fn the_book_asks_for_the_price() {
+    let mut first = Book::new(common::document());
+    assert_eq!(first.enter(3, order(100, 20)), 0);
+    for (key, total) in [(0, 0), (3, 100), (4, 0), (4, 10)] {
+        assert_eq!(first.enter(key, priced(total, 0, 1)), 14);
+        assert_eq!(first.amend(key, priced(total, 0, 1)), 14);
+    }
+    assert_eq!(*first.orders(), [(3, order(100, 20))].into());
+
+    let mut book = Book::new(in_version(2, common::document()));
+    assert_eq!(book.enter(3, priced(100, 20, 1)), 0);
+    for (key, number) in [(0, 5), (P, 5), (3, 6), (4, 6)] {
+        assert_eq!(book.enter(key, order(10, 5)), number);
+        assert_eq!(book.amend(key, order(10, 5)), number);
+    }
+    assert_eq!(*book.orders(), [(3, priced(100, 20, 1))].into());
+    assert_eq!(book.amend(3, priced(100, 20, u32::MAX)), 0);
+    assert_eq!(*book.orders(), [(3, priced(100, 20, u32::MAX))].into());
+}
+
 /// The text program on random lines, against text written from the book. Its `put`
 /// prints what document 01's put does.
 #[test]
@@ -370,7 +409,7 @@ fn the_program_follows_the_book() {
     let mut generator = Xorshift::new(34);
     let mut lines = 0;
     for _ in 0..60 {
-        let made = some_made(&mut generator);
+        let made = in_version(1, some_made(&mut generator));
         if made.sizes.length() > 65_536 {
             continue;
         }
@@ -402,13 +441,18 @@ fn make_line(made: &Made) -> String {
 
 /// Document 01's put. Of the book's two calls the one that fits does the same, and
 /// the other is turned down.
-fn put_in_book(book: &mut Book, key: u32, new: Quantities) -> Reply {
+fn put_in_book(book: &mut Book, key: u32, new: Order) -> Reply {
     let mut wanted = book.orders().clone();
     let number = put_of_document_01(book.made(), &mut wanted, key, new);
-    book.amend(key, new.total, new.displayed);
-    book.enter(key, new.total, new.displayed);
+    book.amend(key, new);
+    book.enter(key, new);
     assert_eq!(*book.orders(), wanted);
     Reply::refused(number)
+}
+
+/// What a line can say: "The program keeps to version 1".
+fn without_price(new: Order) -> Order {
+    order(new.total, new.displayed)
 }
 
 /// The line and the lines it is answered by; the program has no check and no
@@ -424,16 +468,16 @@ fn text(book: &mut Book, call: Call) -> Option<(String, String)> {
         total,
         displayed,
         count,
+        ..
     } = match call {
-        Call::Enter(key, total, displayed) | Call::Amend(key, total, displayed) => {
-            put_in_book(book, key, order(total, displayed))
-        }
+        Call::Enter(key, new) | Call::Amend(key, new) => put_in_book(book, key, without_price(new)),
         _ => expected(book, call).0,
     };
     let refused = number != 0;
     let (line, answer) = match call {
         Call::Check | Call::Descent(..) => return None,
-        Call::Enter(key, total, displayed) | Call::Amend(key, total, displayed) => {
+        Call::Enter(key, new) | Call::Amend(key, new) => {
+            let (total, displayed) = (new.total, new.displayed);
             (format!("put {key} {total} {displayed}"), "0".into())
         }
         Call::Cancel(key) => (format!("cancel {key}"), "0".into()),
@@ -444,8 +488,8 @@ fn text(book: &mut Book, call: Call) -> Option<(String, String)> {
         ),
         Call::Span(lo, hi, _) => {
             let mut answer = format!("0 {count}");
-            for (key, total, displayed) in in_range(book, lo, hi) {
-                answer += &format!("\n{key} {total} {displayed}");
+            for (key, order) in in_range(book, lo, hi) {
+                answer += &format!("\n{key} {} {}", order.total, order.displayed);
             }
             (format!("span {lo} {hi}"), answer)
         }

@@ -9,7 +9,7 @@ use common::{
 };
 use reference::calls::{amend, cancel, enter, seek, Reply};
 use reference::image::image;
-use reference::lists::{Orders, Quantities};
+use reference::lists::{Order, Orders};
 use reference::samples::Xorshift;
 use reference::seeks::{label, some_seek, Sought, SEEKS};
 use reference::sizes::{Made, P};
@@ -41,7 +41,10 @@ fn ten() -> Made {
 fn table_of(orders: &[(u32, u32, u32)]) -> Vec<u8> {
     let mut table = made_table(&ten());
     for &(key, total, displayed) in orders {
-        assert_eq!(enter(&mut table, key, total, displayed), Reply::done());
+        assert_eq!(
+            enter(&mut table, key, order(total, displayed)),
+            Reply::done()
+        );
     }
     table
 }
@@ -133,9 +136,9 @@ fn seek_passes_by_hidden_orders() {
 fn an_amend_that_hides_takes_the_reserve() {
     let mut table = table_of(&[(3, 40, 0)]);
     assert_eq!(refused(&table, |t| seek(t, 1, 9, 39)), 12);
-    assert_eq!(amend(&mut table, 3, 40, 1), Reply::done());
+    assert_eq!(amend(&mut table, 3, order(40, 1)), Reply::done());
     assert_eq!(seek(&table, 1, 9, 39), found(3, 40, 1));
-    assert_eq!(amend(&mut table, 3, 40, 0), Reply::done());
+    assert_eq!(amend(&mut table, 3, order(40, 0)), Reply::done());
     assert_eq!(refused(&table, |t| seek(t, 1, 9, 39)), 12);
     assert_eq!(seek(&table, 1, 9, 0), found(3, 40, 0));
 }
@@ -223,8 +226,8 @@ fn the_same_seek_gives_the_same_order() {
     let table = table_of(&orders);
     let mut another = table_of(&[(8, 9, 9), (7, 9, 1), (6, 9, 1), (3, 9, 4)]);
     assert_eq!(cancel(&mut another, 7), Reply::done());
-    assert_eq!(amend(&mut another, 8, 9, 4), Reply::done());
-    assert_eq!(enter(&mut another, 2, 9, 9), Reply::done());
+    assert_eq!(amend(&mut another, 8, order(9, 4)), Reply::done());
+    assert_eq!(enter(&mut another, 2, order(9, 9)), Reply::done());
     for r in 0..=9 {
         let reply = seek(&table, 1, P - 1, r);
         assert_eq!(seek(&table, 1, P - 1, r), reply);
@@ -284,10 +287,10 @@ fn every_seek_in_every_small_set() {
 /// the reserve" says, part by part: it is an order of the set, there, has it, and
 /// none with a smaller key there has it. Where none at all has it, it is 12.
 fn is_the_lowest(orders: &Orders, (lo, hi, r): (u32, u32, u32), reply: &Reply) -> bool {
-    let has = |key: u32, order: &Quantities| lo <= key && key <= hi && order.reserve() >= r;
+    let has = |key: u32, order: &Order| lo <= key && key <= hi && order.reserve() >= r;
     match orders.get(&reply.key) {
         Some(order) => {
-            let lower = |(&key, order): (&u32, &Quantities)| key < reply.key && has(key, order);
+            let lower = |(&key, order): (&u32, &Order)| key < reply.key && has(key, order);
             *reply == Reply::order(reply.key, order)
                 && has(reply.key, order)
                 && !orders.iter().any(lower)

@@ -1,13 +1,18 @@
 /* A fuzz target over the calls, for libFuzzer.
  *
- * An input below FIRST_RAW in its first byte is sizes, a seed and a list of calls; otherwise the bytes behind the first are a table that
- * somebody made. Input that ends early reads as zeros. What must hold stands in the functions named after the calls:
- *   - a call answers the number that a plain model of documents 01 and 02 gives, and all parts of its answer;
+ * An input below FIRST_RAW in its first byte is sizes, a seed and a list of calls, on a table of version 1 or, where that byte is odd, 2; otherwise
+ * the bytes behind the first are a table that somebody made. Input that ends early reads as zeros. What must hold stands in the functions named
+ * after the calls:
+ *   - a call answers the number that a plain model of documents 01 and 02 gives, and all parts of its answer, the price too;
  *   - a refused call and a reading change no byte of the table, a refused span none of its output;
  *   - a seek gives the lowest order of its range that has the reserve, asked again too;
- *   - after an edit the check answers 0, and lookup and span give what the model holds;
+ *   - after an edit the check answers 0, lookup and span give what the model holds, and each node has its numbers: those of its order at level 1,
+ *     else the key alone;
+ *   - a version 2 table with another price in one node is that of the order with this price, and no table where an order would have price 0 or
+ *     anything else a price; the blocks of a table, with nodes of the other version, are a table of that version;
  *   - the same orders entered into a new table in another order, some of them amended later, give the same bytes;
- *   - bytes that the check accepts are those that make and enters of their own orders give; on others every call but descent answers 4;
+ *   - bytes that the check accepts are those that make and enters of their own orders give; on others every call but descent answers 4; under
+ *     another version no table is one;
  *   - a descent's path is the way through the model's levels, block by block. It answers 4 only to a header or length that is none; on other
  *     bytes that are no table it writes no more than it counts, and counts no more than its output holds.
  *
@@ -16,14 +21,14 @@
  * The archive is compiled from proved code and carries no coverage counters, so libFuzzer would see only this file. The counters that it also
  * reads (section __libfuzzer_extra_counters) are fed from outside: which call answered which number, which questions of an enter or amend had
  * a no at once, and what each edit left: levels, full and part-filled blocks, how far a chunk stands from its home, chains that go round, chunk
- * numbers. So an input that brings a table into a new shape is kept, though no new line of this file ran. */
+ * numbers; all of it for each version. So an input that brings a table into a new shape is kept, though no new line of this file ran. */
 #define _GNU_SOURCE
 #include "balluchaw.h"
 #include "../c/zone.h"
 
 #define P 2147483647u
 
-enum { FIRST_RAW = 192, MOST_ORDERS = 48, MOST_STEPS = 120, LONGEST_RAW = 1 << 16 };
+enum { FIRST_RAW = 192, MOST_ORDERS = 48, MOST_STEPS = 140, LONGEST_RAW = 1 << 16 };
 enum { MAKE, CHECK, ENTER, AMEND, CANCEL, LOOKUP, SPAN, SEEK, DESCENT };
 enum { TABLE, SEED, OUTPUT };
 
@@ -36,9 +41,12 @@ static uint8_t features[8192];
 const char *__asan_default_options(void);
 const char *__asan_default_options(void) { return "quarantine_size_mb=1"; }
 
+/* The lower half of the counters is for version 1 and what is no table, the upper one for version 2. */
 static void feature(size_t f) {
     if (features[f % sizeof features] < 255) features[f % sizeof features]++;
 }
+
+static void feature_of(uint32_t version, size_t f) { feature(f + (version == 2 ? sizeof features / 2 : 0)); }
 
 static unsigned long archive_calls;
 
@@ -98,12 +106,12 @@ static void give_back(int which, uint8_t *p, size_t n, unsigned how) {
 /* ---- the model ---- */
 
 typedef struct {
-    uint32_t key, total, displayed;
-    uint32_t level; /* in the model */
+    uint32_t key, total, displayed, price; /* the price is 0 in version 1 */
+    uint32_t level;                        /* in the model */
 } order;
 
 typedef struct {
-    uint32_t gamma, nodes, orders, blocks, beta, a[5], b[5];
+    uint32_t version, gamma, nodes, orders, blocks, beta, a[5], b[5];
     uint8_t seed[40];
     uint32_t n;
     order held[MOST_ORDERS + 1]; /* by rising key */
@@ -115,6 +123,24 @@ static uint32_t short_at(const uint8_t *p) { return (uint32_t)p[0] << 8 | p[1]; 
 
 static void write_number(uint8_t *p, uint32_t n) {
     for (int i = 0; i < 4; i++) p[i] = (uint8_t)(n >> (24 - 8 * i));
+}
+
+/* Bytes of a node and of a span's row, and of a block. */
+static size_t row_of(uint32_t version) { return version == 1 ? 12 : 16; }
+
+static size_t width_of(uint32_t version, uint32_t nodes) { return 8 + row_of(version) * nodes; }
+
+static size_t length_of(uint32_t version, uint32_t nodes, uint32_t blocks) { return 53 + blocks * width_of(version, nodes); }
+
+static void write_row(uint8_t *p, uint32_t version, order o) {
+    write_number(p, o.key);
+    write_number(p + 4, o.total);
+    write_number(p + 8, o.displayed);
+    if (version == 2) write_number(p + 12, o.price);
+}
+
+static order row_at(const uint8_t *p, uint32_t version) {
+    return (order){number_at(p), number_at(p + 4), number_at(p + 8), version == 2 ? number_at(p + 12) : 0, 0};
 }
 
 static uint32_t beta_of(uint32_t gamma, uint32_t orders) {
@@ -200,9 +226,22 @@ static uint32_t reserve_of(const order *o) { return o->displayed == 0 ? 0 : o->t
 
 static int are_quantities(order o) { return o.total >= 1 && o.displayed <= o.total; }
 
-static uint32_t model_enter(model *m, order o) {
+/* What the version asks of a price: 14 in version 1, a part of 6 in version 2. */
+static int may_have(const model *m, uint32_t price) { return m->version != 1 || price == 0; }
+
+static int has_enough(const model *m, uint32_t price) { return m->version != 2 || price >= 1; }
+
+/* The questions of both enter and amend, after 4. */
+static uint32_t model_change(const model *m, order o) {
+    if (!may_have(m, o.price)) return 14;
     if (!is_key(o.key)) return 5;
-    if (!are_quantities(o)) return 6;
+    if (!are_quantities(o) || !has_enough(m, o.price)) return 6;
+    return 0;
+}
+
+static uint32_t model_enter(model *m, order o) {
+    uint32_t number = model_change(m, o);
+    if (number) return number;
     if (find(m, o.key)) return 13;
     if (m->n >= m->orders) return 7;
     uint32_t i = place_of(m, o.key);
@@ -217,12 +256,13 @@ static uint32_t model_enter(model *m, order o) {
 }
 
 static uint32_t model_amend(model *m, order o) {
-    if (!is_key(o.key)) return 5;
-    if (!are_quantities(o)) return 6;
+    uint32_t number = model_change(m, o);
+    if (number) return number;
     if (!find(m, o.key)) return 9;
     order *held = &m->held[place_of(m, o.key)];
     held->total = o.total;
     held->displayed = o.displayed;
+    held->price = o.price;
     return 0;
 }
 
@@ -242,8 +282,25 @@ typedef struct {
     size_t length;
 } table;
 
+/* What the first byte says, which tells nothing where the bytes are no table; 0 where there is none. */
+static uint32_t version_of(const table *t) { return t->length ? t->bytes[0] : 0; }
+
+/* The nodes that a block counts, number by number. */
+static void contents(const model *m, const uint8_t *block) {
+    size_t row = row_of(m->version);
+    for (uint32_t i = 0; i < block[1]; i++) {
+        const uint8_t *node = block + 8 + row * i;
+        uint8_t right[16];
+        order o = {number_at(node), 0, 0, 0, 0};
+        const order *held = find(m, o.key);
+        must(o.key == 0 || held != NULL, "a node has a key that is held");
+        write_row(right, m->version, held && block[0] == 1 ? *held : o);
+        must(memcmp(node, right, row) == 0, "a node has the numbers of its order at level 1, elsewhere its key alone");
+    }
+}
+
 static void shape(const model *m, const table *t) {
-    size_t width = 8 + 12 * m->nodes;
+    size_t width = width_of(m->version, m->nodes);
     uint32_t filled = 0, farthest = 0, round = 0;
     for (uint32_t i = 0; i < m->blocks; i++) {
         const uint8_t *b = t->bytes + 53 + i * width;
@@ -254,10 +311,11 @@ static void shape(const model *m, const table *t) {
         uint32_t far = i >= home ? i - home : m->blocks - home + i;
         round |= i < home;
         if (far > farthest) farthest = far;
-        feature(256 + b[0] * 64 + (b[1] == m->nodes) * 32 + (chunk < 3 ? chunk : 3) * 8 + (far < 7 ? far : 7));
+        feature_of(m->version, 256 + b[0] * 64 + (b[1] == m->nodes) * 32 + (chunk < 3 ? chunk : 3) * 8 + (far < 7 ? far : 7));
+        contents(m, b);
     }
-    feature(2048 + (farthest < 63 ? farthest : 63) * 4 + round * 2 + (filled == m->blocks));
-    feature(2560 + m->n);
+    feature_of(m->version, 2048 + (farthest < 63 ? farthest : 63) * 4 + round * 2 + (filled == m->blocks));
+    feature_of(m->version, 2560 + m->n);
 }
 
 static uint8_t *lend(const table *t, unsigned how) { return borrow(TABLE, t->bytes, t->length, how); }
@@ -272,32 +330,34 @@ static void take_back(table *t, uint8_t *lent, unsigned how, int may_change) {
     give_back(TABLE, lent, t->length, how);
 }
 
+static void answered(const table *t, int call, uint32_t number) { feature_of(version_of(t), (size_t)call * 16 + number % 16); }
+
 static uint32_t check(table *t, unsigned how) {
     uint8_t *lent = lend(t, how);
     uint32_t number = balluchaw_check(lent, t->length);
     take_back(t, lent, how, 0);
     must(number == 0 || number == 4, "check answers 0 or 4");
-    feature(CHECK * 16 + number);
+    answered(t, CHECK, number);
     return number;
 }
 
 static uint32_t make(const model *m, table *t, unsigned how) {
     uint8_t *seed = borrow(SEED, m->seed, 40, how / 8);
     uint8_t *lent = lend(t, how);
-    uint32_t number = balluchaw_make(lent, t->length, m->gamma, m->nodes, m->orders, m->blocks, seed, 40);
+    uint32_t number = balluchaw_make(lent, t->length, m->version, m->gamma, m->nodes, m->orders, m->blocks, seed, 40);
     take_back(t, lent, how, number == 0);
     must(memcmp(seed, m->seed, 40) == 0, "make changed its seed");
     give_back(SEED, seed, 40, how / 8);
-    feature(MAKE * 16 + number);
+    answered(t, MAKE, number);
     return number;
 }
 
 /* An enter or an amend, by its number in the list of calls. */
 static uint32_t change(table *t, int call, order o, unsigned how) {
     uint8_t *lent = lend(t, how);
-    uint32_t number = (call == ENTER ? balluchaw_enter : balluchaw_amend)(lent, t->length, o.key, o.total, o.displayed);
+    uint32_t number = (call == ENTER ? balluchaw_enter : balluchaw_amend)(lent, t->length, o.key, o.total, o.displayed, o.price);
     take_back(t, lent, how, number == 0);
-    feature((size_t)call * 16 + number % 16);
+    answered(t, call, number);
     return number;
 }
 
@@ -308,22 +368,22 @@ static uint32_t cancel(table *t, uint32_t key, unsigned how) {
     uint8_t *lent = lend(t, how);
     uint32_t number = balluchaw_cancel(lent, t->length, key);
     take_back(t, lent, how, number == 0);
-    feature(CANCEL * 16 + number);
+    answered(t, CANCEL, number);
     return number;
 }
 
 static int is_reply(balluchaw_reply r, uint32_t number, order o, uint32_t count) {
-    return r.number == number && r.key == o.key && r.total == o.total && r.displayed == o.displayed && r.count == count;
+    return r.number == number && r.key == o.key && r.total == o.total && r.displayed == o.displayed && r.price == o.price && r.count == count;
 }
 
-static const order none = {0, 0, 0, 0};
+static const order none = {0, 0, 0, 0, 0};
 
 /* The model is NULL for bytes that are no table. */
 static void lookup(const model *m, table *t, uint32_t key, unsigned how) {
     uint8_t *lent = lend(t, how);
     balluchaw_reply r = balluchaw_lookup(lent, t->length, key);
     take_back(t, lent, how, 0);
-    feature(LOOKUP * 16 + r.number);
+    answered(t, LOOKUP, r.number);
     const order *o = m ? find(m, key) : NULL;
     uint32_t number = !m ? 4 : !is_key(key) ? 5 : !o ? 9 : 0;
     must(is_reply(r, number, number == 0 ? *o : none, 0), "lookup answers as the model");
@@ -340,7 +400,7 @@ static balluchaw_reply descend(table *t, uint32_t key, size_t room, unsigned how
     uint8_t *lent = lend(t, how);
     balluchaw_reply r = balluchaw_descent(lent, t->length, key, output, room);
     take_back(t, lent, how, 0);
-    feature(DESCENT * 16 + r.number % 16);
+    answered(t, DESCENT, r.number);
     size_t written = 2 * (size_t)r.count;
     must(written <= room, "a descent counts no more than its output holds");
     must(written == room || memcmp(output + written, before + written, room - written) == 0, "a descent writes no more than it counts");
@@ -352,7 +412,7 @@ static balluchaw_reply descend(table *t, uint32_t key, size_t room, unsigned how
 static const uint8_t *block_at(const table *t, uint32_t number) {
     uint32_t nodes = t->bytes[6], blocks = short_at(t->bytes + 9);
     must(number < blocks, "a path's numbers are those of blocks");
-    return t->bytes + 53 + number * (8 + 12 * (size_t)nodes);
+    return t->bytes + 53 + number * width_of(version_of(t), nodes);
 }
 
 static void descent(const model *m, table *t, uint32_t key, size_t room, unsigned how) {
@@ -382,19 +442,19 @@ static void descent_to(table *t, order o, unsigned how) {
         level = b[0];
     }
     int holds = 0;
-    for (uint32_t i = 0; i < b[1]; i++) holds |= number_at(b + 8 + 12 * (size_t)i) == o.key;
+    for (uint32_t i = 0; i < b[1]; i++) holds |= number_at(b + 8 + row_of(version_of(t)) * i) == o.key;
     must(b[0] == 1 && holds, "a path ends at its order");
 }
 
 /* Rule 1 of an image: what a descent asks of the bytes. */
 static int has_header(const table *t) {
     const uint8_t *b = t->bytes;
-    if (t->length < 53 || b[0] != 1) return 0;
+    if (t->length < 53 || b[0] < 1 || b[0] > 2) return 0;
     uint32_t gamma = b[5], nodes = b[6], orders = short_at(b + 7), blocks = short_at(b + 9);
     if (gamma < 2 || gamma > 64 || nodes < 2 || nodes > 32 || orders < 1 || blocks < beta_of(gamma, orders)) return 0;
     for (int i = 13; i < 53; i += 4)
         if (number_at(b + i) >= P) return 0;
-    return number_at(b + 1) == t->length && t->length == BALLUCHAW_LENGTH(nodes, blocks) && short_at(b + 11) <= orders;
+    return number_at(b + 1) == t->length && t->length == length_of(b[0], nodes, blocks) && short_at(b + 11) <= orders;
 }
 
 /* Descents on bytes that are no table, also to keys that stand in them. */
@@ -404,34 +464,31 @@ static void astray(table *t, unsigned how) {
     uint32_t keys[] = {7, 0, P - 1, t->length < 80 ? 1 : number_at(t->bytes + place), P, 1 + how % 6};
     for (unsigned i = 0; i < 6; i++) {
         balluchaw_reply r = descend(t, keys[i], rooms[(how + 3 * i) % 8], how + i);
-        feature(2700 + (r.count < 63 ? r.count : 63) + 64 * (r.number == 0));
+        feature_of(version_of(t), 2700 + (r.count < 63 ? r.count : 63) + 64 * (r.number == 0));
         if (!has_header(t)) must(is_reply(r, 4, none, 0), "descent on a header or length that is none");
         else if (!is_key(keys[i])) must(is_reply(r, 5, none, 0), "descent to what is no key, on what is no table");
     }
 }
 
 static void span(const model *m, table *t, uint32_t lo, uint32_t hi, size_t room, unsigned how) {
-    static uint8_t before[12 * MOST_ORDERS + 64], after[sizeof before];
+    static uint8_t before[16 * MOST_ORDERS + 64], after[sizeof before];
     if (room > sizeof before) room = sizeof before;
     for (size_t i = 0; i < room; i++) before[i] = after[i] = (uint8_t)(i * 7 + 1);
     uint32_t number = !m ? 4 : !is_key(lo) || !is_key(hi) ? 5 : lo > hi ? 10 : 0, count = 0;
+    size_t row = m ? row_of(m->version) : 12;
     for (uint32_t i = 0; number == 0 && i < m->n; i++) {
         const order *o = &m->held[i];
         if (o->key < lo || o->key > hi) continue;
-        if (12 * count + 12 <= room) {
-            write_number(after + 12 * count, o->key);
-            write_number(after + 12 * count + 4, o->total);
-            write_number(after + 12 * count + 8, o->displayed);
-        }
+        if (row * count + row <= room) write_row(after + row * count, m->version, *o);
         count++;
     }
-    if (number == 0 && 12 * count > room) number = 11;
+    if (number == 0 && row * count > room) number = 11;
     if (number) count = 0;
     uint8_t *output = borrow(OUTPUT, before, room, how / 8);
     uint8_t *lent = lend(t, how);
     balluchaw_reply r = balluchaw_span(lent, t->length, lo, hi, output, room);
     take_back(t, lent, how, 0);
-    feature(SPAN * 16 + r.number);
+    answered(t, SPAN, r.number);
     must(is_reply(r, number, none, count), "span answers as the model");
     must(room == 0 || memcmp(output, number ? before : after, room) == 0, "span writes the model's orders and nothing else");
     give_back(OUTPUT, output, room, how / 8);
@@ -445,10 +502,10 @@ static const order *lowest(const model *m, uint32_t lo, uint32_t hi, uint32_t re
 }
 
 /* Tells how what is sought stands to what an order of the range has in reserve and in all, for hidden orders and others apart. */
-static void sought(const order *o, uint32_t reserve, uint32_t number) {
+static void sought(uint32_t version, const order *o, uint32_t reserve, uint32_t number) {
     uint32_t own = reserve_of(o), edges = (reserve == 0) | (reserve == 1) << 1 | (reserve == own) << 2 | (reserve == own + 1) << 3;
     edges |= (reserve == o->total) << 4 | (reserve > o->total) << 5;
-    feature(3000 + edges * 4 + (o->displayed == 0) * 2 + (number == 0));
+    feature_of(version, 3000 + edges * 4 + (o->displayed == 0) * 2 + (number == 0));
 }
 
 /* Tells where the lowest stands: how many of the range come before it, how many of the range have the reserve, and whether some outside have. */
@@ -462,7 +519,7 @@ static void stands(const model *m, uint32_t lo, uint32_t hi, uint32_t reserve) {
         else if (fits) fit++;
         else passed += fit == 0;
     }
-    feature(3400 + (passed < 7 ? passed : 7) * 16 + (fit < 3 ? fit : 3) * 4 + below * 2 + above);
+    feature_of(m->version, 3400 + (passed < 7 ? passed : 7) * 16 + (fit < 3 ? fit : 3) * 4 + below * 2 + above);
 }
 
 static void seek(const model *m, table *t, uint32_t lo, uint32_t hi, uint32_t reserve, unsigned how) {
@@ -472,18 +529,23 @@ static void seek(const model *m, table *t, uint32_t lo, uint32_t hi, uint32_t re
         uint8_t *lent = lend(t, how + again);
         balluchaw_reply r = balluchaw_seek(lent, t->length, lo, hi, reserve);
         take_back(t, lent, how + again, 0);
-        feature(SEEK * 16 + r.number % 16);
+        answered(t, SEEK, r.number);
         int right = is_reply(r, number, number == 0 ? *o : none, 0);
         must(right, again ? "a seek asked again answers the same" : "seek answers as the model, with the lowest that fits");
     }
     if (number != 0 && number != 12) return;
     stands(m, lo, hi, reserve);
-    for (uint32_t i = place_of(m, lo); i < m->n && m->held[i].key <= hi; i++) sought(&m->held[i], reserve, number);
+    for (uint32_t i = place_of(m, lo); i < m->n && m->held[i].key <= hi; i++) sought(m->version, &m->held[i], reserve, number);
 }
 
-/* An order of a table whose other orders are not known: it cannot be entered, and amended to what it is it leaves the bytes. */
+/* An order of a table whose other orders are not known: it cannot be entered, nor be given a price that its version has not, and amended to what it
+ * is it leaves the bytes. */
 static void held_in(table *t, order o, unsigned how) {
-    must(enter(t, (order){o.key, 9, 5, 0}, how) == 13, "enter of a table's own order");
+    uint32_t version = version_of(t);
+    order other = {o.key, 9, 5, version == 1 ? 0 : 3, 0}, unpriced = {o.key, 9, 5, version == 1 ? 3 : 0, 0};
+    must(enter(t, other, how) == 13, "enter of a table's own order");
+    must(enter(t, unpriced, how) == (version == 1 ? 14 : 6), "enter with a price that the version has not");
+    must(amend(t, unpriced, how) == (version == 1 ? 14 : 6), "amend to a price that the version has not");
     uint8_t *before = malloc(t->length);
     must(before != NULL, "no memory");
     memcpy(before, t->bytes, t->length);
@@ -492,16 +554,16 @@ static void held_in(table *t, order o, unsigned how) {
     free(before);
 }
 
-static order order_at(const uint8_t *row) { return (order){number_at(row), number_at(row + 4), number_at(row + 8), 0}; }
-
 /* Rows of a table, none between them left out: a seek from the first to the last gives the first for its reserve, and for one more the next that
  * has it. */
 static void seek_among(table *t, const uint8_t *rows, uint32_t count, unsigned how) {
-    order first = order_at(rows), last = order_at(rows + 12 * (size_t)(count - 1));
+    uint32_t version = version_of(t);
+    size_t row = row_of(version);
+    order first = row_at(rows, version), last = row_at(rows + row * (count - 1), version);
     for (uint32_t more = 0; more < 2; more++) {
         order o = first;
         uint32_t i = 0, reserve = reserve_of(&first) + more;
-        while (reserve_of(&o) < reserve && ++i < count) o = order_at(rows + 12 * (size_t)i);
+        while (reserve_of(&o) < reserve && ++i < count) o = row_at(rows + row * i, version);
         uint8_t *lent = lend(t, how + more);
         balluchaw_reply r = balluchaw_seek(lent, t->length, first.key, last.key, reserve);
         take_back(t, lent, how + more, 0);
@@ -509,10 +571,11 @@ static void seek_among(table *t, const uint8_t *rows, uint32_t count, unsigned h
     }
 }
 
-/* Every call on bytes that are no table. */
+/* Every call on bytes that are no table; whatever the price, 4 comes before 14. */
 static void refused(table *t, unsigned how) {
-    must(enter(t, (order){7, 9, 5, 0}, how) == 4, "enter on what is no table");
-    must(amend(t, (order){7, 9, 5, 0}, how + 6) == 4, "amend on what is no table");
+    order o = {7, 9, 5, how & 1, 0};
+    must(enter(t, o, how) == 4, "enter on what is no table");
+    must(amend(t, o, how + 6) == 4, "amend on what is no table");
     must(cancel(t, 7, how + 1) == 4, "cancel on what is no table");
     lookup(NULL, t, 7, how + 2);
     span(NULL, t, 1, P - 1, 24, how + 3);
@@ -526,22 +589,25 @@ static order turned(const model *m, uint32_t turn, uint32_t i) {
     return m->held[turn & 1 ? place : m->n - 1 - place];
 }
 
-/* The model's orders in a new table: they come in another order, with one more among them that goes again, every second one with quantities that
- * are amended later. What the one more has kept out comes in at the end. */
+/* An order under a key, with numbers of its own. */
+static order another(const model *m, uint32_t key) { return (order){key, 3, 2, m->version == 1 ? 0 : 5, 0}; }
+
+/* The model's orders in a new table: they come in another order, with one more among them that goes again, every second one with numbers that are
+ * amended later. What the one more has kept out comes in at the end. */
 static void another_way(const model *m, const table *t, uint32_t turn, uint32_t other, unsigned how) {
     table second = {malloc(t->length), t->length};
     must(second.bytes != NULL, "no memory");
     memset(second.bytes, (int)turn, second.length);
     must(make(m, &second, how) == 0, "make accepts what it accepted before");
     uint8_t in[MOST_ORDERS];
-    int more = is_key(other) && !find(m, other) && enter(&second, (order){other, 3, 2, 0}, how) == 0;
+    int more = is_key(other) && !find(m, other) && enter(&second, another(m, other), how) == 0;
     for (uint32_t i = 0; i < m->n; i++) {
         if (more && i == m->n / 2) {
             must(cancel(&second, other, how) == 0, "an order that was entered can be cancelled");
             more = 0;
         }
         order o = turned(m, turn, i);
-        in[i] = enter(&second, i % 2 ? o : (order){o.key, 3, 2, 0}, how) == 0;
+        in[i] = enter(&second, i % 2 ? o : another(m, o.key), how) == 0;
         must(in[i] || more, "an order of a set that fits is accepted");
     }
     if (more) must(cancel(&second, other, how) == 0, "an order that was entered can be cancelled");
@@ -560,29 +626,30 @@ static void foreign(table *t, unsigned how) {
         refused(t, how);
         return;
     }
-    must(t->length >= 53, "a table has a header");
+    must(has_header(t), "a table has a header, of version 1 or 2");
     static model m;
-    m = (model){.gamma = t->bytes[5], .nodes = t->bytes[6]};
+    m = (model){.version = t->bytes[0], .gamma = t->bytes[5], .nodes = t->bytes[6]};
     m.orders = (uint32_t)t->bytes[7] << 8 | t->bytes[8];
     m.blocks = (uint32_t)t->bytes[9] << 8 | t->bytes[10];
     memcpy(m.seed, t->bytes + 13, 40);
     uint32_t n = (uint32_t)t->bytes[11] << 8 | t->bytes[12];
-    uint8_t *rows = malloc(12 * (size_t)n);
+    size_t row = row_of(m.version);
+    uint8_t *rows = malloc(row * n);
     table second = {malloc(t->length), t->length};
     must((rows || n == 0) && second.bytes, "no memory");
-    balluchaw_reply r = balluchaw_span(t->bytes, t->length, 1, P - 1, rows, 12 * (size_t)n);
+    balluchaw_reply r = balluchaw_span(t->bytes, t->length, 1, P - 1, rows, row * n);
     must(is_reply(r, 0, none, n), "a table's span gives as many orders as its header says");
     memset(second.bytes, 0x5a, second.length);
     must(make(&m, &second, how) == 0, "the sizes and seed of a table are ones that make allows");
     for (uint32_t i = 0; i < n; i++) {
-        const uint8_t *row = rows + 12 * (size_t)(n - 1 - i);
-        order o = order_at(row);
+        const uint8_t *place = rows + row * (n - 1 - i);
+        order o = row_at(place, m.version);
         must(enter(&second, o, how) == 0, "the orders of a table fit into its sizes");
         if (i < 16) descent_to(t, o, how + i);
-        if (i < 4) seek_among(t, row, 1, how + i);
+        if (i < 4) seek_among(t, place, 1, how + i);
         if (i < 4) held_in(t, o, how + i);
     }
-    for (uint32_t i = 0; i < 4 && i < n; i++) seek_among(t, rows + 12 * (size_t)(n * i / 4), 1 + (n - n * i / 4) / 2, how + i);
+    for (uint32_t i = 0; i < 4 && i < n; i++) seek_among(t, rows + row * (n * i / 4), 1 + (n - n * i / 4) / 2, how + i);
     must(memcmp(second.bytes, t->bytes, t->length) == 0, "a table that the check accepts is what its orders give");
     free(rows);
     free(second.bytes);
@@ -600,11 +667,14 @@ static uint32_t some_key(const model *m) {
 
 /* An order under a held key, if that is wanted and there is one; else under any, which may be held too. */
 static order some_order(const model *m, int held) {
-    order o = {held && m->n ? m->held[byte() % m->n].key : some_key(m), 0, 0, 0};
+    order o = {held && m->n ? m->held[byte() % m->n].key : some_key(m), 0, 0, 0, 0};
     uint32_t b = byte();
     o.total = b < 200 ? 1 + b : b < 236 ? UINT32_MAX : b < 240 ? 0 : word();
     b = byte();
     o.displayed = b < 128 ? (uint32_t)((uint64_t)o.total * b / 127) : b < 160 ? 0 : b < 236 ? o.total : b < 250 ? o.total + 1 : word();
+    b = byte();
+    uint32_t own = m->version == 1 ? 0 : 1 + b, wrong = m->version == 1; /* 1 is no price of version 1, 0 none of version 2 */
+    o.price = b < 220 ? own : b < 240 ? wrong : b < 250 ? UINT32_MAX : word();
     return o;
 }
 
@@ -642,28 +712,36 @@ static uint32_t any_size(void) {
     return b < 250 ? b % 70 : word();
 }
 
-/* A make with any sizes, seed and lengths. */
+static uint32_t any_version(void) {
+    uint32_t b = byte();
+    return b < 200 ? 1 + b % 2 : b < 250 ? b % 8 : word();
+}
+
+/* A make with any version, sizes, seed and lengths. */
 static void any_make(unsigned how) {
-    uint32_t gamma = any_size(), nodes = any_size(), orders = any_size(), blocks = any_size(), b = byte();
+    uint32_t version = any_version(), gamma = any_size(), nodes = any_size(), orders = any_size(), blocks = any_size(), b = byte();
     uint8_t seed[48];
     size_t seed_length = b < 200 ? 40 : b % 48;
     for (size_t i = 0; i < seed_length; i++) seed[i] = (uint8_t)byte();
     int right_seed = seed_length == 40;
     for (size_t i = 0; right_seed && i < 40; i += 4) right_seed = number_at(seed + i) < P;
-    int allowed = gamma >= 2 && gamma <= 64 && nodes >= 2 && nodes <= 32 && orders >= 1 && orders <= 65535 && blocks <= 65535;
-    allowed = allowed && blocks >= beta_of(gamma, orders);
-    size_t right_length = allowed ? BALLUCHAW_LENGTH(nodes, blocks) : 149;
+    int sizes = gamma >= 2 && gamma <= 64 && nodes >= 2 && nodes <= 32 && orders >= 1 && orders <= 65535 && blocks <= 65535;
+    sizes = sizes && blocks >= beta_of(gamma, orders);
+    int allowed = sizes && (version == 1 || version == 2);
+    size_t right_length = sizes ? length_of(version, nodes, blocks) : 149; /* of no version too: it is refused though the length fits some rows */
     b = byte();
-    size_t length = right_length > LONGEST_RAW || b > 200 ? b : right_length;
+    size_t wrong_length = sizes ? length_of(version == 1 ? 2 : 1, nodes, blocks) : b;
+    size_t length = b > 200 ? b : b > 180 ? wrong_length : right_length;
+    if (length > LONGEST_RAW) length = b;
     table t = {calloc(length + 1, 1), length};
     must(t.bytes != NULL, "no memory");
     uint8_t *lent_seed = borrow(SEED, seed, seed_length, how / 8), *lent = lend(&t, how);
-    uint32_t number = balluchaw_make(lent, length, gamma, nodes, orders, blocks, lent_seed, seed_length);
+    uint32_t number = balluchaw_make(lent, length, version, gamma, nodes, orders, blocks, lent_seed, seed_length);
     take_back(&t, lent, how, number == 0);
     must(number == (!right_seed ? 1u : !allowed ? 2u : length != right_length ? 3u : 0u), "make answers as its questions say");
     must(seed_length == 0 || memcmp(lent_seed, seed, seed_length) == 0, "make changed its seed");
     give_back(SEED, lent_seed, seed_length, how / 8);
-    feature(MAKE * 16 + number);
+    feature_of(version, MAKE * 16 + number % 16);
     if (number == 0) must(check(&t, how) == 0, "a new table is one");
     free(t.bytes);
 }
@@ -671,7 +749,9 @@ static void any_make(unsigned how) {
 /* Which questions of an enter or amend have a no, each asked for itself: their order shows only where two have. */
 static void noes(const model *m, int call, order o) {
     uint32_t held = find(m, o.key) != NULL, no_order = m->n == m->orders, no_block = chunks(m) == m->blocks;
-    feature(3300 + (call == AMEND) * 32 + !is_key(o.key) * 16 + !are_quantities(o) * 8 + held * 4 + no_order * 2 + no_block);
+    uint32_t no_price = !may_have(m, o.price) || !has_enough(m, o.price);
+    uint32_t which = no_price * 32 + !is_key(o.key) * 16 + !are_quantities(o) * 8 + held * 4 + no_order * 2 + no_block;
+    feature_of(m->version, 3600 + (call == AMEND) * 64 + which);
 }
 
 /* After an edit of a key: the table is one, and has what the model has. */
@@ -696,6 +776,84 @@ static void step_cancel(model *m, table *t, unsigned how) {
     if (number == 0) edited(m, t, key, how);
 }
 
+static table copy_of(const table *t) {
+    table other = {malloc(t->length), t->length};
+    must(other.bytes != NULL, "no memory");
+    memcpy(other.bytes, t->bytes, t->length);
+    return other;
+}
+
+/* The table under another version, its other bytes as they are. */
+static void other_version(const table *t, unsigned how) {
+    table other = copy_of(t);
+    uint32_t b = byte(), version = b < 200 ? b % 4 : b;
+    other.bytes[0] = (uint8_t)(version == t->bytes[0] ? 3 - version : version);
+    must(check(&other, how) == 4, "a table under another version is none");
+    refused(&other, how);
+    free(other.bytes);
+}
+
+/* The blocks of a table in those of the other version, each order with this price. */
+static table rewritten(const model *m, const table *t, uint32_t version, uint32_t price) {
+    size_t own = row_of(m->version), row = row_of(version), width = width_of(version, m->nodes);
+    table other = {NULL, length_of(version, m->nodes, m->blocks)};
+    other.bytes = calloc(other.length, 1);
+    must(other.bytes != NULL, "no memory");
+    memcpy(other.bytes, t->bytes, 53);
+    other.bytes[0] = (uint8_t)version;
+    write_number(other.bytes + 1, (uint32_t)other.length);
+    for (uint32_t i = 0; i < m->blocks; i++) {
+        const uint8_t *from = t->bytes + 53 + i * width_of(m->version, m->nodes);
+        uint8_t *to = other.bytes + 53 + i * width;
+        memcpy(to, from, 8);
+        for (uint32_t k = 0; k < m->nodes; k++) {
+            order o = row_at(from + 8 + own * k, m->version);
+            o.price = o.total ? price : 0;
+            write_row(to + 8 + row * k, version, o);
+        }
+    }
+    return other;
+}
+
+/* Where the blocks stand does not depend on the version: a table with rows of the other one is a table of that version, if its orders have prices
+ * there. */
+static void other_rows(const model *m, const table *t, unsigned how) {
+    uint32_t b = byte(), price = b < 64 ? 0 : b < 240 ? b : word(), version = 3 - m->version;
+    static model as;
+    as = *m;
+    as.version = version;
+    for (uint32_t i = 0; i < as.n; i++) as.held[i].price = version == 1 ? 0 : price;
+    table other = rewritten(m, t, version, price);
+    int right = version == 1 || price || m->n == 0;
+    must(check(&other, how) == (right ? 0 : 4), "a table with the rows of the other version is one, if its orders have prices");
+    if (!right) refused(&other, how);
+    else if (m->n) lookup(&as, &other, as.held[how % m->n].key, how + 1);
+    if (right) span(&as, &other, 1, P - 1, row_of(version) * m->n, how + 2);
+    free(other.bytes);
+}
+
+/* The table, of version 2, with another price in one node, used or not. Only an order has one, and each has. */
+static void other_price(const model *m, const table *t, unsigned how) {
+    table other = copy_of(t);
+    uint8_t *block = other.bytes + 53 + byte() % m->blocks * width_of(2, m->nodes);
+    uint32_t used = block[1], i = byte() % (used && used < m->nodes ? used + 1 : m->nodes); /* up to the first that is not used */
+    uint32_t b = byte(), price = b < 100 ? 0 : b < 240 ? b : word();
+    uint8_t *node = block + 8 + 16 * i;
+    uint32_t key = number_at(node), is_order = block[0] == 1 && i < used && key;
+    write_number(node + 12, price);
+    must(check(&other, how) == ((price != 0) == is_order ? 0 : 4), "each order of version 2 has a price, and nothing else has");
+    if ((price != 0) != is_order) refused(&other, how);
+    else if (is_order) {
+        static model as;
+        as = *m;
+        as.held[place_of(m, key)].price = price;
+        lookup(&as, &other, key, how + 1);
+        descent(&as, &other, key, 2 * LONGEST_WAY, how + 2);
+        seek(&as, &other, key, key, 0, how + 3);
+    }
+    free(other.bytes);
+}
+
 /* The table lent shorter or longer than it is. */
 static void other_length(const table *t, unsigned how) {
     size_t length = how % 2 ? t->length - 1 - byte() % t->length : t->length + 1 + byte() % 40;
@@ -709,10 +867,8 @@ static void other_length(const table *t, unsigned how) {
 
 /* A copy of the table with some bytes changed, or with a block moved or in the place of another too. */
 static void other_bytes(const model *m, const table *t, int blocks, unsigned how) {
-    table other = {malloc(t->length), t->length};
-    must(other.bytes != NULL, "no memory");
-    memcpy(other.bytes, t->bytes, t->length);
-    size_t width = 8 + 12 * m->nodes;
+    table other = copy_of(t);
+    size_t width = width_of(m->version, m->nodes);
     uint8_t *one = other.bytes + 53 + byte() % m->blocks * width, *two = other.bytes + 53 + byte() % m->blocks * width;
     for (uint32_t i = 0, changes = 1 + how / 64; !blocks && i < changes; i++) {
         uint8_t *place = one + byte() * width / 256;
@@ -742,7 +898,8 @@ static void step(model *m, table *t) {
     }
     case 10: {
         uint32_t lo = some_key(m), hi = some_key(m);
-        span(m, t, lo, hi, 12 * (size_t)(byte() % (MOST_ORDERS + 2)) + byte() % 13, how);
+        size_t row = row_of(m->version);
+        span(m, t, lo, hi, row * (byte() % (MOST_ORDERS + 2)) + byte() % (row + 1), how);
         return;
     }
     case 11: {
@@ -756,29 +913,37 @@ static void step(model *m, table *t) {
         return;
     }
     case 13:
-        if (how & 64) any_make(how);
+        if (kind & 128) other_version(t, how);
+        else if (how & 64) any_make(how);
         else other_length(t, how);
         return;
-    default: other_bytes(m, t, kind % 16 == 15, how);
+    case 14:
+        if (kind & 128) other_rows(m, t, how);
+        else if (m->version == 2 && kind & 64) other_price(m, t, how);
+        else other_bytes(m, t, 0, how);
+        return;
+    default: other_bytes(m, t, 1, how);
     }
 }
 
-static void calls(void) {
+static void calls(uint32_t version) {
     static model m;
-    m = (model){.gamma = 2 + byte() % 63, .nodes = 2 + byte() % 31};
+    m = (model){.version = version, .gamma = 2 + byte() % 63, .nodes = 2 + byte() % 31};
     m.orders = 1 + byte() % MOST_ORDERS;
     m.beta = beta_of(m.gamma, m.orders);
     uint32_t more = byte();
     m.blocks = m.beta + (more < 250 ? more % 50 : (m.orders + 1) * m.beta);
     some_seed(&m);
-    table t = {NULL, BALLUCHAW_LENGTH(m.nodes, m.blocks)};
+    table t = {NULL, length_of(version, m.nodes, m.blocks)};
+    must(BALLUCHAW_LENGTH(version, m.nodes, m.blocks) == t.length && BALLUCHAW_ROW(version) == row_of(version), "the header's lengths are right");
     t.bytes = malloc(t.length);
     must(t.bytes != NULL, "no memory");
     memset(t.bytes, 0xa5, t.length);
     must(make(&m, &t, byte()) == 0, "make accepts allowed sizes");
     must(check(&t, 0) == 0, "a new table is one");
     for (int i = 0; i < MOST_STEPS && left > 0; i++) step(&m, &t);
-    span(&m, &t, 1, P - 1, 12 * (size_t)m.n, 1);
+    span(&m, &t, 1, P - 1, row_of(version) * m.n, 1);
+    if (m.n) span(&m, &t, 1, P - 1, row_of(version) * m.n - 1, 2);
     for (uint32_t i = 0; i < m.n; i++) descent(&m, &t, m.held[i].key, 2 * LONGEST_WAY, i);
     another_way(&m, &t, m.n / 2 + 1, 9, 2);
     free(t.bytes);
@@ -787,13 +952,13 @@ static void calls(void) {
 static uint64_t rank(const uint8_t *block) { return (uint64_t)block[0] << 48 | (uint64_t)number_at(block + 4) << 16 | short_at(block + 2); }
 
 /* A block with few levels, first keys, chunk numbers and keys, so that some lead to others. A great count stays. */
-static void narrow(uint8_t *b, uint32_t nodes, uint32_t beta) {
+static void narrow(uint8_t *b, size_t row, uint32_t nodes, uint32_t beta) {
     b[0] = (uint8_t)(1 + b[0] % beta);
     if (b[1] < 240) b[1] = (uint8_t)(b[1] % (nodes + 2));
     b[2] = 0;
     b[3] %= 4;
     write_number(b + 4, b[7] % 4 * (b[6] % 2));
-    for (uint32_t i = 0; i < nodes; i++) write_number(b + 8 + 12 * (size_t)i, b[11 + 12 * (size_t)i] % 8);
+    for (uint32_t i = 0; i < nodes; i++) write_number(b + 8 + row * i, b[11 + row * i] % 8);
 }
 
 /* Chunks of no lists, each where a search for its label finds it: by rising label, at the first free block from its home. */
@@ -804,14 +969,14 @@ static void made_up(table *t) {
     b[8] = (uint8_t)(1 + b[8] % 32);
     b[12] = (uint8_t)(b[12] % (b[8] + 1));
     uint32_t nodes = b[6], blocks = short_at(b + 9), beta = beta_of(b[5], b[8]), seed[5];
-    size_t width = 8 + 12 * (size_t)nodes;
+    size_t width = width_of(b[0], nodes);
     if (blocks < beta || blocks > 64) return;
     for (int i = 0; i < 5; i++) seed[i] = number_at(b + 33 + 4 * i);
     uint8_t *all = malloc(blocks * width), taken[64] = {0};
     must(all != NULL, "no memory");
     memcpy(all, b + 53, blocks * width);
     memset(b + 53, 0, blocks * width);
-    for (uint32_t i = 0; i < blocks; i++) narrow(all + i * width, nodes, beta);
+    for (uint32_t i = 0; i < blocks; i++) narrow(all + i * width, row_of(b[0]), nodes, beta);
     for (uint32_t round = 0; round + 2 < blocks; round++) {
         uint32_t least = 0;
         while (taken[least]) least++;
@@ -835,9 +1000,10 @@ static void raw(uint32_t first) {
     if (length) memcpy(t.bytes, input, length);
     uint32_t nodes = length >= 53 ? t.bytes[6] : 0;
     if (first & 1 && nodes >= 2 && nodes <= 32) {
-        size_t width = 8 + 12 * nodes, blocks = (length - 53) / width;
+        uint32_t version = t.bytes[0] == 2 ? 2 : 1;
+        size_t width = width_of(version, nodes), blocks = (length - 53) / width;
         t.length = 53 + blocks * width;
-        t.bytes[0] = 1;
+        t.bytes[0] = (uint8_t)version;
         write_number(t.bytes + 1, (uint32_t)t.length);
         t.bytes[9] = (uint8_t)(blocks >> 8);
         t.bytes[10] = (uint8_t)blocks;
@@ -853,7 +1019,7 @@ int LLVMFuzzerTestOneInput(const uint8_t *data, size_t size) {
     input = data;
     left = size;
     uint32_t first = byte();
-    if (first < FIRST_RAW) calls();
+    if (first < FIRST_RAW) calls(1 + first % 2);
     else raw(first);
     return 0;
 }

@@ -5,9 +5,11 @@
 #include <stdlib.h>
 #include <string.h>
 
+uint32_t __real_balluchaw_make(uint8_t *table, size_t length, uint32_t version, uint32_t gamma, uint32_t nodes, uint32_t orders, uint32_t blocks,
+                               const uint8_t *seed, size_t seed_length);
 uint32_t __real_balluchaw_check(const uint8_t *table, size_t length);
-uint32_t __real_balluchaw_enter(uint8_t *table, size_t length, uint32_t key, uint32_t total, uint32_t displayed);
-uint32_t __real_balluchaw_amend(uint8_t *table, size_t length, uint32_t key, uint32_t total, uint32_t displayed);
+uint32_t __real_balluchaw_enter(uint8_t *table, size_t length, uint32_t key, uint32_t total, uint32_t displayed, uint32_t price);
+uint32_t __real_balluchaw_amend(uint8_t *table, size_t length, uint32_t key, uint32_t total, uint32_t displayed, uint32_t price);
 uint32_t __real_balluchaw_cancel(uint8_t *table, size_t length, uint32_t key);
 balluchaw_reply __real_balluchaw_lookup(const uint8_t *table, size_t length, uint32_t key);
 balluchaw_reply __real_balluchaw_descent(const uint8_t *table, size_t length, uint32_t key, uint8_t *path, size_t path_length);
@@ -22,26 +24,139 @@ static int fault(int which) {
 
 static volatile uint8_t seen;
 
+static uint32_t number_at(const uint8_t *p) { return (uint32_t)p[0] << 24 | (uint32_t)p[1] << 16 | (uint32_t)p[2] << 8 | p[3]; }
+
+static void write_number(uint8_t *p, uint32_t n) {
+    for (int i = 0; i < 4; i++) p[i] = (uint8_t)(n >> (24 - 8 * i));
+}
+
+static uint8_t *copy_of(const uint8_t *table, size_t length) {
+    uint8_t *copy = malloc(length + 1);
+    if (!copy) abort();
+    if (length) memcpy(copy, table, length);
+    return copy;
+}
+
+/* What the first bytes say; they may belong to no table. */
+static int is_version(const uint8_t *table, size_t length, uint32_t version) { return length >= 53 && table[0] == version; }
+
+static size_t row_of(const uint8_t *table) { return table[0] == 1 ? 12 : 16; }
+
+static size_t width_of(const uint8_t *table) { return 8 + row_of(table) * table[6]; }
+
 /* Whether the last block is used; its last byte is free in any case while the block is not full. What is no table may have no such block. */
 static int last_byte_free(const uint8_t *table, size_t length) {
-    uint32_t nodes = table[6], width = 8 + 12 * nodes;
-    return 53 + width <= length && table[length - width + 1] < nodes;
+    size_t width = width_of(table);
+    return 53 + width <= length && table[length - width + 1] < table[6];
+}
+
+/* ---- archives that keep other bytes, in every call alike: what the real one is shown, and what is kept of what it leaves ---- */
+
+/* Calls with every node of a version 2 table that its block counts. */
+static void each_node(uint8_t *table, size_t length, void (*visit)(uint8_t *node, int is_order)) {
+    if (!is_version(table, length, 2)) return;
+    size_t width = width_of(table);
+    for (uint8_t *block = table + 53; block + width <= table + length; block += width)
+        for (uint32_t i = 0; i < block[1] && i < table[6]; i++) {
+            uint8_t *node = block + 8 + 16 * i;
+            visit(node, block[0] == 1 && number_at(node) != 0);
+        }
+}
+
+static void clear_price(uint8_t *node, int is_order) {
+    if (!is_order) write_number(node + 12, 0);
+}
+
+static void set_price(uint8_t *node, int is_order) {
+    if (is_order && number_at(node + 12) == 0) write_number(node + 12, 1);
+}
+
+/* The check of a copy in which the nodes were seen to. */
+static uint32_t checked_after(const uint8_t *table, size_t length, void (*visit)(uint8_t *node, int is_order)) {
+    uint8_t *copy = copy_of(table, length);
+    each_node(copy, length, visit);
+    uint32_t number = __real_balluchaw_check(copy, length);
+    free(copy);
+    return number;
+}
+
+/* Fault 4 counts its enters in the last byte where that is free, and no call of it reads that byte. */
+static int counts_enters(const uint8_t *table, size_t length) { return fault(4) && length >= 200 && last_byte_free(table, length); }
+
+/* In fault 61 nodes above level 1 have the price of their order too. */
+static const uint8_t *plain_table;
+static size_t plain_length;
+
+static void copy_price(uint8_t *node, int is_order) {
+    if (!is_order) write_number(node + 12, __real_balluchaw_lookup(plain_table, plain_length, number_at(node)).price);
+}
+
+static void put_prices(uint8_t *table, size_t length) {
+    uint8_t *plain = copy_of(table, length);
+    plain_table = plain;
+    plain_length = length;
+    each_node(table, length, copy_price);
+    free(plain);
+}
+
+/* A copy of the table as the real archive sees it, to be freed. What such an archive would not have written is shown to be none, but not to a
+ * descent, which asks the header alone. */
+static uint8_t *shown(const uint8_t *table, size_t length, int descends) {
+    uint8_t *copy = copy_of(table, length);
+    if (counts_enters(table, length)) copy[length - 1] = 0;
+    if (!fault(61) || !is_version(table, length, 2)) return copy;
+    each_node(copy, length, clear_price);
+    uint8_t *again = copy_of(copy, length);
+    put_prices(again, length);
+    if (!descends && memcmp(again, table, length) != 0) copy[0] = 0;
+    free(again);
+    return copy;
+}
+
+/* Takes over what a successful edit of the shown table left. */
+static uint32_t edited(uint8_t *table, size_t length, uint8_t *copy, uint32_t number, int entered) {
+    if (number == 0) {
+        uint8_t count = counts_enters(table, length) ? table[length - 1] : 0;
+        memcpy(table, copy, length);
+        if (counts_enters(table, length)) table[length - 1] = (uint8_t)(count + entered);
+        if (fault(61)) put_prices(table, length);
+    }
+    free(copy);
+    return number;
+}
+
+/* ---- the calls ---- */
+
+uint32_t __wrap_balluchaw_make(uint8_t *table, size_t length, uint32_t version, uint32_t gamma, uint32_t nodes, uint32_t orders, uint32_t blocks,
+                               const uint8_t *seed, size_t seed_length) {
+    uint32_t number = __real_balluchaw_make(table, length, version, gamma, nodes, orders, blocks, seed, seed_length);
+    if (fault(62) && version == 3) return __real_balluchaw_make(table, length, 2, gamma, nodes, orders, blocks, seed, seed_length);
+    if (fault(63) && version == 0) return __real_balluchaw_make(table, length, 2, gamma, nodes, orders, blocks, seed, seed_length);
+    if (fault(68) && number == 1 && version != 1 && version != 2) return 2;
+    if (fault(69) && number == 3 && version == 2 && length == BALLUCHAW_LENGTH(1, nodes, blocks)) return 0;
+    return number;
+}
+
+/* Version 3 taken for 2. */
+static uint32_t check_of_three(const uint8_t *table, size_t length) {
+    uint8_t *copy = copy_of(table, length);
+    copy[0] = 2;
+    uint32_t number = __real_balluchaw_check(copy, length);
+    free(copy);
+    return number;
 }
 
 uint32_t __wrap_balluchaw_check(const uint8_t *table, size_t length) {
-    if (fault(1) && length >= 53 && table[0] == 1) return 0; /* a check that looks at the version alone */
+    if (fault(1) && (is_version(table, length, 1) || is_version(table, length, 2))) return 0; /* a check that looks at the version alone */
     if (fault(2) && length) seen = table[-1];
     if (fault(3) && length) seen = table[length];
-    if (fault(4) && length >= 200 && table[0] == 1 && last_byte_free(table, length)) { /* a check that does not see the last byte */
-        uint8_t *copy = malloc(length);
-        if (!copy) abort();
-        memcpy(copy, table, length);
-        copy[length - 1] = 0;
-        uint32_t number = __real_balluchaw_check(copy, length);
-        free(copy);
-        return number;
-    }
-    return __real_balluchaw_check(table, length);
+    if (fault(64) && is_version(table, length, 3)) return check_of_three(table, length);
+    if (fault(66)) return checked_after(table, length, set_price);
+    if (fault(67)) return checked_after(table, length, clear_price);
+    uint8_t *copy = shown(table, length, 0);
+    uint32_t number = __real_balluchaw_check(copy, length);
+    free(copy);
+    return number;
 }
 
 static int is_held(const uint8_t *table, size_t length, uint32_t key) { return __real_balluchaw_lookup(table, length, key).number == 0; }
@@ -50,60 +165,95 @@ static int is_held(const uint8_t *table, size_t length, uint32_t key) { return _
 static int no_order_free(const uint8_t *table) { return table[7] == table[11] && table[8] == table[12]; }
 
 static int no_block_free(const uint8_t *table, size_t length) {
-    for (size_t at = 53; at < length; at += 8 + 12 * (size_t)table[6])
+    for (size_t at = 53; at < length; at += width_of(table))
         if (table[at] == 0) return 0;
     return 1;
 }
 
+enum { LAST_KEY = 2147483646 };
+
+static int is_key(uint32_t key) { return key >= 1 && key <= LAST_KEY; }
+
+static int are_quantities(uint32_t total, uint32_t displayed) { return total >= 1 && displayed <= total; }
+
+/* Whether only the price stands against an enter or amend that answered 6. */
+static int only_price(uint32_t number, uint32_t total, uint32_t displayed) { return number == 6 && are_quantities(total, displayed); }
+
 /* Faults in which question comes first, or in what becomes of a held key. */
-static uint32_t faulty_enter(uint8_t *table, size_t length, uint32_t key, uint32_t total, uint32_t displayed, uint32_t number) {
-    if (fault(22) && number == 13) return __real_balluchaw_amend(table, length, key, total, displayed); /* overwrites a held key */
+static uint32_t faulty_enter(uint8_t *table, size_t length, uint32_t key, uint32_t total, uint32_t displayed, uint32_t price, uint32_t number) {
+    if (fault(22) && number == 13) return __real_balluchaw_amend(table, length, key, total, displayed, price); /* overwrites a held key */
     if (fault(23) && number == 13 && no_order_free(table)) return 7;
     if (fault(24) && number == 13 && no_block_free(table, length)) return 8;
     if (fault(25) && number == 6 && is_held(table, length, key)) return 13;
+    if (fault(42) && only_price(number, total, displayed)) return __real_balluchaw_enter(table, length, key, total, displayed, 1); /* takes price 0 */
+    if (fault(44) && number == 14 && !is_key(key)) return 5;
+    if (fault(46) && number == 14 && is_key(key) && !are_quantities(total, displayed)) return 6;
+    if (fault(48) && number == 14 && is_held(table, length, key)) return 13;
+    if (fault(50) && number == 4 && is_version(table, length, 1) && price) return 14;
+    if (fault(51) && number == 14) return __real_balluchaw_enter(table, length, key, total, displayed, 0); /* leaves the price out */
+    if (fault(52) && number == 5 && is_version(table, length, 2) && price == 0) return 6;
+    if (fault(53) && only_price(number, total, displayed) && is_held(table, length, key)) return 13;
     return number;
 }
 
-uint32_t __wrap_balluchaw_enter(uint8_t *table, size_t length, uint32_t key, uint32_t total, uint32_t displayed) {
-    uint8_t kept = length ? table[length - 1] : 0;
-    if (fault(4) && length >= 200 && table[0] == 1 && last_byte_free(table, length)) table[length - 1] = 0;
-    else kept = 0;
-    uint32_t number = __real_balluchaw_enter(table, length, key, total, displayed);
-    /* A table that counts its enters in a byte that nobody reads: only its bytes tell. */
-    if (fault(4) && number != 4 && length >= 200 && last_byte_free(table, length)) table[length - 1] = (uint8_t)(kept + (number == 0));
+uint32_t __wrap_balluchaw_enter(uint8_t *table, size_t length, uint32_t key, uint32_t total, uint32_t displayed, uint32_t price) {
+    uint8_t *copy = shown(table, length, 0);
+    uint32_t number = edited(table, length, copy, __real_balluchaw_enter(copy, length, key, total, displayed, price), 1);
     if (fault(5) && number == 8) table[20] ^= 1; /* a refused enter that leaves a trace */
-    return faulty_enter(table, length, key, total, displayed, number);
+    return faulty_enter(table, length, key, total, displayed, price, number);
 }
 
-uint32_t __wrap_balluchaw_amend(uint8_t *table, size_t length, uint32_t key, uint32_t total, uint32_t displayed) {
+/* Faults in the price of an amend, and in when it is asked for. */
+static uint32_t faulty_price(uint8_t *table, size_t length, uint32_t key, uint32_t total, uint32_t displayed, balluchaw_reply old, uint32_t number) {
+    int held = old.number == 0;
+    if (fault(41) && number == 0) return __real_balluchaw_amend(table, length, key, total, displayed, old.price); /* the price stays */
+    if (fault(43) && only_price(number, total, displayed) && held) return __real_balluchaw_amend(table, length, key, total, displayed, old.price);
+    if (fault(45) && number == 14 && !is_key(key)) return 5;
+    if (fault(47) && number == 14 && is_key(key) && !are_quantities(total, displayed)) return 6;
+    if (fault(49) && number == 14 && old.number == 9) return 9;
+    if (fault(53) && only_price(number, total, displayed) && !held) return 9;
+    return number;
+}
+
+uint32_t __wrap_balluchaw_amend(uint8_t *table, size_t length, uint32_t key, uint32_t total, uint32_t displayed, uint32_t price) {
     balluchaw_reply old = __real_balluchaw_lookup(table, length, key);
-    uint32_t number = __real_balluchaw_amend(table, length, key, total, displayed);
-    if (fault(26) && number == 9) return __real_balluchaw_enter(table, length, key, total, displayed); /* adds a key */
+    uint8_t *copy = shown(table, length, 0);
+    uint32_t number = edited(table, length, copy, __real_balluchaw_amend(copy, length, key, total, displayed, price), 0);
+    if (fault(26) && number == 9) return __real_balluchaw_enter(table, length, key, total, displayed, price); /* adds a key */
     if (fault(27) && number == 6 && old.number == 9) return 9;
     /* One of the two quantities stays, where it fits the other. */
-    if (fault(28) && number == 0 && old.displayed <= total) return __real_balluchaw_amend(table, length, key, total, old.displayed);
-    if (fault(29) && number == 0 && displayed <= old.total) return __real_balluchaw_amend(table, length, key, old.total, displayed);
+    if (fault(28) && number == 0 && old.displayed <= total) return __real_balluchaw_amend(table, length, key, total, old.displayed, price);
+    if (fault(29) && number == 0 && displayed <= old.total) return __real_balluchaw_amend(table, length, key, old.total, displayed, price);
     /* Room is asked for, though none is needed. The order goes back to what it was, so that only the number is wrong. */
     int full = number == 0 && ((fault(30) && no_order_free(table)) || (fault(31) && no_block_free(table, length)));
-    if (full) __real_balluchaw_amend(table, length, key, old.total, old.displayed);
-    return full ? (fault(30) ? 7 : 8) : number;
+    if (full) __real_balluchaw_amend(table, length, key, old.total, old.displayed, old.price);
+    if (full) return fault(30) ? 7 : 8;
+    return faulty_price(table, length, key, total, displayed, old, number);
 }
 
 uint32_t __wrap_balluchaw_cancel(uint8_t *table, size_t length, uint32_t key) {
-    uint32_t number = __real_balluchaw_cancel(table, length, key);
+    uint8_t *copy = shown(table, length, 0);
+    uint32_t number = edited(table, length, copy, __real_balluchaw_cancel(copy, length, key), 0);
     if (fault(6) && number == 0 && last_byte_free(table, length)) table[length - 1] = (uint8_t)(key | 1); /* a stale tail */
     if (fault(7) && number == 9) return 0;
     return number;
 }
 
 balluchaw_reply __wrap_balluchaw_lookup(const uint8_t *table, size_t length, uint32_t key) {
-    balluchaw_reply reply = __real_balluchaw_lookup(table, length, key);
+    uint8_t *copy = shown(table, length, 0);
+    balluchaw_reply reply = __real_balluchaw_lookup(copy, length, key);
+    free(copy);
     if (fault(8) && reply.number == 9) reply.key = key;
+    if (fault(57)) reply.price = 0;
     return reply;
 }
 
 balluchaw_reply __wrap_balluchaw_descent(const uint8_t *table, size_t length, uint32_t key, uint8_t *path, size_t path_length) {
-    balluchaw_reply reply = __real_balluchaw_descent(table, length, key, path, path_length);
+    uint8_t *copy = shown(table, length, 1);
+    if (fault(65) && is_version(table, length, 3)) copy[0] = 2;
+    balluchaw_reply reply = __real_balluchaw_descent(copy, length, key, path, path_length);
+    free(copy);
+    if (fault(58)) reply.price = 0;
     if (fault(11) && reply.number == 0) path[2 * reply.count] = 0; /* one byte too far */
     if (fault(12) && reply.number == 9) reply.count = 0;
     if (fault(13) && reply.count > 0) { /* the first number little-endian */
@@ -116,16 +266,38 @@ balluchaw_reply __wrap_balluchaw_descent(const uint8_t *table, size_t length, ui
     if (astray && fault(14) && 2 * (size_t)reply.count < path_length) path[2 * reply.count] ^= 1;
     if (astray && fault(15)) reply.count = (uint32_t)(path_length / 2 + 1);
     if (astray && fault(16)) { /* reads as many nodes of the last block as its count says */
-        const uint8_t *block = table + length - (8 + 12 * (size_t)table[6]);
-        for (uint32_t i = 0; block[0] == 1 && i < block[1]; i++) seen = block[8 + 12 * i];
+        const uint8_t *block = table + length - width_of(table);
+        for (uint32_t i = 0; block[0] == 1 && i < block[1]; i++) seen = block[8 + row_of(table) * i];
     }
     return reply;
 }
 
-balluchaw_reply __wrap_balluchaw_span(const uint8_t *table, size_t length, uint32_t lo, uint32_t hi, uint8_t *output, size_t output_length) {
-    balluchaw_reply reply = __real_balluchaw_span(table, length, lo, hi, output, output_length);
-    if (fault(9) && reply.number == 0 && reply.count > 2) output[12 * reply.count] = 0; /* one byte too far */
+/* How many orders lie in a range that a span was asked for. */
+static size_t orders_in(const uint8_t *table, size_t length, uint32_t lo, uint32_t hi) {
+    size_t room = row_of(table) * ((size_t)table[11] << 8 | table[12]);
+    uint8_t *rows = malloc(room + 1);
+    if (!rows) abort();
+    uint32_t count = __real_balluchaw_span(table, length, lo, hi, rows, room).count;
+    free(rows);
+    return count;
+}
+
+/* Spans that count the bytes of the other version's rows. */
+static balluchaw_reply other_eleven(const uint8_t *table, size_t length, uint32_t lo, uint32_t hi, size_t output_length, balluchaw_reply reply) {
+    size_t count = reply.number == 0 ? reply.count : reply.number == 11 ? orders_in(table, length, lo, hi) : 0;
+    if (fault(54) && reply.number == 11 && table[0] == 2 && 12 * count <= output_length) return (balluchaw_reply){.count = (uint32_t)count};
+    if (fault(55) && reply.number == 0 && table[0] == 1 && 16 * count > output_length) return (balluchaw_reply){.number = 11};
     return reply;
+}
+
+balluchaw_reply __wrap_balluchaw_span(const uint8_t *table, size_t length, uint32_t lo, uint32_t hi, uint8_t *output, size_t output_length) {
+    uint8_t *copy = shown(table, length, 0);
+    balluchaw_reply reply = __real_balluchaw_span(copy, length, lo, hi, output, output_length);
+    free(copy);
+    if (fault(9) && reply.number == 0 && reply.count > 2) output[row_of(table) * reply.count] = 0; /* one byte too far */
+    for (uint32_t i = 0; fault(56) && is_version(table, length, 2) && i < reply.count; i++) write_number(output + 16 * (size_t)i + 12, 0);
+    if (fault(60) && is_version(table, length, 2) && reply.count) reply.price = number_at(output + 12);
+    return other_eleven(table, length, lo, hi, output_length, reply);
 }
 
 /* Whether a seek takes an order, by other notions of what counts as reserve. */
@@ -150,22 +322,20 @@ static int exact_refused(uint32_t total, uint32_t displayed, uint32_t reserve) {
 /* Faults 17 to 21. They and 32 to 39 show only where lo is not held: a seek from one of a foreign table's orders does not meet them. */
 static takes *const other_reserves[] = {old_reserve, hidden_left_out, hidden_at_one, hidden_at_total, exact_refused};
 
-static uint32_t number_at(const uint8_t *p) { return (uint32_t)p[0] << 24 | (uint32_t)p[1] << 16 | (uint32_t)p[2] << 8 | p[3]; }
-
-static const balluchaw_reply twelve = {12, 0, 0, 0, 0};
+static const balluchaw_reply twelve = {12, 0, 0, 0, 0, 0};
 
 /* The orders of the range that are taken, rising, each as a seek's answer; a 12 behind them. How many they are goes to `fit`. */
 static balluchaw_reply *all_taken(takes *taken, const uint8_t *table, size_t length, uint32_t lo, uint32_t hi, uint32_t reserve, uint32_t *fit) {
-    size_t held = (size_t)table[11] << 8 | table[12];
-    uint8_t *rows = malloc(12 * held + 1);
+    size_t held = (size_t)table[11] << 8 | table[12], width = row_of(table);
+    uint8_t *rows = malloc(width * held + 1);
     balluchaw_reply *found = malloc((held + 1) * sizeof *found);
     if (!rows || !found) abort();
-    uint32_t count = __real_balluchaw_span(table, length, lo, hi, rows, 12 * held).count;
+    uint32_t count = __real_balluchaw_span(table, length, lo, hi, rows, width * held).count;
     *fit = 0;
     for (uint32_t i = 0; i < count; i++) {
-        const uint8_t *row = rows + 12 * (size_t)i;
-        uint32_t total = number_at(row + 4), displayed = number_at(row + 8);
-        if (taken(total, displayed, reserve)) found[(*fit)++] = (balluchaw_reply){0, number_at(row), total, displayed, 0};
+        const uint8_t *row = rows + width * i;
+        uint32_t total = number_at(row + 4), displayed = number_at(row + 8), price = width == 16 ? number_at(row + 12) : 0;
+        if (taken(total, displayed, reserve)) found[(*fit)++] = (balluchaw_reply){0, number_at(row), total, displayed, price, 0};
     }
     found[*fit] = twelve;
     free(rows);
@@ -191,8 +361,6 @@ static uint32_t largest(const balluchaw_reply *found, uint32_t fit) {
         if (reserve_of(found[i].total, found[i].displayed) > reserve_of(found[most].total, found[most].displayed)) most = i;
     return most;
 }
-
-enum { LAST_KEY = 2147483646 };
 
 /* Faults 32 to 40: not the lowest that fits, or not its quantities. Only where hi is ignored is the number wrong too. */
 static balluchaw_reply faulty_seek(const uint8_t *table, size_t length, uint32_t lo, uint32_t hi, uint32_t reserve, int again) {
@@ -220,7 +388,10 @@ static int asked_again(uint32_t lo, uint32_t hi, uint32_t reserve) {
 }
 
 balluchaw_reply __wrap_balluchaw_seek(const uint8_t *table, size_t length, uint32_t lo, uint32_t hi, uint32_t reserve) {
-    balluchaw_reply reply = __real_balluchaw_seek(table, length, lo, hi, reserve);
+    uint8_t *copy = shown(table, length, 0);
+    balluchaw_reply reply = __real_balluchaw_seek(copy, length, lo, hi, reserve);
+    free(copy);
+    if (fault(59)) reply.price = 0;
     if (fault(10) && reply.number == 0 && reserve > 100) return twelve;
     int again = asked_again(lo, hi, reserve);
     if (reply.number != 0 && reply.number != 12) return reply;

@@ -1,14 +1,14 @@
 #!/usr/bin/env bash
 # run.sh SECONDS   builds the fuzz target, sees that it stops at each planted fault, and runs it for so long.
 # What it found before stays in build/corpus and is where it goes on. An input that breaks something is kept as build/fuzz-crash-..; given to
-# build/fuzz as its only argument, it does so again. TELL=1 says of each planted fault how it was found.
+# build/fuzz as its only argument, it does so again. TELL=1 says of each planted fault how it was found. ARCHIVE is another archive than make's.
 set -euo pipefail
 cd "$(dirname "$0")/../.."
-archive=target/staticlib/libballuchaw.a
+archive=${ARCHIVE:-target/staticlib/libballuchaw.a}
 strict=(-std=gnu11 -g -O2 -Wall -Wextra -Werror -Iinclude)
 watched=(-fsanitize=address,undefined -fno-sanitize-recover=undefined)
 wraps=()
-for call in check enter amend cancel lookup descent span seek; do wraps+=("-Wl,--wrap=balluchaw_$call"); done
+for call in make check enter amend cancel lookup descent span seek; do wraps+=("-Wl,--wrap=balluchaw_$call"); done
 
 rm -rf build/corpus-first
 mkdir -p build/corpus build/corpus-first
@@ -19,16 +19,18 @@ clang "${watched[@]}" -fsanitize=fuzzer "${wraps[@]}" build/fuzz.o build/planted
 clang "${strict[@]}" tests/fuzz/corpus.c "$archive" -o build/corpus.bin
 build/corpus.bin build/corpus-first >build/fuzz.log
 
-settings=(-seed=1 -max_len=1600 -artifact_prefix=build/fuzz- -timeout=20)
-FAULT=0 build/fuzz-planted "${settings[@]}" -runs=100 build/corpus-first >>build/fuzz.log 2>&1 || { tail -20 build/fuzz.log; exit 1; }
-planted=40
+# As long as the longest of the first inputs, so that none is cut off.
+longest=$(stat -c %s build/corpus-first/* | sort -n | tail -n 1)
+settings=(-seed=1 -max_len="$longest" -artifact_prefix=build/fuzz- -timeout=20)
+FAULT=0 build/fuzz-planted "${settings[@]}" -runs=200 build/corpus-first >>build/fuzz.log 2>&1 || { tail -20 build/fuzz.log; exit 1; }
+planted=69
 for fault in $(seq $planted); do
     if FAULT=$fault build/fuzz-planted "${settings[@]}" -artifact_prefix=build/planted- -max_total_time=20 build/corpus-first \
         >build/planted.log 2>&1; then
         echo "fuzz: planted fault $fault not found"
         exit 1
     fi
-    [ -z "${TELL:-}" ] || { echo "fault $fault:"; grep -m2 -E 'fuzz: broken|ERROR: AddressSanitizer' build/planted.log; }
+    [ -z "${TELL:-}" ] || { echo "fault $fault:"; grep -m1 -E 'fuzz: broken|AddressSanitizer: ' build/planted.log; }
 done
 rm -f build/planted-*
 

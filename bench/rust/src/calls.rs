@@ -1,7 +1,8 @@
-//! The reference's calls on byte buffers.
+//! The reference's calls on byte buffers, of version 1: an order's price is 0.
 
 use crate::lent;
 use reference::calls;
+use reference::lists::Order;
 
 /// # Safety
 /// The table is lent.
@@ -20,7 +21,12 @@ pub unsafe extern "C" fn reference_enter(
     total: u32,
     displayed: u32,
 ) -> u32 {
-    calls::enter(lent(table, length), key, total, displayed).number
+    let order = Order {
+        total,
+        displayed,
+        price: 0,
+    };
+    calls::enter(lent(table, length), key, order).number
 }
 
 /// # Safety

@@ -53,7 +53,7 @@ order-line o = row (o .key) (o .total ∷ o .displayed ∷ [])
 unfoldable pub span-lines : (table : List ℕ) → (lo hi room : ℕ) → List (List ℕ)
 span-lines x lo hi room =
     answer-lines
-    (first-no (asks-image x ++ asks-span lo hi room (orders-in x)))
+    (first-no (asks-image x ++ asks-span (sizes-in x) lo hi room (orders-in x)))
     (length (between lo hi (orders-in x)) ∷ [])
     (map order-line (between lo hi (orders-in x)))
 

@@ -4,7 +4,8 @@ use mathlib.Core.Bool.{true}
 use mathlib.Core.List.{List}
 use Prim.Native.Nat.{ℕ, _≤_}
 use lib.ListN.{length, take, drop}
-use Rattle.sizes.specs.Header.{sizes-in}
+use Rattle.sizes.specs.Sizes.{row}
+use Rattle.sizes.specs.Header.{block-long, sizes-in}
 use Rattle.skiplist.specs.Image.{is-image}
 
 -- a buffer of 65,536 bytes, of which the first n are in use
@@ -18,10 +19,10 @@ pub record Front (n : ℕ) (old new : List ℕ) (Says : (table table-now : List 
   pub behind : drop n new ≡ drop n old
   pub whole : length new ≡ length old
 
--- an image whose header says so many nodes and blocks
-pub record Laid (table : List ℕ) (nodes blocks : ℕ) : Type 0 where
+-- an image whose header says so many blocks, each of `size` bytes, with nodes of w bytes
+pub record Laid (table : List ℕ) (size w blocks : ℕ) : Type 0 where
   pub image : is-image table ≡ true
-  pub nodes-are : nodes ≡ sizes-in table .nodes
+  pub size-is : size ≡ block-long (sizes-in table)
+  pub row-is : w ≡ row (sizes-in table)
   pub blocks-are : blocks ≡ sizes-in table .blocks
-  pub nodes-most : nodes ≤ 32
-  pub blocks-most : blocks ≤ 65535
+  pub least : 12 ≤ w

@@ -1,23 +1,31 @@
 // The calls on the table, which is the first `long` bytes of a buffer. No other file names the crates that have them.
 ghost use mathlib.Core.Path.{_≡_};
+ghost use mathlib.Core.Bool.{true};
 ghost use Prim.Native.Nat.{_≤_};
-ghost use lib.ListN.{length, take, replicate};
+ghost use lib.ListN.{length, take};
+ghost use Rattle.sizes.specs.Sizes.{row};
+ghost use Rattle.sizes.specs.Header.{sizes-in};
+ghost use Rattle.skiplist.specs.Image.{is-image};
 ghost use Rattle.table.specs.Calls.{Enter-says, Amend-says, Cancel-says, check-number, Look-says, Span-says, Seek-says};
-ghost use Rattle.answers.specs.Asked.{piece, seed-asked, long-asked, Make-asked};
+ghost use Rattle.answers.specs.Asked.{seed-asked, plain-asked, long-asked, Make-asked};
 ghost use Rattle.answers.specs.Lent.{Front};
 ghost use Rattle.answers.specs.Put.{Put-does};
+use placement::Order;
 use sizes::Sizes;
+use sizes::header::Header;
+use sizes::header::row;
 use sizes::header::sizes_allowed;
 use sizes::header::table_length;
 use sizes::numbers::put4;
 use table::Reply;
 
-// The sizes that a make is asked for.
+// The sizes that a make is asked for, with no seed.
 fn sizes_of(pieces: [u32; 15]) -> Sizes
-    ensures { λ r. ⌜ (r .gamma ≡ piece pieces 1) × (r .nodes ≡ piece pieces 2) × (r .orders ≡ piece pieces 3) × (r .blocks ≡ piece pieces 4) × (r .seed ≡ replicate 10 0) ⌝ }
+    ensures { λ r. ⌜ r ≡ plain-asked pieces ⌝ }
 {
     let seed = [0u32; 10];
     Sizes {
+        version: 1,
         gamma: pieces[1],
         nodes: pieces[2],
         orders: pieces[3],
@@ -57,6 +65,7 @@ pub fn make(table: &mut [u8], long: usize, pieces: [u32; 15]) -> u32
     write_seed(&mut seed, pieces);
     table::making::make(
         &mut table[0..long],
+        1,
         pieces[1],
         pieces[2],
         pieces[3],
@@ -65,28 +74,34 @@ pub fn make(table: &mut [u8], long: usize, pieces: [u32; 15]) -> u32
     )
 }
 
-fn enter(table: &mut [u8], long: usize, key: u32, total: u32, displayed: u32) -> u32
+fn enter(table: &mut [u8], long: usize, o: Order) -> u32
     requires { ⌜ long ≤ length (now table) ⌝ }
-    ensures { λ r. ⌜ Front long (now (table .entry)) (now (table .exit)) (Enter-says key total displayed r) ⌝ }
+    ensures { λ r. ⌜ Front long (now (table .entry)) (now (table .exit)) (Enter-says (o .key) (o .total) (o .displayed) (o .price) r) ⌝ }
 {
-    edits::changes::enter(&mut table[0..long], key, total, displayed)
+    edits::changes::enter(&mut table[0..long], o)
 }
 
-fn amend(table: &mut [u8], long: usize, key: u32, total: u32, displayed: u32) -> u32
+fn amend(table: &mut [u8], long: usize, o: Order) -> u32
     requires { ⌜ long ≤ length (now table) ⌝ }
-    ensures { λ r. ⌜ Front long (now (table .entry)) (now (table .exit)) (Amend-says key total displayed r) ⌝ }
+    ensures { λ r. ⌜ Front long (now (table .entry)) (now (table .exit)) (Amend-says (o .key) (o .total) (o .displayed) (o .price) r) ⌝ }
 {
-    edits::changes::amend(&mut table[0..long], key, total, displayed)
+    edits::changes::amend(&mut table[0..long], o)
 }
 
-// A put enters a key; one that is held already is amended.
+// A put enters a key; one that is held already is amended. The program's orders have no price.
 pub fn put(table: &mut [u8], long: usize, key: u32, total: u32, displayed: u32) -> u32
     requires { ⌜ long ≤ length (now table) ⌝ }
     ensures { λ r. ⌜ Front long (now (table .entry)) (now (table .exit)) (Put-does key total displayed r) ⌝ }
 {
-    let n = enter(table, long, key, total, displayed);
+    let o = Order {
+        key: key,
+        total: total,
+        displayed: displayed,
+        price: 0,
+    };
+    let n = enter(table, long, o);
     if n == 13 {
-        return amend(table, long, key, total, displayed);
+        return amend(table, long, o);
     }
     n
 }
@@ -124,4 +139,12 @@ pub fn check(table: &[u8], long: usize) -> u32
     ensures { λ r. ⌜ r ≡ check-number (take long (now (table .entry))) ⌝ }
 {
     table::checking::check(&table[0..long])
+}
+
+// The bytes of a row of the table.
+pub fn row_of(table: &[u8], long: usize) -> usize
+    requires { ⌜ (long ≤ length (now table)) × (is-image (take long (now table)) ≡ true) ⌝ }
+    ensures { λ r. ⌜ (r ≡ row (sizes-in (take long (now (table .entry))))) × (12 ≤ r) × (r ≤ 16) ⌝ }
+{
+    row(Header::read(&table[0..long]).sizes)
 }

@@ -7,7 +7,7 @@ ghost use lib.ListN.{length, getD, take, drop};
 ghost use Rattle.lines.specs.declared.Call.{Call};
 ghost use Rattle.lines.specs.Text.{row, dash};
 ghost use Rattle.sizes.specs.Numbers.{field};
-ghost use Rattle.placement.specs.Decode.{node-in, nodes-from, block-of};
+ghost use Rattle.placement.specs.Decode.{node-of, nodes-from, block-of};
 ghost use Rattle.skiplist.specs.Image.{is-image};
 ghost use Rattle.answers.specs.Answers.{show-lines, order-line, span-lines, seek-lines, keys-of, block-line, image-lines, blocks-lines, Step};
 ghost use Rattle.answers.specs.Lent.{Lent, Laid};
@@ -21,6 +21,9 @@ use lines::writing::put_dash;
 use lines::writing::put_mark;
 use lines::writing::put_row;
 use sizes::header::Header;
+use sizes::header::block_length;
+use sizes::header::row;
+use sizes::header::rows;
 use sizes::numbers::be2;
 use sizes::numbers::be4;
 use sizes::numbers::wide;
@@ -63,24 +66,24 @@ fn say_unknown(out: &mut [u8], used: usize) -> usize
     put_mark(out, at, b'?')
 }
 
-// An order: its key, total and displayed.
+// An order: its key, total and displayed, the first three numbers of its row.
 fn say_order(out: &mut [u8], used: usize, found: &[u8], at: usize) -> usize
     requires { ⌜ Lent (now out) used × (at + 12 ≤ length (now found)) ⌝ }
-    ensures { λ r. ⌜ Said (now (out .entry)) used (order-line (node-in (drop at (now (found .entry)))) ∷ []) (now (out .exit)) r ⌝ }
+    ensures { λ r. ⌜ Said (now (out .entry)) used (order-line (node-of 12 (now (found .entry)) at) ∷ []) (now (out .exit)) r ⌝ }
 {
     let quantities = [be4(found, at + 4), be4(found, at + 8)];
     say(out, used, be4(found, at), &quantities)
 }
 
-// n orders, one line each.
-fn say_orders(out: &mut [u8], used: usize, found: &[u8], n: u32) -> usize
-    requires { ⌜ Lent (now out) used × (12 * n ≤ length (now found)) ⌝ }
-    ensures { λ r. ⌜ Said (now (out .entry)) used (map order-line (nodes-from n (now (found .entry)))) (now (out .exit)) r ⌝ }
+// n orders in rows of w bytes, one line each.
+fn say_orders(out: &mut [u8], used: usize, found: &[u8], w: usize, n: u32) -> usize
+    requires { ⌜ Lent (now out) used × (12 ≤ w) × (w ≤ 16) × (w * n ≤ length (now found)) ⌝ }
+    ensures { λ r. ⌜ Said (now (out .entry)) used (map order-line (nodes-from w n (now (found .entry)))) (now (out .exit)) r ⌝ }
 {
     let mut place = used;
     let mut i: u32 = 0;
     while i < n {
-        place = say_order(out, place, found, 12 * (i as usize));
+        place = say_order(out, place, found, rows(w, i));
         i += 1;
     }
     place
@@ -108,64 +111,73 @@ fn head_row(table: &[u8], at: usize, n: usize) -> [u32; 36]
     row
 }
 
-// The keys of n nodes, behind the front of a row.
-fn keys(table: &[u8], at: usize, n: usize, head: [u32; 36]) -> [u32; 36]
-    requires { ⌜ (at + 12 * n ≤ length (now table)) × (n ≤ 32) × (length head ≡ 36) ⌝ }
-    ensures { λ r. ⌜ (length r ≡ 36) × (take (4 + n) r ≡ take 4 head ++ keys-of (nodes-from n (drop at (now (table .entry))))) ⌝ }
+// The keys of n nodes of w bytes, behind the front of a row.
+fn keys(table: &[u8], at: usize, w: usize, n: usize, head: [u32; 36]) -> [u32; 36]
+    requires { ⌜ (at + w * n ≤ length (now table)) × (12 ≤ w) × (n ≤ 32) × (length head ≡ 36) ⌝ }
+    ensures { λ r. ⌜ (length r ≡ 36) × (take (4 + n) r ≡ take 4 head ++ keys-of (nodes-from w n (drop at (now (table .entry))))) ⌝ }
 {
     let mut row = head;
+    let mut place = at;
     let mut i: usize = 0;
     while i < n {
-        row[4 + i] = be4(table, at + 12 * i);
+        row[4 + i] = be4(table, place);
+        place += w;
         i += 1;
     }
     row
 }
 
-// A block: its number, level, chunk number, first key, count, and the keys of its nodes.
+// A block of `size` bytes with nodes of w: its number, level, chunk number, first key, count, and the keys of its nodes.
 fn say_block(
     out: &mut [u8],
     used: usize,
     table: &[u8],
     at: usize,
-    nodes: usize,
+    size: usize,
+    w: usize,
     number: u32,
 ) -> usize
-    requires { ⌜ Lent (now out) used × (at + (8 + 12 * nodes) ≤ length (now table)) × (nodes ≤ 32) × (getD (now table) (at + 1) 0 ≤ nodes) ⌝ }
-    ensures { λ r. ⌜ Said (now (out .entry)) used (block-line number (block-of (take (8 + 12 * nodes) (drop at (now (table .entry))))) ∷ []) (now (out .exit)) r ⌝ }
+    requires { ⌜ Lent (now out) used × (at + size ≤ length (now table)) × (12 ≤ w) × (8 + w * getD (now table) (at + 1) 0 ≤ size) × (getD (now table) (at + 1) 0 ≤ 32) ⌝ }
+    ensures { λ r. ⌜ Said (now (out .entry)) used (block-line number (block-of w (take size (drop at (now (table .entry))))) ∷ []) (now (out .exit)) r ⌝ }
 {
     if table[at] == 0 {
         return say_empty(out, used, number);
     }
     let n = wide(table[at + 1]) as usize;
-    let row = keys(table, at + 8, n, head_row(table, at, n));
+    let row = keys(table, at + 8, w, n, head_row(table, at, n));
     say(out, used, number, &row[0..4 + n])
 }
 
 // The blocks, one line each.
-fn say_blocks(out: &mut [u8], used: usize, table: &[u8], nodes: usize, blocks: u32) -> usize
-    requires { ⌜ Lent (now out) used × Laid (now table) nodes blocks ⌝ }
+fn say_blocks(
+    out: &mut [u8],
+    used: usize,
+    table: &[u8],
+    size: usize,
+    w: usize,
+    blocks: u32,
+) -> usize
+    requires { ⌜ Lent (now out) used × Laid (now table) size w blocks ⌝ }
     ensures { λ r. ⌜ Said (now (out .entry)) used (image-lines (now (table .entry))) (now (out .exit)) r ⌝ }
 {
-    let size = 8 + 12 * nodes;
     let mut place = used;
     let mut at: usize = 53;
     let mut number: u32 = 0;
     while number < blocks {
-        place = say_block(out, place, table, at, nodes, number);
+        place = say_block(out, place, table, at, size, w, number);
         at = at + size;
         number += 1;
     }
     place
 }
 
-// The blocks of an image, as many as its header says, each of as many nodes.
+// The blocks of an image, as many as its header says, each of as many bytes.
 fn say_image(out: &mut [u8], used: usize, table: &[u8]) -> usize
     requires { ⌜ Lent (now out) used × (is-image (now table) ≡ true) ⌝ }
     ensures { λ r. ⌜ Said (now (out .entry)) used (image-lines (now (table .entry))) (now (out .exit)) r ⌝ }
 {
     let s = Header::read(table).sizes;
-    say_blocks(out, used, table, s.nodes as usize, s.blocks)
+    say_blocks(out, used, table, block_length(s) as usize, row(s), s.blocks)
 }
 
 fn answer_blocks(out: &mut [u8], table: &[u8], d: Lengths) -> usize
@@ -222,7 +234,7 @@ fn answer_span(
     }
     let count = [r.count];
     let used = say(out, d.used, 0, &count);
-    say_orders(out, used, found, r.count)
+    say_orders(out, used, found, calls::row_of(table, d.long), r.count)
 }
 
 // A make whose table is too long is no call. A refused make keeps the older table.

@@ -6,7 +6,7 @@ ghost use lib.ListN.{length};
 ghost use Rattle.sizes.specs.Geometry.{Reckoned};
 ghost use Rattle.sizes.specs.Header.{held-in, sizes-in};
 ghost use Rattle.skiplist.specs.Lists.{chunks};
-ghost use Rattle.skiplist.specs.Image.{is-image, orders-in};
+ghost use Rattle.skiplist.specs.Image.{price-good, is-image, orders-in};
 ghost use Rattle.skiplist.specs.Questions.{first-no, is-key, held, price-allowed, asks-order};
 ghost use Rattle.placement.specs.Place.{Shaped};
 ghost use Rattle.table.specs.Calls.{Enter-says, Amend-says, Cancel-says};
@@ -34,7 +34,6 @@ use sizes::header::field;
 use sizes::numbers::put2;
 use table::checking::check;
 use table::checking::examine;
-use table::walk::priced;
 
 // One level of an enter, the key's own or one below it; the first key of the partition one level down.
 fn enter_level(table: &mut [u8], q: Geometry, level: u32, l: u32, first: u32, o: Order) -> u32
@@ -89,6 +88,16 @@ fn price_allowed(s: Sizes, price: u32) -> bool
     true
 }
 
+// The price of an order: none in version 1, at least 1 in version 2.
+fn price_good(s: Sizes, price: u32) -> bool
+    ensures { λ r. ⌜ r ≡ price-good s price ⌝ }
+{
+    if s.version == 1 {
+        return price == 0;
+    }
+    1 <= price
+}
+
 // The questions of an image that enter and amend share: 14, 5, 6.
 fn asked(s: Sizes, o: Order) -> u32
     ensures { λ r. ⌜ r ≡ first-no (asks-order s (o .key) (o .total) (o .displayed) (o .price)) ⌝ }
@@ -105,7 +114,7 @@ fn asked(s: Sizes, o: Order) -> u32
     if o.total < o.displayed {
         return 6;
     }
-    if !priced(s, 1, o) {
+    if !price_good(s, o.price) {
         return 6;
     }
     0

@@ -24,14 +24,15 @@ fn price_of(table: &[u8], s: Sizes, at: usize) -> u32
     be4(table, at + 12)
 }
 
+// The price comes first: a test between the other three would keep the compiler from reading each of them at once.
 pub fn node_of(table: &[u8], s: Sizes, at: usize) -> Order
     requires { ⌜ at + row s ≤ length (now table) ⌝ }
     ensures { λ r. ⌜ r ≡ node-of (row s) (now (table .entry)) at ⌝ }
 {
+    let price = price_of(table, s, at);
     let key = be4(table, at);
     let total = be4(table, at + 4);
     let displayed = be4(table, at + 8);
-    let price = price_of(table, s, at);
     Order {
         key: key,
         total: total,

@@ -172,13 +172,7 @@ fn visit_whole(table: &[u8], s: Sizes, at: usize, left: u32, v: Visit, output: &
     if !v.writes {
         return w;
     }
-    sizes::numbers::bring(
-        output,
-        rows(long, v.found),
-        table,
-        at,
-        rows(long, left),
-    );
+    sizes::numbers::bring(output, rows(long, v.found), table, at, rows(long, left));
     w
 }
 
@@ -267,14 +261,7 @@ pub fn visit_nodes(
         if w.ended {
             return w;
         }
-        w = visit_partition(
-            table,
-            s,
-            level - 1,
-            node_of(table, s, place),
-            w,
-            output,
-        );
+        w = visit_partition(table, s, level - 1, node_of(table, s, place), w, output);
         place += long;
         k -= 1;
     }

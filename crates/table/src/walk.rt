@@ -6,6 +6,7 @@ ghost use lib.ListN.{length};
 ghost use Rattle.sizes.specs.Sizes.{row, seed-good};
 ghost use Rattle.sizes.specs.Hash.{hash-from};
 ghost use Rattle.sizes.specs.Geometry.{Reckoned};
+ghost use Rattle.placement.specs.Decode.{node-of};
 ghost use Rattle.table.specs.Walk.{Walkable, wrong-seen, nothing-in, quantities-ok, price-ok, fits-in, node-good, enters-ok, entered-seen, ended-seen, stops-at, nodes-by, enters-lowest, comes-ok, passed-seen, chunk-spot, empty-home, opens-of};
 use crate::Seen;
 use placement::Found;
@@ -16,6 +17,7 @@ use sizes::Geometry;
 use sizes::PRIME;
 use sizes::Sizes;
 use sizes::header::row;
+use sizes::numbers::be4;
 
 // The walk of a table that is no image.
 fn wrong() -> Seen
@@ -55,20 +57,22 @@ fn quantities(level: u32, n: Order) -> bool
     n.displayed <= n.total
 }
 
-// The price of a node: 0 above level 1 and for the front, and wherever nodes have none; else an order's is at least 1.
-pub fn priced(s: Sizes, level: u32, n: Order) -> bool
+// The price of a node, which stands at a place: 0 above level 1 and for the front; an order's is at least 1. It is read here, and only where nodes have one.
+fn priced(table: &[u8], s: Sizes, level: u32, at: usize, n: Order) -> bool
+    requires { ⌜ (at + row s ≤ length (now table)) × (n ≡ node-of (row s) (now table) at) ⌝ }
     ensures { λ r. ⌜ r ≡ price-ok s level n ⌝ }
 {
     if s.version == 1 {
-        return n.price == 0;
+        return true;
     }
+    let price = node_of(table, s, at).price;
     if level != 1 {
-        return n.price == 0;
+        return price == 0;
     }
     if n.key == 0 {
-        return n.price == 0;
+        return price == 0;
     }
-    1 <= n.price
+    1 <= price
 }
 
 // Does a node fit into a partition? The first key is known, any other has exactly the level of its list.
@@ -88,15 +92,24 @@ fn fits(q: Geometry, level: u32, first: u32, opens: bool, n: Order) -> bool
     sizes::hash::has_level(q.sizes, q.ratio, q.top, level, n.key)
 }
 
-// May a node above level 1 come by?
-fn comes_by(q: Geometry, level: u32, first: u32, opens: bool, n: Order, x: Seen) -> bool
-    requires { ⌜ (seed-good (q .sizes .seed) ≡ true) × (0 < q .sizes .gamma) × Reckoned q × (1 ≤ level) × (level ≤ q .top) ⌝ }
-    ensures { λ r. ⌜ r ≡ node-good (q .sizes) level first opens n x ⌝ }
+// May the node at a place come by, above level 1?
+fn comes_by(
+    table: &[u8],
+    q: Geometry,
+    level: u32,
+    first: u32,
+    opens: bool,
+    at: usize,
+    x: Seen,
+) -> bool
+    requires { ⌜ (seed-good (q .sizes .seed) ≡ true) × (0 < q .sizes .gamma) × Reckoned q × (1 ≤ level) × (level ≤ q .top) × (at + row (q .sizes) ≤ length (now table)) ⌝ }
+    ensures { λ r. ⌜ r ≡ node-good (q .sizes) level first opens (node-of (row (q .sizes)) (now (table .entry)) at) x ⌝ }
 {
     if !x.ok {
         return false;
     }
-    if !priced(q.sizes, level, n) {
+    let n = node_of(table, q.sizes, at);
+    if !priced(table, q.sizes, level, at, n) {
         return false;
     }
     fits(q, level, first, opens, n)
@@ -161,18 +174,19 @@ fn enters_lowest(nodes: u32, n: u32, x: Seen) -> bool
     n <= x.orders
 }
 
-// May a node of level 1 come by, an order or the front? Its key is at least `low`, and below p.
-fn comes(q: Geometry, first: u32, opens: bool, low: u32, n: Order) -> bool
-    requires { ⌜ (seed-good (q .sizes .seed) ≡ true) × (0 < q .sizes .gamma) × Reckoned q × (1 ≤ q .top) ⌝ }
-    ensures { λ r. ⌜ r ≡ comes-ok (q .sizes) first opens low n ⌝ }
+// May the node at a place come by at level 1, an order or the front? Its key is at least `low`, and below p.
+fn comes(table: &[u8], q: Geometry, first: u32, opens: bool, low: u32, at: usize) -> bool
+    requires { ⌜ (seed-good (q .sizes .seed) ≡ true) × (0 < q .sizes .gamma) × Reckoned q × (1 ≤ q .top) × (at + row (q .sizes) ≤ length (now table)) ⌝ }
+    ensures { λ r. ⌜ r ≡ comes-ok (q .sizes) first opens low (node-of (row (q .sizes)) (now (table .entry)) at) ⌝ }
 {
+    let n = node_of(table, q.sizes, at);
     if n.key < low {
         return false;
     }
     if PRIME <= n.key {
         return false;
     }
-    if !priced(q.sizes, 1, n) {
+    if !priced(table, q.sizes, 1, at, n) {
         return false;
     }
     fits(q, 1, first, opens, n)
@@ -250,13 +264,12 @@ fn walk_lowest(table: &[u8], q: Geometry, first: u32, g: u32, x: Seen) -> Seen
         let mut place = at + 8;
         let mut k = n;
         while 0 < k {
-            let o = node_of(table, q.sizes, place);
-            if !comes(q, first, opens, low, o) {
+            if !comes(table, q, first, opens, low, place) {
                 seen = wrong();
                 break 'blocks;
             }
             opens = false;
-            low = o.key + 1;
+            low = be4(table, place) + 1;
             place += w;
             k -= 1;
         }
@@ -318,21 +331,20 @@ pub fn walk_nodes(
     let mut o = opens;
     let mut place = at;
     let mut k = left;
-    let mut g = sizes::hash::hash(q.sizes, 5, sizes::numbers::be4(table, at));
+    let mut g = sizes::hash::hash(q.sizes, 5, be4(table, at));
     while 0 < k {
-        let n = node_of(table, q.sizes, place);
-        if !comes_by(q, level, first, o, n, y) {
+        if !comes_by(table, q, level, first, o, place, y) {
             return wrong();
         }
         let mut next: u32 = 0;
         if 1 < k {
-            let key = sizes::numbers::be4(table, place + w);
+            let key = be4(table, place + w);
             next = sizes::hash::hash(q.sizes, 5, key);
             if absent(table, q, level - 1, key, next) {
                 return wrong();
             }
         }
-        y = walk_partition(table, q, level - 1, n.key, g, y);
+        y = walk_partition(table, q, level - 1, be4(table, place), g, y);
         g = next;
         o = false;
         place += w;

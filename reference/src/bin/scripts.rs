@@ -138,6 +138,7 @@ impl Writer {
         let nodes = self.chance.pick(&[2, 2, 3, 4, 32]);
         let orders = self.chance.pick(&[1, 2, 5, 20, 60]);
         let least = Sizes {
+            version: 1,
             gamma,
             nodes,
             orders,

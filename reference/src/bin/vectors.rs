@@ -15,10 +15,10 @@
 //!         The byte at PLACE is changed to its exclusive or with BYTE.
 //!     set PLACE BYTES
 //!         The bytes from PLACE on become BYTES. This also undoes damage.
-//!     make γ B N M SEED LENGTH = ANSWER
+//!     make VERSION γ B N M SEED LENGTH = ANSWER
 //!     check LENGTH = ANSWER
-//!     enter LENGTH KEY TOTAL DISPLAYED = ANSWER
-//!     amend LENGTH KEY TOTAL DISPLAYED = ANSWER
+//!     enter LENGTH KEY TOTAL DISPLAYED PRICE = ANSWER
+//!     amend LENGTH KEY TOTAL DISPLAYED PRICE = ANSWER
 //!     cancel LENGTH KEY = ANSWER
 //!     lookup LENGTH KEY = ANSWER
 //!     descent LENGTH KEY OUTPUT = ANSWER WRITTEN
@@ -27,8 +27,8 @@
 //!     seek LENGTH LO HI R = ANSWER
 //!         A call. It is lent the first LENGTH bytes of the store as its table.
 //!
-//! ANSWER is NUMBER KEY TOTAL DISPLAYED COUNT STORE: the expected reply and the
-//! hash of the whole store after the call. A lookup or descent that succeeds
+//! ANSWER is NUMBER KEY TOTAL DISPLAYED PRICE COUNT STORE: the expected reply and
+//! the hash of the whole store after the call. A lookup or descent that succeeds
 //! repeats the key.
 //!
 //! OUTPUT is the length of the output lent to span or descent, byte i of which is
@@ -40,14 +40,14 @@
 
 use reference::calls::{self, Reply};
 use reference::image::held;
-use reference::lists::{chunks, lists, Orders, Quantities};
+use reference::lists::{chunks, lists, Order, Orders};
 use reference::paths::path;
 use reference::samples::{
-    constant_seed, fnv_1a, identity_seed, random_seed, some_quantities, some_seed, zero_seed,
-    Xorshift, EDGE_KEYS,
+    constant_seed, fnv_1a, identity_seed, random_seed, some_order, some_price, some_seed,
+    zero_seed, Xorshift, EDGE_KEYS,
 };
 use reference::seeks::some_seek;
-use reference::sizes::{Made, Sizes, HEADER, P};
+use reference::sizes::{row, Made, Sizes, BLOCK_HEAD, HEADER, P};
 use std::io::{self, BufWriter, Write};
 
 fn main() -> io::Result<()> {
@@ -82,6 +82,11 @@ impl Recorder {
         }
     }
 
+    /// As the store's first byte says.
+    fn version(&self) -> u32 {
+        self.store[0].into()
+    }
+
     fn done(&self) -> bool {
         self.lines.len() >= self.wanted
     }
@@ -101,12 +106,13 @@ impl Recorder {
             key,
             total,
             displayed,
+            price,
             count,
         } = reply;
         let store = fnv_1a(&self.store);
         let written = written.map_or(String::new(), |hash| format!(" {hash:016x}"));
         self.line(format!(
-            "{text} = {number} {key} {total} {displayed} {count} {store:016x}{written}"
+            "{text} = {number} {key} {total} {displayed} {price} {count} {store:016x}{written}"
         ));
         reply
     }
@@ -128,16 +134,16 @@ impl Recorder {
 
     fn make(&mut self, sizes: &Sizes, seed: &[u8], length: usize) -> Reply {
         let Sizes {
+            version,
             gamma,
             nodes,
             orders,
             blocks,
         } = *sizes;
-        let table = &mut self.store[..length];
-        let reply = calls::make(gamma, nodes, orders, blocks, seed, table);
+        let reply = calls::make(sizes, seed, &mut self.store[..length]);
         let seed = hex(seed);
         self.call(
-            format!("make {gamma} {nodes} {orders} {blocks} {seed} {length}"),
+            format!("make {version} {gamma} {nodes} {orders} {blocks} {seed} {length}"),
             reply,
             None,
         )
@@ -148,15 +154,23 @@ impl Recorder {
         self.call(format!("check {length}"), reply, None)
     }
 
-    fn enter(&mut self, length: usize, key: u32, total: u32, displayed: u32) -> Reply {
-        let reply = calls::enter(&mut self.store[..length], key, total, displayed);
-        let text = format!("enter {length} {key} {total} {displayed}");
-        self.call(text, reply, None)
+    fn enter(&mut self, length: usize, key: u32, new: Order) -> Reply {
+        let reply = calls::enter(&mut self.store[..length], key, new);
+        self.ticket("enter", length, key, new, reply)
     }
 
-    fn amend(&mut self, length: usize, key: u32, total: u32, displayed: u32) -> Reply {
-        let reply = calls::amend(&mut self.store[..length], key, total, displayed);
-        let text = format!("amend {length} {key} {total} {displayed}");
+    fn amend(&mut self, length: usize, key: u32, new: Order) -> Reply {
+        let reply = calls::amend(&mut self.store[..length], key, new);
+        self.ticket("amend", length, key, new, reply)
+    }
+
+    fn ticket(&mut self, word: &str, length: usize, key: u32, new: Order, reply: Reply) -> Reply {
+        let Order {
+            total,
+            displayed,
+            price,
+        } = new;
+        let text = format!("{word} {length} {key} {total} {displayed} {price}");
         self.call(text, reply, None)
     }
 
@@ -210,24 +224,34 @@ fn hex(bytes: &[u8]) -> String {
 
 // ---- what is recorded ------------------------------------------------------
 
-/// The examples of the document, seeks among more orders, refusals of make, then
-/// histories: small ones for each γ and B, two long ones, and random ones until
-/// there are enough.
+/// The examples of the document in both versions, seeks among more orders, refusals
+/// of make, then histories by turns of either version: small ones for each γ and B,
+/// two long ones, and random ones until there are enough.
 fn record_all(recorder: &mut Recorder) {
     let mut generator = Xorshift::new(1);
-    examples(recorder);
+    examples(recorder, 1);
+    examples(recorder, 2);
     lowest_orders(recorder);
     refused_makes(recorder);
-    for (gamma, nodes) in pairs() {
+    // 3 does not divide 16, so each γ and B meets both versions.
+    let mut versions = [1, 2, 2].into_iter().cycle();
+    for ((gamma, nodes), version) in pairs().zip(&mut versions) {
         let orders = generator.pick(&[1, 2, 5, 12, 40]);
-        small_history(recorder, &mut generator, gamma, nodes, orders);
+        let sizes = unbounded(version, gamma, nodes, orders);
+        small_history(recorder, &mut generator, sizes);
     }
-    long_history(recorder, &mut generator, 16, 16, 2000, 420);
-    long_history(recorder, &mut generator, 3, 2, 700, 900);
+    for (version, gamma, nodes, orders, blocks) in [(1, 16, 16, 2000, 420), (2, 3, 2, 700, 900)] {
+        let sizes = Sizes {
+            blocks,
+            ..unbounded(version, gamma, nodes, orders)
+        };
+        long_history(recorder, &mut generator, sizes);
+    }
     while !recorder.done() {
-        for (gamma, nodes) in pairs() {
+        for ((gamma, nodes), version) in pairs().zip(&mut versions) {
             let orders = generator.pick(&[1, 3, 7, 20, 64, 65, 150, 400]);
-            small_history(recorder, &mut generator, gamma, nodes, orders);
+            let sizes = unbounded(version, gamma, nodes, orders);
+            small_history(recorder, &mut generator, sizes);
         }
     }
 }
@@ -239,65 +263,120 @@ fn pairs() -> impl Iterator<Item = (u32, u32)> {
         .flat_map(|gamma| [2, 3, 16, 32].map(|nodes| (gamma, nodes)))
 }
 
-/// P3 to P8 and "Run only", what counts as reserve (document 02, A.2), and the
-/// questions of enter and amend (A.4).
-fn examples(recorder: &mut Recorder) {
-    let sizes = Sizes {
+/// An order of this version: the price is 0 in version 1.
+fn order(version: u32, total: u32, displayed: u32, price: u32) -> Order {
+    Order {
+        total,
+        displayed,
+        price: if version == 1 { 0 } else { price },
+    }
+}
+
+/// The sizes of the document's run.
+fn document(version: u32) -> Sizes {
+    Sizes {
+        version,
         gamma: 2,
         nodes: 2,
         orders: 2,
         blocks: 4,
-    };
+    }
+}
+
+/// P3 to P8 and "Run only", what counts as reserve (document 02, A.2), the questions
+/// of enter and amend (A.4), and the price (A.6).
+fn examples(recorder: &mut Recorder, version: u32) {
+    let sizes = document(version);
     let seed = identity_seed().bytes();
     let length = sizes.length();
+    let order = |total, displayed, price| order(version, total, displayed, price);
     recorder.room(length, 0xa5);
     recorder.check(length);
     recorder.make(&sizes, &seed, length);
     recorder.span(length, 1, P - 1, 0);
     descents(recorder, length, &[1, 3]);
     for key in EDGE_KEYS {
-        recorder.amend(length, key, 1, 0);
-        recorder.enter(length, key, 1, 0);
+        recorder.amend(length, key, order(1, 0, 1));
+        recorder.enter(length, key, order(1, 0, 1));
         recorder.lookup(length, key);
         recorder.descent(length, key, 8);
         recorder.cancel(length, key);
     }
     for (key, total, displayed) in [(3, 100, 101), (3, 100, 100), (4, 10, 0), (3, 0, 0)] {
-        recorder.enter(length, key, total, displayed);
+        recorder.enter(length, key, order(total, displayed, 700));
     }
-    for room in [0, 11, 12, 13, 24] {
+    for room in [0, 11, 12, 13, 15, 16, 17, 24] {
         recorder.span(length, 1, P - 1, room);
     }
-    recorder.enter(length, 6, 50, 50);
-    recorder.amend(length, 3, 100, 20);
-    recorder.enter(length, 4, 10, 0);
-    recorder.span(length, 6, 3, 24);
-    seeks(recorder, length);
-    descents(recorder, length, &[1, 3, 4, 6, 7, P - 1]);
+    recorder.enter(length, 6, order(50, 50, u32::MAX));
+    recorder.amend(length, 3, order(100, 20, 0x0102_0304));
+    recorder.enter(length, 4, order(10, 0, 1));
+    for room in [23, 24, 31, 32, 33] {
+        recorder.span(length, 1, P - 1, room);
+    }
+    recorder.span(length, 6, 3, 32);
+    for lent in [HEADER, length - 1] {
+        recorder.cancel(lent, 3);
+        recorder.lookup(lent, 3);
+        recorder.span(lent, 3, 3, 16);
+        recorder.seek(lent, 3, 3, 0);
+    }
+    recorder.lookup(length, 4);
+    recorder.span(length, 0, P - 1, 32);
+    recorder.seek(length, 1, P, 0);
+    seeks(recorder, length, version);
+    descents(recorder, length, &[3, 4, 6, P - 1]);
     descents_refused(recorder, length);
-    both_calls(recorder, length);
+    other_bytes(recorder, version);
+    both_calls(recorder, length, version);
     recorder.cancel(length, 3);
-    both_calls(recorder, length);
+    both_calls(recorder, length, version);
     recorder.cancel(length, 3);
 }
 
-/// Every enter and amend of some keys with some quantities, several questions
-/// answered "no" at once; one that succeeds is asked again. Where 3 and 6 are held
-/// the table has N orders and M chunks; beside 6 alone, 4 makes too many chunks.
-fn both_calls(recorder: &mut Recorder, length: usize) {
+/// Every enter and amend of some keys with some orders, several questions answered
+/// "no" at once; one that succeeds is asked again. Where 3 and 6 are held the table
+/// has N orders and M chunks; beside 6 alone, 4 makes too many chunks.
+fn both_calls(recorder: &mut Recorder, length: usize, version: u32) {
+    // Total, displayed, price. The last two have a price that the version has not.
+    let orders = match version {
+        1 => [
+            (10, 4, 0),
+            (10, 5, 0),
+            (11, 4, 0),
+            (0, 0, 0),
+            (10, 11, 0),
+            (10, 4, 1),
+            (0, 0, 7),
+        ],
+        _ => [
+            (10, 4, 7),
+            (10, 4, 8),
+            (11, 5, 7),
+            (0, 0, 7),
+            (10, 11, 7),
+            (10, 4, 0),
+            (0, 0, 0),
+        ],
+    };
+    let orders = orders.map(|(total, displayed, price)| Order {
+        total,
+        displayed,
+        price,
+    });
     let before = recorder.store.clone();
     for call in [Recorder::enter, Recorder::amend] {
         for key in [4, 3, 6, 0, P] {
-            for (total, displayed) in [(10, 4), (10, 5), (11, 4), (0, 0), (10, 11)] {
-                if call(recorder, length, key, total, displayed).number == 0 {
-                    call(recorder, length, key, total, displayed);
+            for new in orders {
+                if call(recorder, length, key, new).number == 0 {
+                    call(recorder, length, key, new);
                     recorder.lookup(length, key);
                 }
             }
         }
         for lent in [0, HEADER, length - 1] {
-            call(recorder, lent, 3, 10, 4);
-            call(recorder, lent, 0, 0, 1);
+            call(recorder, lent, 3, orders[0]);
+            call(recorder, lent, 0, orders[6]);
         }
     }
     recorder.set(0, &before);
@@ -306,15 +385,20 @@ fn both_calls(recorder: &mut Recorder, length: usize) {
 /// The orders as they are; then orders 3 and 6 with 10 in all, each of them hidden,
 /// displayed in part and displayed whole; then order 3 with the greatest total.
 /// Every r is at or beside 0, what an order has in reserve, or what it has in all.
-fn seeks(recorder: &mut Recorder, length: usize) {
+fn seeks(recorder: &mut Recorder, length: usize, version: u32) {
+    let order = |total, displayed, price| order(version, total, displayed, price);
     for r in [0, 1, 80, 81, u32::MAX] {
         recorder.seek(length, 1, P - 1, r);
     }
     recorder.seek(length, 6, 3, 0);
-    for three in [0, 4, 10] {
-        for six in [0, 4, 10] {
-            recorder.amend(length, 3, 10, three);
-            recorder.amend(length, 6, 10, six);
+    let displayed = match version {
+        1 => &[0, 4, 10][..],
+        _ => &[4],
+    };
+    for &three in displayed {
+        for &six in displayed {
+            recorder.amend(length, 3, order(10, three, 3));
+            recorder.amend(length, 6, order(10, six, 6));
             for r in [0, 1, 6, 7, 10, 11] {
                 recorder.seek(length, 1, P - 1, r);
                 recorder.seek(length, 3, 3, r);
@@ -322,7 +406,7 @@ fn seeks(recorder: &mut Recorder, length: usize) {
         }
     }
     for displayed in [0, 1] {
-        recorder.amend(length, 3, u32::MAX, displayed);
+        recorder.amend(length, 3, order(u32::MAX, displayed, 1));
         for r in [0, 1, u32::MAX - 1, u32::MAX] {
             recorder.seek(length, 1, 5, r);
         }
@@ -344,20 +428,19 @@ const LOWEST: [(u32, u32, u32); 8] = [
 ];
 
 /// Which order is given where several have the reserve, the lowest has not, or one
-/// outside lo..hi has (document 02, A.5). Each seek is asked twice. Then seeks that
-/// 4, 5 and 10 turn down.
+/// outside lo..hi has (document 02, A.5); each has another price, which tells them
+/// apart too. Each seek is asked twice. Then seeks that 4, 5 and 10 turn down.
 fn lowest_orders(recorder: &mut Recorder) {
     let sizes = Sizes {
-        gamma: 2,
-        nodes: 2,
         orders: 8,
         blocks: 16,
+        ..document(2)
     };
     let length = sizes.length();
     recorder.room(length, 0x5a);
     recorder.make(&sizes, &identity_seed().bytes(), length);
     for (key, total, displayed) in LOWEST {
-        recorder.enter(length, key, total, displayed);
+        recorder.enter(length, key, order(2, total, displayed, 1000 - key));
     }
     for (lo, hi) in [
         (1, P - 1),
@@ -384,18 +467,16 @@ fn lowest_orders(recorder: &mut Recorder) {
     }
 }
 
-/// To each key with every output from none to more than its path takes.
+/// To each key with outputs from none to more than its path takes.
 fn descents(recorder: &mut Recorder, length: usize, keys: &[u32]) {
     for &key in keys {
-        for room in 0..=9 {
+        for room in [0, 4, 5, 6, 7, 9] {
             recorder.descent(length, key, room);
         }
     }
 }
 
-/// Several questions of a descent answered "no", on a table that holds 3 and 6;
-/// then the same on a table that is damaged behind its header, which 4 does not
-/// see here.
+/// Several questions of a descent answered "no", on a table that holds 3 and 6.
 fn descents_refused(recorder: &mut Recorder, length: usize) {
     for lent in [0, 1, 52, 53, length - 1] {
         recorder.descent(lent, 0, 0);
@@ -410,18 +491,28 @@ fn descents_refused(recorder: &mut Recorder, length: usize) {
         recorder.descent(length, 3, 8);
         recorder.xor(place, 0xff);
     }
-    for block in 0..4 {
-        for (offset, bytes) in OTHER_BYTES {
-            let place = HEADER + block * 32 + offset;
-            let before = recorder.store[place..place + bytes.len()].to_vec();
-            recorder.set(place, bytes);
-            recorder.check(length);
-            recorder.descent(length, 0, 0);
-            for (key, room) in [(3, 0), (3, 8), (4, 5), (6, 7), (P - 1, 9)] {
-                recorder.descent(length, key, room);
-            }
-            recorder.set(place, &before);
-        }
+}
+
+/// Bytes changed in the document's run: another version, then what is other in the
+/// blocks, which 4 does not see in a descent.
+fn other_bytes(recorder: &mut Recorder, version: u32) {
+    let sizes = document(version);
+    let length = sizes.length();
+    let at = |block, place| HEADER + block * sizes.block_length() + place;
+    let mut changes: Vec<(usize, &[u8])> = vec![(0, &[0]), (0, &[1]), (0, &[2]), (0, &[3])];
+    match version {
+        1 => (0..4).for_each(|block| {
+            changes.extend(OTHER_BYTES.map(|(place, bytes)| (at(block, place), bytes)))
+        }),
+        _ => changes.extend(OTHER_PRICES.map(|(block, place, bytes)| (at(block, place), bytes))),
+    }
+    let asked = [(3, 8), (0, 0), (4, 5), (6, 7), (P - 1, 9)];
+    for ((place, bytes), (key, room)) in changes.into_iter().zip(asked.into_iter().cycle()) {
+        let before = recorder.store[place..place + bytes.len()].to_vec();
+        recorder.set(place, bytes);
+        recorder.check(length);
+        recorder.descent(length, key, room);
+        recorder.set(place, &before);
     }
 }
 
@@ -443,88 +534,96 @@ const OTHER_BYTES: [(usize, &[u8]); 13] = [
     (20, &[0, 0, 0, 0]),
 ];
 
+/// Blocks, places in them and what is written there, in version 2: a price of the
+/// front, of a key above level 1 and of a node behind the count; another price of an
+/// order, and 0.
+const OTHER_PRICES: [(usize, usize, &[u8]); 12] = [
+    (0, 20, &[0, 0, 0, 1]),
+    (1, 20, &[1, 0, 0, 0]),
+    (3, 20, &[0, 0, 0, 1]),
+    (1, 36, &[0, 0, 0, 1]),
+    (1, 36, &[255, 255, 255, 255]),
+    (2, 24, &[0, 0, 0, 9]),
+    (2, 36, &[0, 0, 0, 1]),
+    (3, 39, &[1]),
+    (0, 36, &[0, 0, 0, 0]),
+    (0, 36, &[255, 255, 255, 255]),
+    (2, 20, &[0, 0, 0, 0]),
+    (2, 23, &[7]),
+];
+
 /// Each question of make answered "no", alone and with later ones.
 fn refused_makes(recorder: &mut Recorder) {
-    let sizes = Sizes {
-        gamma: 2,
-        nodes: 2,
-        orders: 2,
-        blocks: 4,
-    };
+    let both = [document(1), document(2)];
+    let [first, second] = both;
     let seed = identity_seed().bytes();
-    let length = sizes.length();
-    recorder.room(length + 60, 0x3c);
+    recorder.room(second.length() + 60, 0x3c);
     for seed_length in [0, 1, 39, 41, 44] {
         let seed: Vec<u8> = seed.iter().copied().cycle().take(seed_length).collect();
-        recorder.make(&sizes, &seed, length);
+        recorder.make(&first, &seed, first.length());
     }
     for place in 0..10 {
         for number in [P - 1, P, u32::MAX] {
             let mut seed = seed.clone();
             seed[4 * place..4 * place + 4].copy_from_slice(&number.to_be_bytes());
-            recorder.make(&sizes, &seed, length);
+            recorder.make(&second, &seed, second.length());
         }
     }
     let bad_seed = [0xff; 40];
     for sizes in wrong_sizes() {
-        recorder.make(&sizes, &seed, length);
-        recorder.make(&sizes, &bad_seed, length);
+        recorder.make(&sizes, &seed, first.length());
+        recorder.make(&sizes, &bad_seed, second.length());
     }
-    for length in [0, 1, 52, 53, length - 1, length + 1, length + 32] {
-        recorder.make(&sizes, &seed, length);
-        recorder.check(length);
+    for sizes in both {
+        let length = sizes.length();
+        for length in [0, 1, 52, 53, 181, 213, length - 1, length + 1] {
+            recorder.make(&sizes, &seed, length);
+            recorder.check(length);
+        }
+        let three = Sizes { blocks: 3, ..sizes };
+        recorder.make(&three, &seed, three.length());
     }
-    let three = Sizes { blocks: 3, ..sizes };
-    recorder.make(&three, &seed, three.length());
 }
 
-/// Sizes each just outside what is allowed, or far.
+/// Versions and sizes each just outside what is allowed, or far.
 fn wrong_sizes() -> Vec<Sizes> {
-    let sizes = Sizes {
-        gamma: 2,
-        nodes: 2,
-        orders: 2,
-        blocks: 4,
-    };
+    let (first, second) = (document(1), document(2));
     let mut wrong = Vec::new();
-    wrong.extend([0, 1, 65, 256 + 2, u32::MAX].map(|gamma| Sizes { gamma, ..sizes }));
-    wrong.extend([0, 1, 33, 256 + 2, u32::MAX].map(|nodes| Sizes { nodes, ..sizes }));
-    wrong.extend([0, 65_536, 65_538, u32::MAX].map(|orders| Sizes { orders, ..sizes }));
-    wrong.extend([0, 1, 2, 65_536, 65_540, u32::MAX].map(|blocks| Sizes { blocks, ..sizes }));
+    wrong.extend([0, 3, 256 + 1, u32::MAX].map(|version| Sizes { version, ..first }));
+    wrong.extend([0, 1, 65, 256 + 2, u32::MAX].map(|gamma| Sizes { gamma, ..first }));
+    wrong.extend([0, 1, 33, 256 + 2, u32::MAX].map(|nodes| Sizes { nodes, ..second }));
+    wrong.extend([0, 65_536, 65_538, u32::MAX].map(|orders| Sizes { orders, ..first }));
+    wrong.extend([0, 1, 2, 65_536, 65_540, u32::MAX].map(|blocks| Sizes { blocks, ..second }));
     wrong
 }
 
-/// A history with many orders.
-fn long_history(
-    recorder: &mut Recorder,
-    generator: &mut Xorshift,
-    gamma: u32,
-    nodes: u32,
-    orders: u32,
-    blocks: u32,
-) {
-    let sizes = Sizes {
+/// Sizes with the most blocks.
+fn unbounded(version: u32, gamma: u32, nodes: u32, orders: u32) -> Sizes {
+    Sizes {
+        version,
         gamma,
         nodes,
         orders,
-        blocks,
-    };
-    let made = Made {
-        sizes,
-        seed: random_seed(generator),
-    };
-    let keys = pool(generator, orders);
-    history(recorder, generator, &made, keys, 300);
+        blocks: 65_535,
+    }
 }
 
-/// A history with some M, from the least to more than is ever needed.
-fn small_history(
-    recorder: &mut Recorder,
-    generator: &mut Xorshift,
-    gamma: u32,
-    nodes: u32,
-    orders: u32,
-) {
+/// A history with many orders.
+fn long_history(recorder: &mut Recorder, generator: &mut Xorshift, sizes: Sizes) {
+    let seed = random_seed(generator);
+    let keys = pool(generator, sizes.orders);
+    history(recorder, generator, &Made { sizes, seed }, keys, 300);
+}
+
+/// A history with some M in place of the most, from the least to more than is ever
+/// needed.
+fn small_history(recorder: &mut Recorder, generator: &mut Xorshift, unbounded: Sizes) {
+    let Sizes {
+        gamma,
+        nodes,
+        orders,
+        ..
+    } = unbounded;
     let keys = pool(generator, orders);
     let seed = match generator.below(8) {
         0 => zero_seed(),
@@ -532,39 +631,20 @@ fn small_history(
         2 => identity_seed(),
         _ => some_seed(generator),
     };
-    let unbounded = Sizes {
-        gamma,
-        nodes,
-        orders,
-        blocks: 65_535,
+    let mut made = Made {
+        sizes: unbounded,
+        seed,
     };
     let least = unbounded.beta();
-    let exact = chunks_of_first(
-        &Made {
-            sizes: unbounded,
-            seed,
-        },
-        &keys,
-    );
-    let blocks = match generator.below(8) {
+    made.sizes.blocks = match generator.below(8) {
         0 => least,
         1 => least + 1 + orders / nodes,
         2 => least + 2 * orders / gamma + orders / nodes,
         3 => least + 2 * orders,
         4 => (least * (orders + 1)).min(1000),
-        _ => exact,
+        _ => chunks_of_first(&made, &keys),
     };
-    let sizes = Sizes {
-        blocks,
-        ..unbounded
-    };
-    history(
-        recorder,
-        generator,
-        &Made { sizes, seed },
-        keys,
-        60 + orders as usize,
-    );
+    history(recorder, generator, &made, keys, 60 + orders as usize);
 }
 
 /// How many chunks the first N different keys make: with so many blocks they
@@ -573,13 +653,7 @@ fn chunks_of_first(made: &Made, keys: &[u32]) -> u32 {
     let mut orders = Orders::new();
     for &key in keys {
         if orders.len() < made.sizes.orders as usize {
-            orders.insert(
-                key,
-                Quantities {
-                    total: 1,
-                    displayed: 0,
-                },
-            );
+            orders.insert(key, Order::default());
         }
     }
     chunks(made, &lists(made, &orders)).len() as u32
@@ -640,8 +714,8 @@ fn fill(recorder: &mut Recorder, generator: &mut Xorshift, length: usize, keys: 
         if recorder.done() || refusals > 12 {
             return;
         }
-        let (total, displayed) = some_quantities(generator);
-        let reply = recorder.enter(length, key, total, displayed);
+        let new = some_order(generator, recorder.version());
+        let reply = recorder.enter(length, key, new);
         refusals += u32::from(reply.number != 0);
     }
 }
@@ -684,13 +758,18 @@ fn random_step(recorder: &mut Recorder, generator: &mut Xorshift, length: usize,
     let key = some_key(generator, keys);
     match generator.below(16) {
         0..=5 => {
-            let (mut total, mut displayed) = some_quantities(generator);
+            let mut new = some_order(generator, recorder.version());
             if generator.one_in(12) {
-                (total, displayed) = generator.pick(&[(0, 0), (0, 1), (100, 101), (1, u32::MAX)]);
+                (new.total, new.displayed) =
+                    generator.pick(&[(0, 0), (0, 1), (100, 101), (1, u32::MAX)]);
+            }
+            if generator.one_in(12) {
+                let price = some_price(generator);
+                new.price = generator.pick(&[0, price]);
             }
             match generator.below(2) {
-                0 => recorder.enter(length, key, total, displayed),
-                _ => recorder.amend(length, key, total, displayed),
+                0 => recorder.enter(length, key, new),
+                _ => recorder.amend(length, key, new),
             };
         }
         6..=8 => {
@@ -716,8 +795,10 @@ fn reading(recorder: &mut Recorder, generator: &mut Xorshift, length: usize, key
             recorder.lookup(length, one);
         }
         1 => {
-            let needed = 12 * count(&orders(&recorder.store[..length]), lo, hi);
-            let room = output_length(generator, needed);
+            let found = count(&orders(&recorder.store[..length]), lo, hi);
+            let width = row(recorder.version());
+            let width = generator.pick(&[width, width, 12, 16]);
+            let room = output_length(generator, width * found);
             recorder.span(length, lo, hi, room);
         }
         2 => a_seek(recorder, generator, length, (lo, hi)),
@@ -770,17 +851,19 @@ fn count(orders: &Orders, lo: u32, hi: u32) -> usize {
 fn damage(recorder: &mut Recorder, generator: &mut Xorshift, sizes: &Sizes, keys: &[u32]) {
     let length = sizes.length();
     let before = recorder.store.clone();
-    let (place, width) = match generator.below(4) {
-        0 => damaged_byte(recorder, generator, length),
-        1 => damaged_byte(recorder, generator, HEADER),
-        2 => damaged_node(recorder, generator, sizes),
-        _ => moved_block(recorder, generator, sizes),
+    let (place, width) = match generator.below(9) {
+        0 | 1 => damaged_byte(recorder, generator, length),
+        2 | 3 => damaged_byte(recorder, generator, HEADER),
+        4 | 5 => damaged_node(recorder, generator, sizes),
+        6 | 7 => moved_block(recorder, generator, sizes),
+        _ => other_version(recorder, sizes),
     };
     let damaged = recorder.check(length).number == 4;
     if damaged {
         let key = generator.pick(keys);
-        recorder.enter(length, key, 5, 2);
-        recorder.amend(length, key, 5, 2);
+        let new = order(sizes.version, 5, 2, 1);
+        recorder.enter(length, key, new);
+        recorder.amend(length, key, new);
         recorder.cancel(length, key);
         some_descent(recorder, generator, length, key);
         let edge = generator.pick(&EDGE_KEYS);
@@ -799,15 +882,16 @@ fn damaged_byte(recorder: &mut Recorder, generator: &mut Xorshift, bound: usize)
     (place, 1)
 }
 
-/// Key, total or displayed of some node set to a number at an edge.
+/// Key, total, displayed or price of some node set to a number at an edge.
 fn damaged_node(
     recorder: &mut Recorder,
     generator: &mut Xorshift,
     sizes: &Sizes,
 ) -> (usize, usize) {
     let block = generator.below(sizes.blocks) as usize;
-    let number = generator.below(3 * sizes.nodes.min(4)) as usize;
-    let place = HEADER + block * sizes.block_length() + 8 + 4 * number;
+    let numbers = row(sizes.version) as u32 / 4 * sizes.nodes.min(4);
+    let number = generator.below(numbers) as usize;
+    let place = HEADER + block * sizes.block_length() + BLOCK_HEAD + 4 * number;
     let value: u32 = generator.pick(&[0, 1, P, u32::MAX]);
     recorder.set(place, &value.to_be_bytes());
     (place, 4)
@@ -822,4 +906,17 @@ fn moved_block(recorder: &mut Recorder, generator: &mut Xorshift, sizes: &Sizes)
     let second = if generator.one_in(3) { &two } else { &one };
     recorder.set(place, &[two.as_slice(), second].concat());
     (place, 2 * width)
+}
+
+/// The other version. Where some B leaves the blocks as long as they are, that B too,
+/// and rule 1 holds.
+fn other_version(recorder: &mut Recorder, sizes: &Sizes) -> (usize, usize) {
+    let version = 3 - sizes.version;
+    recorder.set(0, &[version as u8]);
+    let bytes = row(sizes.version) as u32 * sizes.nodes;
+    let nodes = bytes / row(version) as u32;
+    if bytes % row(version) as u32 == 0 && nodes <= 32 {
+        recorder.set(6, &[nodes as u8]);
+    }
+    (0, 7)
 }

@@ -5,8 +5,8 @@
 
 use reference::calls::{self, Reply};
 use reference::image::{blocks, held, image};
-use reference::lists::{chunks, lists, Label, Orders, Quantities};
-use reference::samples::{identity_seed, some_quantities, some_seed, Xorshift};
+use reference::lists::{chunks, lists, Label, Order, Orders};
+use reference::samples::{identity_seed, some_order, some_seed, Xorshift};
 use reference::sizes::{Made, Sizes, P};
 
 /// Sizes and seed of the document's run.
@@ -17,8 +17,10 @@ pub fn document() -> Made {
     }
 }
 
+/// Of version 1.
 pub fn sizes(gamma: u32, nodes: u32, orders: u32, blocks: u32) -> Sizes {
     Sizes {
+        version: 1,
         gamma,
         nodes,
         orders,
@@ -26,30 +28,37 @@ pub fn sizes(gamma: u32, nodes: u32, orders: u32, blocks: u32) -> Sizes {
     }
 }
 
-pub fn order(total: u32, displayed: u32) -> Quantities {
-    Quantities { total, displayed }
+/// The same in this version.
+pub fn in_version(version: u32, made: Made) -> Made {
+    let sizes = Sizes {
+        version,
+        ..made.sizes
+    };
+    Made { sizes, ..made }
+}
+
+/// Without a price.
+pub fn order(total: u32, displayed: u32) -> Order {
+    priced(total, displayed, 0)
+}
+
+pub fn priced(total: u32, displayed: u32, price: u32) -> Order {
+    Order {
+        total,
+        displayed,
+        price,
+    }
 }
 
 /// The answer that gives this order.
 pub fn found(key: u32, total: u32, displayed: u32) -> Reply {
-    Reply {
-        key,
-        total,
-        displayed,
-        ..Reply::done()
-    }
+    Reply::order(key, &order(total, displayed))
 }
 
 /// A table made by the call.
 pub fn made_table(made: &Made) -> Vec<u8> {
-    let Sizes {
-        gamma,
-        nodes,
-        orders,
-        blocks,
-    } = made.sizes;
     let mut table = vec![0xa5; made.sizes.length()];
-    let reply = calls::make(gamma, nodes, orders, blocks, &made.seed.bytes(), &mut table);
+    let reply = calls::make(&made.sizes, &made.seed.bytes(), &mut table);
     assert_eq!(reply.number, 0, "{made:?}");
     table
 }
@@ -58,8 +67,8 @@ pub fn made_table(made: &Made) -> Vec<u8> {
 /// is used.
 pub fn full_table() -> Vec<u8> {
     let mut table = made_table(&document());
-    assert_eq!(calls::enter(&mut table, 6, 50, 50), Reply::done());
-    assert_eq!(calls::enter(&mut table, 3, 100, 20), Reply::done());
+    assert_eq!(calls::enter(&mut table, 6, order(50, 50)), Reply::done());
+    assert_eq!(calls::enter(&mut table, 3, order(100, 20)), Reply::done());
     table
 }
 
@@ -92,6 +101,7 @@ pub fn refused(table: &[u8], call: impl Fn(&mut [u8]) -> Reply) -> u32 {
             key: 0,
             total: 0,
             displayed: 0,
+            price: 0,
             count: 0
         }
     );
@@ -102,7 +112,7 @@ pub fn refused(table: &[u8], call: impl Fn(&mut [u8]) -> Reply) -> u32 {
 /// Document 01's put on a set of orders: "Is the key 1..p−1? 5. Is total ≥ 1 and
 /// displayed ≤ total? 6. Is the key held, or n < N? 7. Does the resulting set have
 /// at most M chunks? 8. A put on a held key replaces both quantities."
-pub fn put_of_document_01(made: &Made, orders: &mut Orders, key: u32, new: Quantities) -> u32 {
+pub fn put_of_document_01(made: &Made, orders: &mut Orders, key: u32, new: Order) -> u32 {
     let mut resulting = orders.clone();
     resulting.insert(key, new);
     let room = orders.len() < made.sizes.orders as usize;
@@ -122,7 +132,7 @@ pub fn put_of_document_01(made: &Made, orders: &mut Orders, key: u32, new: Quant
     }
 }
 
-/// Some sizes and seed, of tables with few orders, M from tight to loose.
+/// Some version, sizes and seed, of tables with few orders, M from tight to loose.
 pub fn some_made(generator: &mut Xorshift) -> Made {
     let gamma = generator.pick(&[2, 2, 3, 4, 7, 16, 64]);
     let nodes = generator.pick(&[2, 2, 3, 4, 5, 16, 32]);
@@ -135,10 +145,11 @@ pub fn some_made(generator: &mut Xorshift) -> Made {
         3 => beta + orders,
         _ => beta * (orders + 1),
     };
-    Made {
+    let made = Made {
         sizes: sizes(gamma, nodes, orders, blocks),
         seed: some_seed(generator),
-    }
+    };
+    in_version(generator.within(1, 2), made)
 }
 
 /// A key from a range that a table of this size can fill densely, or from anywhere.
@@ -155,9 +166,8 @@ pub fn some_orders(generator: &mut Xorshift, made: &Made, wanted: u32) -> Orders
     let mut orders = Orders::new();
     for _ in 0..wanted.min(made.sizes.orders) {
         let key = some_key(generator, made);
-        let (total, displayed) = some_quantities(generator);
         let mut more = orders.clone();
-        more.insert(key, order(total, displayed));
+        more.insert(key, some_order(generator, made.sizes.version));
         if image(made, &more).is_some() {
             orders = more;
         }

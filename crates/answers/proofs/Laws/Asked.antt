@@ -8,14 +8,14 @@ use native.Mathlib.Omega.{arith}
 use lib.ListN.{length, getD, take, drop, length-drop}
 use lib.Seq.{sets, length-sets, take-suc, take-all, getD-drop}
 use Rattle.sizes.specs.Numbers.{big, rows}
-use Rattle.sizes.specs.Sizes.{beta, sizes-good}
+use Rattle.sizes.specs.Sizes.{beta, row, sizes-good}
 use Rattle.sizes.specs.Header.{seed-bytes, block-long, table-long}
 use Rattle.sizes.specs.declared.Sizes.{Sizes}
 use Rattle.sizes.proofs.Laws.Numbers.{length-big}
 use Rattle.skiplist.specs.Questions.{parameters, sizes}
 use Rattle.table.specs.Calls.{Make-says}
 use Rattle.placement.proofs.Laws.Cells.{take-sets-end}
-use Rattle.answers.specs.Asked.{piece, seed-asked, sizes-asked, long-asked, Make-asked}
+use Rattle.answers.specs.Asked.{piece, seed-asked, sizes-asked, plain-asked, long-asked, Make-asked}
 
 -- THE SEED, number by number
 rows-snoc : (xs : List ℕ) (v : ℕ) → seed-bytes (xs ++ (v ∷ [])) ≡ seed-bytes xs ++ big 4 v
@@ -56,18 +56,18 @@ module _ (p : List ℕ) where
         sym (take-all 40 seed (omega (arith, s .room))) ∙ subst (λ (k : ℕ). take (4 * k) seed ≡ seed-bytes (take k (drop 5 p))) e (s .is)
 
 -- make is called with those bytes
-pub make-asked : (p seed x z : List ℕ) (r : ℕ) → seed ≡ seed-asked p → Make-says (parameters (piece p 1) (piece p 2) (piece p 3) (piece p 4) seed) r x z → Make-asked p r x z
+pub make-asked : (p seed x z : List ℕ) (r : ℕ) → seed ≡ seed-asked p → Make-says (parameters 1 (piece p 1) (piece p 2) (piece p 3) (piece p 4) seed) r x z → Make-asked p r x z
 make-asked p seed x z r e h = rw e at h
 
 -- THE LENGTH of the table that is asked for
-module _ (p : List ℕ) (s : Sizes) (a : s .gamma ≡ piece p 1) (b : s .nodes ≡ piece p 2) (c : s .orders ≡ piece p 3) (d : s .blocks ≡ piece p 4) where
+module _ (p : List ℕ) (s : Sizes) (h : s ≡ plain-asked p) where
   asked-good : sizes-good (sizes-asked p) ≡ sizes-good s
   unfolding sizes-asked sizes sizes-good beta
-  asked-good = cc
+  asked-good = ap sizes-good (sym h)
 
   asked-long : table-long (sizes-asked p) ≡ table-long s
-  unfolding sizes-asked sizes table-long block-long
-  asked-long = cc
+  unfolding sizes-asked sizes table-long block-long row
+  asked-long = ap table-long (sym h)
 
   pub long-yes : (t : Bool) → t ≡ sizes-good s → t ≡ true → (r : ℕ) → r ≡ table-long s → r ≡ long-asked p
   unfolding long-asked

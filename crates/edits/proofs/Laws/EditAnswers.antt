@@ -26,7 +26,6 @@ use Rattle.skiplist.proofs.Laws.Shapes.{Place, there, absent, place, held-there
 use Rattle.skiplist.proofs.Laws.Questions.{passes}
 use Rattle.skiplist.proofs.Laws.Kept.{fits-parts, Kept}
 use Rattle.table.specs.Calls.{Edit-says, Enter-says, Amend-says}
-use Rattle.table.specs.Walk.{price-ok}
 use Rattle.readings.specs.Visit.{Known}
 use Rattle.readings.proofs.Laws.Answers.{known-image, known-at, known-long}
 use Rattle.readings.proofs.Laws.Replies.{key-least}
@@ -111,6 +110,14 @@ module _ (s : Sizes) (p : ℕ) where
   unfolding price-allowed
   allowed-some e = rw (ne-eqb (s .version) 1 e)
 
+  pub good-none : s .version ≡ 1 → eqb p 0 ≡ price-good s p
+  unfolding price-good
+  good-none e = rw e
+
+  pub good-some : (s .version ≡ 1 → ⊥) → leb 1 p ≡ price-good s p
+  unfolding price-good
+  good-some e = rw (ne-eqb (s .version) 1 e)
+
 module _ (s : Sizes) (o : Order) where
   abbrev number : ℕ
   number = first-no (asks-order s (o .key) (o .total) (o .displayed) (o .price))
@@ -139,12 +146,7 @@ module _ (s : Sizes) (o : Order) where
         unfolding quantities-good
         asked-6-less z = six (rw (lt-leb (o .displayed) (o .total) z, and-false (leb 1 (o .total) && leb (o .total) 4294967295)))
 
-        -- a key is not the front's, so its price is that of an order
-        module _ (g : Bool) (eg′ : g ≡ price-ok s 1 o) where
-          eg : g ≡ price-good s (o .price)
-          unfolding price-ok
-          eg = eg′ ∙ rw (ne-eqb (o .key) 0 (omega (arith, key-least (o .key) b eb hb)))
-
+        module _ (g : Bool) (eg : g ≡ price-good s (o .price)) where
           pub asked-6-price : g ≡ false → 6 ≡ number
           unfolding quantities-good
           asked-6-price h = six (rw (← eg, h, and-false ((leb 1 (o .total) && leb (o .total) 4294967295) && leb (o .displayed) (o .total))))

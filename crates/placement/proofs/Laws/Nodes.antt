@@ -67,6 +67,7 @@ module _ (s : Sizes) (bs x₁ x₂ x₃ : List ℕ) (a : ℕ) (o : Order) (e₁ 
       let twelve : 12 ≡ w = omega arith in
       let q : big 0 (o .price) ≡ big (row s - 12) (o .price) = ap (λ (z : ℕ). big (z - 12) (o .price)) (twelve ∙ e) in
       three ∙ ap (sets bs a) (sym (append-nil front) ∙ ap (λ (y : List ℕ). front ++ y) (nothing ∙ q))
+
   pub written-long : (w : ℕ) (x₄ : List ℕ) → w ≡ row s → 12 < w → w ≤ 16 → w % 4 ≡ 0 → x₄ ≡ sets x₃ (a + 12) (big 4 (o .price)) → x₄ ≡ sets bs a (node-bytes (row s) o)
   unfolding node-bytes
   written-long w x₄ e l m d e₄ =

@@ -4,7 +4,7 @@ use mathlib.Core.List.{List, [], _++_, append-assoc}
 use Prim.Native.Nat.{ℕ, _+_, _*_, _-_, _≤_, _<_}
 use native.Mathlib.Nat.{add-zero}
 use native.Mathlib.Omega.{arith}
-use lib.ListN.{length, getD, take, drop, replicate, take-append-drop}
+use lib.ListN.{length, getD, drop, replicate, take-append-drop}
 use lib.Seq.{getD-take, getD-drop, drop-drop}
 use Rattle.placement.specs.Blocks.{holds}
 use Rattle.sizes.specs.declared.Sizes.{Sizes}

@@ -63,9 +63,6 @@ module _ {A : Type 0} where
       let f : n ≤ a - b = omega arith in
       rw (e, drop-sets-add, take-sets)
 
-  pub part-after : (n b : ℕ) (l : List A) (a : ℕ) (vs : List A) → a + length vs ≤ b → take n (drop b (sets l a vs)) ≡ take n (drop b l)
-  part-after n b l a vs h = rw drop-sets
-
 pub blocks-apart : (i j w : ℕ) → i ≢ j → Apart (53 + i * w) (53 + j * w) w
 blocks-apart i j w ne = go (ltb i j) refl
   where

@@ -9,6 +9,7 @@ use borrow.Author.Tests.{le-leb, le-ltb, lt-ltb, ltb-true, leb-true, leb-false}
 use mir.Val.{Fits}
 use mir.Syntax.{w32}
 use native.Mathlib.Omega.{arith}
+use Rattle.sizes.specs.Numbers.{field}
 use Rattle.sizes.specs.Sizes.{prime, row}
 use Rattle.sizes.specs.Header.{block-long}
 use Rattle.sizes.specs.declared.Sizes.{Sizes}
@@ -16,22 +17,24 @@ use Rattle.placement.specs.Decode.{node-of}
 use Rattle.placement.specs.declared.Order.{Order}
 use Rattle.placement.specs.declared.Found.{Found}
 use Rattle.placement.specs.declared.Found.the-variants.{At}
+use Rattle.placement.proofs.Laws.Reading.{key-of}
 use Rattle.table.specs.declared.Seen.{Seen}
 use Rattle.table.specs.Walk.{wrong-seen, price-ok, counts, counted, fits-in, enters-ok, entered-seen, node-good, stops-at, nodes-by, enters-lowest, comes-ok, passed-seen, chunk-spot, opens-of}
 use Rattle.table.proofs.Laws.Steps.{stops-short, counts-parts}
-use Rattle.table.proofs.Laws.Turns.{Noding, noding-room, noding-end, noding-gone, noding-wrong, noding-more, nodes-wrong, Chunking, chunking-wrong, Entering, entering-made, entering-gone, entering-stop, entering-more, enters-chunks}
+use Rattle.table.proofs.Laws.Turns.{Noding, noding-room, noding-key, noding-end, noding-gone, noding-wrong, noding-more, nodes-wrong, Chunking, chunking-wrong, Entering, entering-made, entering-gone, entering-stop, entering-more, enters-chunks}
 
 -- the walk of the nodes of a level 1 chunk
 abbrev lowest : Sizes → List ℕ → (first left at : ℕ) → (opens : Bool) → Seen → Seen
 lowest s bs f j a o x = nodes-by (opens-of s bs 0) s bs 1 f j a o x
 
 -- the key of a node that comes by has a next one
-pub comes-fits : (s : Sizes) (f : ℕ) (o : Bool) (y : ℕ) (n : Order) (t : Bool) → t ≡ comes-ok s f o y n → t ≡ true → Fits w32 (n .key + 1)
+pub comes-fits : (s : Sizes) (bs : List ℕ) (a f : ℕ) (o : Bool) (y : ℕ) (t : Bool) → t ≡ comes-ok s f o y (node-of (row s) bs a) → t ≡ true → (k : ℕ) → k ≡ field a 4 bs → Fits w32 (k + 1)
 unfolding comes-ok
-comes-fits s f o y n t et e =
+comes-fits s bs a f o y t et e k ek =
+    let n = node-of (row s) bs a in
     let q = price-ok s 1 n && fits-in s 1 f o n in
-    let a = and-eq-true-iff (leb y (n .key)) (ltb (n .key) prime && q) .0 (sym et ∙ e) in
-    record { fits = omega (arith, ltb-true (n .key) prime (and-eq-true-iff (ltb (n .key) prime) q .0 (a .1) .0)) }
+    let b = and-eq-true-iff (leb y (n .key)) (ltb (n .key) prime && q) .0 (sym et ∙ e) in
+    record { fits = omega (arith, ltb-true (n .key) prime (and-eq-true-iff (ltb (n .key) prime) q .0 (b .1) .0), key-of (row s) bs a, ek) }
 
 -- ONE NODE: what the code asks of it is what the model asks
 module _ (s : Sizes) (f : ℕ) (o : Bool) (n : Order) (x : Seen) (ok : x .ok ≡ true) (some : 1 ≤ x .orders) where
@@ -89,7 +92,13 @@ module _ (s : Sizes) (bs : List ℕ) (f n a₀ : ℕ) (o₀ : Bool) (y : Seen) w
         let e : n ≡ n - k = omega arith in
         ap (λ (j : ℕ). passed-seen j low y) e ∙ noding-end (opens-of s bs 0) s bs 1 f n a₀ o₀ (entered-seen y) k a o (passed-seen (n - k) low y) (h .nodes) z
 
-    module _ (p : 0 < k) (m : Order) (em : m ≡ node-of (row s) bs a) (t : Bool) (et : t ≡ comes-ok s f o low m) where
+    pub lowering-key : 0 < k → a + 4 ≤ length bs
+    lowering-key p = noding-key (opens-of s bs 0) s bs 1 f n a₀ o₀ (entered-seen y) k a o (passed-seen (n - k) low y) (h .nodes) p
+
+    module _ (p : 0 < k) (t : Bool) (et : t ≡ comes-ok s f o low (node-of (row s) bs a)) where
+      abbrev m : Order
+      m = node-of (row s) bs a
+
       abbrev x : Seen
       x = passed-seen (n - k) low y
 
@@ -103,20 +112,21 @@ module _ (s : Sizes) (bs : List ℕ) (f n a₀ : ℕ) (o₀ : Bool) (y : Seen) w
         where
           go : (u v : Bool) → node-good s 1 f o m x ≡ u → counts (m .key) x ≡ v → (u && v) ≡ false → w ≡ lowest s bs f n a₀ o₀ (entered-seen y)
           go true true c d q = absurd (true≢false q)
-          go true false c d q = noding-gone (opens-of s bs 0) s bs 1 f n a₀ o₀ (entered-seen y) k a o x (h .nodes) w ew p (rw (← em, d))
-          go false v c d q = noding-wrong (opens-of s bs 0) s bs 1 f n a₀ o₀ (entered-seen y) k a o x (h .nodes) m em false (sym c) p w ew refl
+          go true false c d q = noding-gone (opens-of s bs 0) s bs 1 f n a₀ o₀ (entered-seen y) k a o x (h .nodes) w ew p (rw d)
+          go false v c d q = noding-wrong (opens-of s bs 0) s bs 1 f n a₀ o₀ (entered-seen y) k a o x (h .nodes) false (sym c) p w ew refl
 
-      pub lowering-more : (w : ℕ) → w ≡ row s → t ≡ true → Lowering s bs f n a₀ o₀ y (k - 1) (a + w) false (m .key + 1)
+      pub lowering-more : (w : ℕ) → w ≡ row s → t ≡ true → (v : ℕ) → v ≡ field a 4 bs → Lowering s bs f n a₀ o₀ y (k - 1) (a + w) false (v + 1)
       unfolding opens-of counted passed-seen
-      lowering-more w ew e =
+      lowering-more w ew e v ev =
           let b = and-eq-true-iff (node-good s 1 f o m x) (counts (m .key) x) .0 (asked ∙ e) in
+          let c : counts v x ≡ true = ap (λ (z : ℕ). counts z x) (ev ∙ sym (key-of (row s) bs a)) ∙ b .1 in
           let d : y .orders - (n - (k - 1)) ≡ y .orders - (n - k) - 1 = omega (arith, h .few, h .left) in
           record {
             few = h .few;
             left = omega (arith, h .left);
             nodes =
-                noding-more (opens-of s bs 0) s bs 1 f n a₀ o₀ (entered-seen y) k a o x (h .nodes) m em true (sym (b .0)) p w ew refl (passed-seen (n - (k - 1)) (m .key + 1) y)
-                (rw (b .1, d));
+                noding-more (opens-of s bs 0) s bs 1 f n a₀ o₀ (entered-seen y) k a o x (h .nodes) true (sym (b .0)) p w ew refl v ev (passed-seen (n - (k - 1)) (v + 1) y)
+                (rw (c, d));
           }
 
 -- A CHUNK may come next
@@ -151,8 +161,8 @@ module _ (s : Sizes) (bs : List ℕ) (f : ℕ) (x : Seen) (i : ℕ) (y : Seen) (
 -- WHAT THE LOOP over its nodes comes to
 module _ (s : Sizes) (bs : List ℕ) (f : ℕ) (x : Seen) (i : ℕ) (y : Seen) (at n : ℕ) (h : Entering s bs 1 f x i y at n) (k a : ℕ) (o : Bool) (low : ℕ)
     (j : Lowering s bs f n (at + 8) (eqb i 0) y k a o low) where
-  pub lowest-wrong : 0 < k → (m : Order) → m ≡ node-of (row s) bs a → (t : Bool) → t ≡ comes-ok s f o low m → t ≡ false → (w : Seen) → w ≡ wrong-seen → w ≡ opens-of s bs 1 f x
-  lowest-wrong p m em t et e w ew = entering-gone s bs 1 f x i y at n h w (lowering-wrong s bs f n (at + 8) (eqb i 0) y k a o low j p m em t et e w ew) ew
+  pub lowest-wrong : 0 < k → (t : Bool) → t ≡ comes-ok s f o low (node-of (row s) bs a) → t ≡ false → (w : Seen) → w ≡ wrong-seen → w ≡ opens-of s bs 1 f x
+  lowest-wrong p t et e w ew = entering-gone s bs 1 f x i y at n h w (lowering-wrong s bs f n (at + 8) (eqb i 0) y k a o low j p t et e w ew) ew
 
   module _ (v z : Seen) (ev : v ≡ y) (ez : z ≡ passed-seen n low v) (p : k ≤ 0) where
     whole : z ≡ lowest s bs f n (at + 8) (eqb i 0) (entered-seen y)

@@ -1,14 +1,19 @@
 -- Laws of what the walk's small functions give.
-use mathlib.Core.Path.{_≡_, refl, sym, _∙_}
+use mathlib.Core.Path.{_≡_, refl, sym, ap, _∙_}
 use mathlib.Core.Bool.{Bool, true, false, _&&_, not, cond, and-false, and-true}
+use mathlib.Core.List.{List}
 use Prim.Native.Nat.{ℕ, _-_, _≤_, _<_}
 use lib.Dec.{ltb, leb, eqb}
+use lib.ListN.{drop}
 use borrow.Author.Tests.{eq-eqb, ne-eqb, le-leb, lt-leb, le-ltb, lt-ltb, leb-true, ltb-true}
-use Rattle.sizes.specs.Sizes.{prime}
+use Rattle.sizes.specs.Numbers.{field}
+use Rattle.sizes.specs.Sizes.{prime, row}
 use Rattle.sizes.specs.Hash.{level}
+use Rattle.placement.specs.Decode.{node-in, node-of}
 use Rattle.sizes.specs.declared.Sizes.{Sizes}
 use Rattle.placement.specs.declared.Order.{Order}
 use Rattle.sizes.proofs.Laws.Sizes.{and-parts}
+use Rattle.placement.proofs.Laws.Nodes.{price-none}
 use Rattle.skiplist.specs.Image.{price-good}
 use Rattle.table.specs.declared.Seen.{Seen}
 use Rattle.table.specs.Walk.{wrong-seen, nothing-in, quantities-ok, price-ok, belongs-in, fits-in, counts, node-good, enters-ok, enters-lowest, comes-ok, entered-seen, passed-seen, ended-seen, stops-at}
@@ -46,22 +51,27 @@ either : (t v : Bool) → v ≡ cond t v v
 either true v = refl
 either false v = refl
 
-module _ (s : Sizes) (l : ℕ) (n : Order) where
-  pub price-none : s .version ≡ 1 → eqb (n .price) 0 ≡ price-ok s l n
-  unfolding price-ok price-good
-  price-none e = rw (eq-eqb _ _ e) (either (eqb l 1 && not (eqb (n .key) 0)) (eqb (n .price) 0))
+-- the price of a node: read from its place only where it has one
+module _ (s : Sizes) (l : ℕ) (bs : List ℕ) (a : ℕ) (n : Order) (is : n ≡ node-of (row s) bs a) where
+  pub priced-none : s .version ≡ 1 → true ≡ price-ok s l n
+  unfolding price-ok price-good node-of node-in
+  priced-none e = rw (is, eq-eqb _ _ e, ← price-none s (drop a bs) 12 e) (either (eqb l 1 && not (eqb (field 0 4 (drop a bs)) 0)) true)
 
-  pub price-above : (l ≡ 1 → ⊥) → eqb (n .price) 0 ≡ price-ok s l n
-  unfolding price-ok
-  price-above e = rw (ne-eqb _ _ e)
+  module _ (m : Order) (em : m ≡ node-of (row s) bs a) where
+    abbrev same : m .price ≡ n .price
+    same = ap (λ (x : Order). x .price) (em ∙ sym is)
 
-  pub price-front : n .key ≡ 0 → eqb (n .price) 0 ≡ price-ok s l n
-  unfolding price-ok
-  price-front e = rw (eq-eqb _ _ e, and-false)
+    pub priced-above : (l ≡ 1 → ⊥) → eqb (m .price) 0 ≡ price-ok s l n
+    unfolding price-ok
+    priced-above e = rw (same, ne-eqb l 1 e)
 
-  pub price-last : (s .version ≡ 1 → ⊥) → l ≡ 1 → (n .key ≡ 0 → ⊥) → leb 1 (n .price) ≡ price-ok s l n
-  unfolding price-ok price-good
-  price-last v e k = rw (ne-eqb _ _ v, eq-eqb l 1 e, ne-eqb _ _ k)
+    pub priced-front : n .key ≡ 0 → eqb (m .price) 0 ≡ price-ok s l n
+    unfolding price-ok
+    priced-front e = rw (same, eq-eqb (n .key) 0 e, and-false)
+
+    pub priced-last : (s .version ≡ 1 → ⊥) → l ≡ 1 → (n .key ≡ 0 → ⊥) → leb 1 (m .price) ≡ price-ok s l n
+    unfolding price-ok price-good
+    priced-last v e k = rw (same, ne-eqb (s .version) 1 v, eq-eqb l 1 e, ne-eqb (n .key) 0 k)
 
 module _ (s : Sizes) (l f : ℕ) (o : Bool) (n : Order) where
   module _ (q : Bool) (eq : q ≡ quantities-ok l n) where
@@ -82,38 +92,39 @@ module _ (s : Sizes) (l f : ℕ) (o : Bool) (n : Order) where
       unfolding fits-in belongs-in
       fits-level v h z ev = rw (← eq, e, and-true, h, ne-eqb _ _ z) ev
 
-  pub good-bad : (x : Seen) → x .ok ≡ false → false ≡ node-good s l f o n x
+module _ (s : Sizes) (l f : ℕ) (o : Bool) (m : Order) (x : Seen) where
+  pub good-bad : x .ok ≡ false → false ≡ node-good s l f o m x
   unfolding node-good
-  good-bad x e = rw e
+  good-bad e = rw e
 
-  module _ (x : Seen) (u : Bool) (eu : u ≡ price-ok s l n) where
-    pub good-price : u ≡ false → false ≡ node-good s l f o n x
+  module _ (n : Order) (is : n ≡ m) (u : Bool) (eu : u ≡ price-ok s l n) where
+    pub good-price : u ≡ false → false ≡ node-good s l f o m x
     unfolding node-good
-    good-price e = rw (← eu, e, and-false)
+    good-price e = rw (← is, ← eu, e, and-false)
 
-    pub good-fits : (t : Bool) → x .ok ≡ true → u ≡ true → t ≡ fits-in s l f o n → t ≡ node-good s l f o n x
+    pub good-fits : (t : Bool) → x .ok ≡ true → u ≡ true → t ≡ fits-in s l f o n → t ≡ node-good s l f o m x
     unfolding node-good
-    good-fits t e q et = rw (e, ← eu, q) et
+    good-fits t e q et = et ∙ rw (← is, e, ← eu, q)
 
-module _ (s : Sizes) (f : ℕ) (o : Bool) (y : ℕ) (n : Order) where
-  pub comes-low : n .key < y → false ≡ comes-ok s f o y n
+module _ (s : Sizes) (f : ℕ) (o : Bool) (y : ℕ) (n m : Order) (is : n ≡ m) where
+  pub comes-low : n .key < y → false ≡ comes-ok s f o y m
   unfolding comes-ok
-  comes-low h = rw (lt-leb y (n .key) h)
+  comes-low h = rw (← is, lt-leb y (n .key) h)
 
-  pub comes-high : 2147483647 ≤ n .key → false ≡ comes-ok s f o y n
+  pub comes-high : 2147483647 ≤ n .key → false ≡ comes-ok s f o y m
   unfolding comes-ok
-  comes-high h = rw (le-ltb (n .key) 2147483647 h, and-false)
+  comes-high h = rw (← is, le-ltb (n .key) 2147483647 h, and-false)
 
   module _ (u : Bool) (eu : u ≡ price-ok s 1 n) where
-    pub comes-price : u ≡ false → false ≡ comes-ok s f o y n
+    pub comes-price : u ≡ false → false ≡ comes-ok s f o y m
     unfolding comes-ok
     comes-price e =
-        let q : price-ok s 1 n ≡ false = sym eu ∙ e in
+        let q : price-ok s 1 m ≡ false = ap (price-ok s 1) (sym is) ∙ sym eu ∙ e in
         simp (q, and-false)
 
-    pub comes-last : (t : Bool) → y ≤ n .key → n .key < 2147483647 → u ≡ true → t ≡ fits-in s 1 f o n → t ≡ comes-ok s f o y n
+    pub comes-last : (t : Bool) → y ≤ n .key → n .key < 2147483647 → u ≡ true → t ≡ fits-in s 1 f o n → t ≡ comes-ok s f o y m
     unfolding comes-ok
-    comes-last t l h q e = rw (le-leb y (n .key) l, lt-ltb (n .key) 2147483647 h, ← eu, q) e
+    comes-last t l h q e = e ∙ rw (← is, ← eu, q, le-leb y (n .key) l, lt-ltb (n .key) 2147483647 h)
 
 module _ (b n : ℕ) (x : Seen) where
   pub enters-last : x .ok ≡ true → 1 ≤ n → n ≤ b → leb 1 (x .chunks) ≡ enters-ok b n x

@@ -16,7 +16,6 @@ use Rattle.placement.specs.Decode.{node-of}
 use Rattle.placement.specs.Labels.{home}
 use Rattle.placement.specs.Place.{Shaped, label-in, search-in, found-at}
 use Rattle.sizes.specs.declared.Sizes.{Sizes}
-use Rattle.placement.specs.declared.Order.{Order}
 use Rattle.placement.specs.declared.Found.{Found}
 use Rattle.placement.specs.declared.Found.the-variants.{At, Nothing}
 use Rattle.sizes.proofs.Laws.Sizes.{row-least}
@@ -46,6 +45,9 @@ module _ (d : (key : ℕ) → Seen → Seen) (s : Sizes) (bs : List ℕ) (l f j�
     pub noding-room : 0 < j → a + row s ≤ length bs
     noding-room p = omega (arith, i .room, rows-one (row s) j p)
 
+    pub noding-key : 0 < j → a + 4 ≤ length bs
+    noding-key p = omega (arith, noding-room p, row-least s)
+
     -- the next place, where one node more is to come
     pub noding-next : (w : ℕ) → w ≡ row s → 1 < j → a + w + 4 ≤ length bs
     noding-next w ew p = omega (arith, i .room, rows-one (row s) j (omega arith), rows-one (row s) (j - 1) (omega arith), row-least s)
@@ -72,19 +74,16 @@ module _ (d : (key : ℕ) → Seen → Seen) (s : Sizes) (bs : List ℕ) (l f j�
         go true q = ew ∙ sym (step p true q ∙ ap (nodes-by d s bs l f (j - 1) (a + row s) false) e ∙ nodes-wrong d s bs l f (j - 1) (a + row s) false)
         go false q = ew ∙ sym (step p false q)
 
-    module _ (n : Order) (en : n ≡ node-of (row s) bs a) (t : Bool) (et : t ≡ node-good s l f o n x) (p : 0 < j) where
-      turned : (u : Bool) → t ≡ u → node-good s l f o (node-of (row s) bs a) x ≡ u
-      turned u q = ap (λ (m : Order). node-good s l f o m x) (sym en) ∙ sym et ∙ q
-
+    module _ (t : Bool) (et : t ≡ node-good s l f o (node-of (row s) bs a) x) (p : 0 < j) where
       pub noding-wrong : (w : Seen) → w ≡ wrong-seen → t ≡ false → w ≡ nodes-by d s bs l f j₀ a₀ o₀ x₀
-      noding-wrong w ew q = ew ∙ sym (step p false (turned false q))
+      noding-wrong w ew q = ew ∙ sym (step p false (sym et ∙ q))
 
-      pub noding-more : (w : ℕ) → w ≡ row s → t ≡ true → (y : Seen) → y ≡ d (n .key) x → Noding d s bs l f j₀ a₀ o₀ x₀ (j - 1) (a + w) false y
-      noding-more w ew q y ey =
+      pub noding-more : (w : ℕ) → w ≡ row s → t ≡ true → (k : ℕ) → k ≡ field a 4 bs → (y : Seen) → y ≡ d k x → Noding d s bs l f j₀ a₀ o₀ x₀ (j - 1) (a + w) false y
+      noding-more w ew q k ek y ey =
           record {
             room = omega (arith, i .room, ew, rows-one (row s) j p);
             rest =
-                step p true (turned true q) ∙ ap (nodes-by d s bs l f (j - 1) (a + row s) false) (sym (ey ∙ ap (λ (m : Order). d (m .key) x) en))
+                step p true (sym et ∙ q) ∙ ap (nodes-by d s bs l f (j - 1) (a + row s) false) (sym (ey ∙ ap (λ (z : ℕ). d z x) (ek ∙ sym (key-of (row s) bs a))))
                 ∙ ap (λ (z : ℕ). nodes-by d s bs l f (j - 1) (a + z) false y) (sym ew);
           }
 
@@ -203,17 +202,17 @@ ahead s bs l a x h lo k ek t et e = ap (λ (i : ℕ). opens-of s bs l i x) (key-
 
 -- THE HASH of the next node's key, which the loop over nodes has at hand
 pub record Keyed (s : Sizes) (bs : List ℕ) (j a g : ℕ) : Type 0 where
-  pub is : 0 < j → g ≡ hash-from 5 5 (s .seed) (node-of (row s) bs a .key)
+  pub is : 0 < j → g ≡ hash-from 5 5 (s .seed) (field a 4 bs)
 
 module _ (s : Sizes) (bs : List ℕ) (j a g : ℕ) where
   pub keyed-made : (k : ℕ) → k ≡ field a 4 bs → g ≡ hash-from 5 5 (s .seed) k → Keyed s bs j a g
-  keyed-made k ek e = record { is = λ p. e ∙ ap (hash-from 5 5 (s .seed)) (ek ∙ sym (key-of (row s) bs a)) }
+  keyed-made k ek e = record { is = λ p. e ∙ ap (hash-from 5 5 (s .seed)) ek }
 
   pub keyed-none : j ≤ 0 → Keyed s bs j a g
   keyed-none h = record { is = λ p. absurd (omega arith) }
 
-  pub keyed-is : Keyed s bs j a g → 0 < j → (n : Order) → n ≡ node-of (row s) bs a → g ≡ hash-from 5 5 (s .seed) (n .key)
-  keyed-is i p n en = i .is p ∙ ap (λ (m : Order). hash-from 5 5 (s .seed) (m .key)) (sym en)
+  pub keyed-is : Keyed s bs j a g → 0 < j → (k : ℕ) → k ≡ field a 4 bs → g ≡ hash-from 5 5 (s .seed) k
+  keyed-is i p k ek = i .is p ∙ ap (hash-from 5 5 (s .seed)) (sym ek)
 
 -- WHAT THE CALLS ASK
 pub chunk-found : (s : Sizes) (bs : List ℕ) (l f i : ℕ) (r : Found) → r ≡ search-in s bs (record { level = l; first = f; number = i }) → r ≡ chunk-spot s bs l f i

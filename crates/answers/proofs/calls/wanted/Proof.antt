@@ -8,14 +8,10 @@ use Rattle.answers.proofs.calls.wanted.Tie as tie
 ruleset laws = (needs, good-nodes, good-blocks)
 
 returns : tie.Need-returns
-returns c =
-    let e = c .before .before .before .sizes-of .ensures in
-    long-yes _ _ (e .0) (e .1) (e .2) (e .3) _ (c .before .before .sizes-allowed .ensures) (c .before .if1 .taken) _ (c .table-length .ensures)
+returns c = long-yes _ _ (c .before .before .before .sizes-of .ensures) _ (c .before .before .sizes-allowed .ensures) (c .before .if1 .taken) _ (c .table-length .ensures)
 
 returns-2 : tie.Need-returns-2
-returns-2 c =
-    let e = c .before .before .sizes-of .ensures in
-    long-no _ _ (e .0) (e .1) (e .2) (e .3) _ (c .before .sizes-allowed .ensures) (c .if1 .left)
+returns-2 c = long-no _ _ (c .before .before .sizes-of .ensures) _ (c .before .sizes-allowed .ensures) (c .if1 .left)
 
 pub wanted-spec : {M : Type 1} → statement M
 wanted-spec =

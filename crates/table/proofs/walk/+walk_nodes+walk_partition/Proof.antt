@@ -7,7 +7,7 @@ use mathlib.Core.Path.{refl, _∙_}
 use mathlib.Core.Logic.{⊎-elim}
 use native.Mathlib.Omega.{arith}
 use Rattle.table.specs.Walk.{opens-of}
-use Rattle.table.proofs.Laws.Turns.{Noding, noding-start, noding-room, noding-next, noding-end, noding-gone, noding-wrong, noding-more, Keyed, keyed-made, keyed-none, keyed-is, number-most, Chunking, chunking-start, chunking-end, chunking-none, chunking-wrong, entering-made, entering-stop, entering-more, higher-nodes, ahead, chunk-below, enters-some, enters-chunks, chunk-room, first-room, lowest-partition}
+use Rattle.table.proofs.Laws.Turns.{Noding, noding-start, noding-room, noding-key, noding-next, noding-end, noding-gone, noding-wrong, noding-more, Keyed, keyed-made, keyed-none, keyed-is, number-most, Chunking, chunking-start, chunking-end, chunking-none, chunking-wrong, entering-made, entering-stop, entering-more, higher-nodes, ahead, chunk-below, enters-some, enters-chunks, chunk-room, first-room, lowest-partition}
 use borrow.Fn.Kinds.{In}
 use borrow.Fn.PlainCycle.{Measures, is, falls, and}
 use Rattle.table.proofs.walk.walk_nodes.Reads as walk-nodes
@@ -26,7 +26,6 @@ use Rattle.table.proofs.walk.ended.Reads as ended-reads
 use Rattle.table.proofs.walk.entered.Reads as entered-reads
 use Rattle.table.proofs.walk.enters.Reads as enters-reads
 use Rattle.table.proofs.walk.comes_by.Reads as comes-by-reads
-use Rattle.placement.proofs.rows.node_of.Reads as node-of-reads
 use Rattle.sizes.proofs.header.row.Reads as row-reads
 use Rattle.table.proofs.walk.stops.Reads as stops-reads
 use Rattle.table.proofs.walk.walk_lowest.Reads as walk-lowest-reads
@@ -40,7 +39,7 @@ abbrev μ-walk-nodes : Measures 1 walk-nodes-kinds.ps ℕ
 abbrev μ-walk-partition : Measures 1 walk-partition-kinds.ps ℕ
 μ-walk-partition κs a = 2 * a .1 .1 .0 + 1
 
-ruleset laws = (needs, not-true, not-false, noding-start, noding-room, noding-end, noding-next, first-room, keyed-made, number-most, chunking-start, chunking-end, chunking-none, chunking-wrong, chunk-below)
+ruleset laws = (needs, not-true, not-false, noding-start, noding-room, noding-key, noding-end, noding-next, first-room, keyed-made, number-most, chunking-start, chunking-end, chunking-none, chunking-wrong, chunk-below)
 
 abbrev walk-nodes-at : ℕ → In 1 walk-nodes-kinds.ps
 walk-nodes-at t = and 1 walk-nodes-kinds.ps (is 1 walk-nodes-kinds.ps μ-walk-nodes t) walk-nodes.Pre
@@ -70,40 +69,33 @@ walk-partition-μ-loop table q level first g seen₀ number₀ seen number = q .
 pub +walk-nodes+walk-partition-spec : {M : Type 1} → statement M
 +walk-nodes+walk-partition-spec =
     close μ-walk-nodes μ-walk-partition
-    (λ t. walk-nodes-lts.spec (row-reads.Asked, row-reads.Learnt, be4-reads.Asked, be4-reads.Learnt, hash-reads.Asked, hash-reads.Learnt, node-of-reads.Asked, node-of-reads.Learnt, comes-by-reads.Asked, comes-by-reads.Learnt, wrong-reads.Asked, wrong-reads.Learnt, absent-reads.Asked, absent-reads.Learnt, walk-partition-below t, walk-partition.Post)
+    (λ t. walk-nodes-lts.spec (row-reads.Asked, row-reads.Learnt, be4-reads.Asked, be4-reads.Learnt, hash-reads.Asked, hash-reads.Learnt, comes-by-reads.Asked, comes-by-reads.Learnt, wrong-reads.Asked, wrong-reads.Learnt, absent-reads.Asked, absent-reads.Learnt, walk-partition-below t, walk-partition.Post)
     (walk-nodes-at t) walk-nodes.Post walk-nodes-Inv-loop walk-nodes-μ-loop
-    (λ c κs. search laws) (λ c κs. search laws) (λ c κs. search laws) (λ c. search laws) (λ c κs. search laws) (λ c κs. search laws) (λ c κs. search laws)
-    (λ c.
-    let a = c .before .before .before in
-    noding-wrong _ _ _ _ _ _ _ _ _ _ _ _ _ (a .before .before .loop .inv .0) _ (a .node-of .ensures) _ (c .before .before .comes-by .ensures) (a .before .loop-test .taken) _ (c .wrong .ensures)
-    (not-true _ (c .before .if1 .taken)))
+    (λ c κs. search laws) (λ c κs. search laws) (λ c κs. search laws) (λ c. search laws) (λ c κs. search laws) (λ c κs. search laws)
+    (λ c. noding-wrong _ _ _ _ _ _ _ _ _ _ _ _ _ (c .before .before .before .before .loop .inv .0) _ (c .before .before .comes-by .ensures) (c .before .before .before .loop-test .taken) _ (c .wrong .ensures) (not-true _ (c .before .if1 .taken)))
     (λ c. search laws) (λ c κs. search laws) (λ c κs. search laws) (λ c. search laws) (λ c κs. search laws) (λ c κs. search laws)
     (λ c.
     let b = c .before .before .before .before .before .before in
-    let a = b .before .before in
-    let p = a .before .before .before .before .before .before .before .pre .1 in
-    let r = a .before .before .before .before .before .row .ensures .0 in
+    let r = b .before .before .before .before .before .before in
+    let p = r .before .before .pre .1 in
     noding-gone _ _ _ _ _ _ _ _ _ _ _ _ _
-    (noding-more _ _ _ _ _ _ _ _ _ _ _ _ _ (a .before .before .loop .inv .0) _ (a .node-of .ensures) _ (b .before .comes-by .ensures) (a .before .loop-test .taken) _ r (not-false _ (b .if1 .left)) _ refl)
+    (noding-more _ _ _ _ _ _ _ _ _ _ _ _ _ (b .before .before .before .loop .inv .0) _ (b .before .comes-by .ensures) (b .before .before .loop-test .taken) _ (r .row .ensures .0) (not-false _ (b .if1 .left)) _ refl _ refl)
     _ (c .wrong2 .ensures) (omega (arith, c .before .before .before .before .before .if2 .taken))
     (ahead _ _ _ _ _ (p .0 .shaped) (omega (arith, p .2)) _ (c .before .before .before .before .be42 .ensures) _ (c .before .before .absent .ensures) (c .before .if3 .taken)))
-    (λ c. search laws)
+    (λ c. search laws) (λ c κs. search laws)
     (λ c κs.
-    let a = c .before .before .before in
-    let p = a .before .before .before .before .before .before .before .pre in (
+    let p = c .before .before .before .before .before .before .before .before .before .before .pre in (
       omega (arith, p .0, p .1 .2),
-      (p .1 .0, p .1 .1, omega (arith, p .1 .2), omega (arith, p .1 .3), keyed-is _ _ _ _ _ (a .before .before .loop .inv .1) (a .before .loop-test .taken) _ (a .node-of .ensures)),
+      (p .1 .0, p .1 .1, omega (arith, p .1 .2), omega (arith, p .1 .3), keyed-is _ _ _ _ _ (c .before .before .before .before .before .loop .inv .1) (c .before .before .before .before .loop-test .taken) _ (c .be43 .ensures)),
     ))
     (λ c.
-    let a = c .before .before .before .before in
-    let r = a .before .before .before .before .before .row .ensures in
-    record { fits = omega (arith, noding-room _ _ _ _ _ _ _ _ _ _ _ _ _ (a .before .before .loop .inv .0) (a .before .loop-test .taken), r .0, a .before .before .before .before .before .before .before .good .0) })
+    let r = c .before .before .before .before .before .before .before .before .before in
+    record { fits = omega (arith, noding-room _ _ _ _ _ _ _ _ _ _ _ _ _ (c .before .before .before .before .before .before .loop .inv .0) (c .before .before .before .before .before .loop-test .taken), r .row .ensures .0, r .before .before .good .0) })
     (λ c. search laws) (λ c. search laws)
-    (λ c.
-    let a = c .before .before .before .before in (
-      noding-more _ _ _ _ _ _ _ _ _ _ _ _ _ (a .before .before .loop .inv .0) _ (a .node-of .ensures) _ (c .before .before .before .comes-by .ensures) (a .before .loop-test .taken)
-          _ (a .before .before .before .before .before .row .ensures .0) (not-false _ (c .before .before .if1 .left)) _ (c .walk-partition .ensures),
-      ⊎-elim (λ w. keyed-made _ _ _ _ _ _ (w .1 .ensures) (w .5 ∙ w .2 .ensures .0)) (λ w. keyed-none _ _ _ _ _ (omega (arith, w .0 .left))) (c .before .if2 .came),
+    (λ c. (
+      noding-more _ _ _ _ _ _ _ _ _ _ _ _ _ (c .before .before .before .before .before .before .loop .inv .0) _ (c .before .before .before .before .comes-by .ensures) (c .before .before .before .before .before .loop-test .taken) _ (c .before .before .before .before .before .before .before .before .before .row .ensures .0) (not-false _ (c .before .before .before .if1 .left)) _ (c .before .be43 .ensures)
+          _ (c .walk-partition .ensures),
+      ⊎-elim (λ w. keyed-made _ _ _ _ _ _ (w .1 .ensures) (w .5 ∙ w .2 .ensures .0)) (λ w. keyed-none _ _ _ _ _ (omega (arith, w .0 .left))) (c .before .before .if2 .came),
     ))
     (λ c. search laws))
     λ t. walk-partition-lts.spec (walk-lowest-reads.Asked, walk-lowest-reads.Learnt, chunk-reads.Asked, chunk-reads.Learnt, ended-reads.Asked, ended-reads.Learnt, offset-reads.Asked, offset-reads.Learnt, wide-reads.Asked, wide-reads.Learnt, enters-reads.Asked, enters-reads.Learnt, wrong-reads.Asked, wrong-reads.Learnt, entered-reads.Asked, entered-reads.Learnt, walk-nodes-below t, walk-nodes.Post, stops-reads.Asked, stops-reads.Learnt)

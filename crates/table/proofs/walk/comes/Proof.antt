@@ -8,4 +8,4 @@ use Rattle.table.proofs.walk.comes.Tie as tie
 ruleset laws = (needs, not-true, not-false, comes-low, comes-high, comes-price, comes-last)
 
 pub comes-spec : {M : Type 1} → statement M
-comes-spec = tie.close (tie.spec (λ c. search laws) (λ c. search laws) (λ c κs. search laws) (λ c. search laws) (λ c κs. search laws) (λ c. search laws))
+comes-spec = tie.close (tie.spec (λ c κs. search laws) (λ c. search laws) (λ c. search laws) (λ c κs. search laws) (λ c. search laws) (λ c κs. search laws) (λ c. search laws))

@@ -8,4 +8,4 @@ use Rattle.table.proofs.walk.comes_by.Tie as tie
 ruleset laws = (needs, not-true, not-false, good-bad, good-price, good-fits)
 
 pub comes-by-spec : {M : Type 1} → statement M
-comes-by-spec = tie.close (tie.spec (λ c. search laws) (λ c κs. search laws) (λ c. search laws) (λ c κs. search laws) (λ c. search laws))
+comes-by-spec = tie.close (tie.spec (λ c. search laws) (λ c κs. search laws) (λ c κs. search laws) (λ c. search laws) (λ c κs. search laws) (λ c. search laws))

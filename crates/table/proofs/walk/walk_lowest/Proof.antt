@@ -6,11 +6,11 @@ use mathlib.Core.Path.{_≡_, refl}
 use mathlib.Core.Bool.{true}
 use native.Mathlib.Omega.{arith}
 use Rattle.table.proofs.Laws.Turns.{Chunking, chunking-start, chunking-end, chunking-none, Entering, entering-made, chunk-below, number-most, enters-good, chunk-room}
-use Rattle.table.proofs.Laws.Lowest.{Lowering, lowering-start, lowering-room, lowering-more, comes-fits, lowest-enters, lowest-few, lowest-holds, lowest-refused, lowest-wrong, lowest-stop, lowest-more}
+use Rattle.table.proofs.Laws.Lowest.{Lowering, lowering-start, lowering-room, lowering-key, lowering-more, comes-fits, lowest-enters, lowest-few, lowest-holds, lowest-refused, lowest-wrong, lowest-stop, lowest-more}
 use Rattle.table.proofs.walk.walk_lowest.Statement.{statement}
 use Rattle.table.proofs.walk.walk_lowest.Tie as tie
 
-ruleset laws = (needs, not-true, not-false, chunking-start, chunking-end, chunking-none, chunk-below, number-most, lowering-room, comes-fits)
+ruleset laws = (needs, not-true, not-false, chunking-start, chunking-end, chunking-none, chunk-below, number-most, lowering-key, comes-fits)
 
 abbrev Inv-loop : tie.InvT-loop
 Inv-loop table q first g w seen₀ number i at n opens₀ low₀ place₀ k₀ seen opens low place k = (seen ≡ seen₀) × Lowering (q .sizes) table first n (at + 8) opens₀ seen₀ k place opens low
@@ -51,20 +51,17 @@ walk-lowest-spec =
     let h = not-false _ (c .if2 .left) in
     let t = lowest-enters _ _ _ _ e h in
     (refl, lowering-start _ _ _ _ _ _ _ (enters-good _ _ _ _ t refl) (lowest-few _ _ _ _ e h) (chunk-room _ _ (p .0) _ _ _ t refl _ (o .offset .ensures .1))))
-    (λ c κs. search laws)
     (λ c κs.
-    let p = c .before .before .before .before .before .before .before .before .before .before .before .before .before .before .before .before .before .pre in
-    (p .0 .shaped .seeds, omega (arith, p .0 .base), p .1, p .2))
-    (λ c κs. search laws) (λ c. search laws)
+    let p = c .before .before .before .before .before .before .before .before .before .before .before .before .before .before .before .before .pre in
+    (p .0 .shaped .seeds, omega (arith, p .0 .base), p .1, p .2, lowering-room _ _ _ _ _ _ _ _ _ _ _ (c .before .loop .inv .1) (c .loop-test .taken)))
+    (λ c κs. search laws) (λ c κs. search laws) (λ c. search laws)
     (λ c.
-    let l = c .before .before .before .before .before .loop in
-    let o = c .before .before .before .before .before .before .before .before .before .before .before .before .before .before .before .before .before .before in
-    record { fits = omega (arith, lowering-room _ _ _ _ _ _ _ _ _ _ _ (l .inv .1) (c .before .before .before .before .loop-test .taken), o .row .ensures .0, o .before .before .good .0) })
+    let o = c .before .before .before .before .before .before .before .before .before .before .before .before .before .before .before .before .before in
+    record { fits = omega (arith, lowering-room _ _ _ _ _ _ _ _ _ _ _ (c .before .before .before .before .loop .inv .1) (c .before .before .before .loop-test .taken), o .row .ensures .0, o .before .before .good .0) })
     (λ c. search laws) (λ c. search laws)
     (λ c.
-    let l = c .before .before .before .before .before .loop in
-    let o = c .before .before .before .before .before .before .before .before .before .before .before .before .before .before .before .before .before .before in
-    (l .inv .0, lowering-more _ _ _ _ _ _ _ _ _ _ _ (l .inv .1) (c .before .before .before .before .loop-test .taken) _ (c .before .before .before .node-of .ensures) _ (c .before .before .comes .ensures) _ (o .row .ensures .0) (not-false _ (c .before .if3 .left))))
+    let l = c .before .before .before .before .loop in
+    (l .inv .0, lowering-more _ _ _ _ _ _ _ _ _ _ _ (l .inv .1) (c .before .before .before .loop-test .taken) _ (c .before .before .comes .ensures) _ (c .before .before .before .before .before .before .before .before .before .before .before .before .before .before .before .before .before .row .ensures .0) (not-false _ (c .before .if3 .left)) _ (c .be4 .ensures)))
     (λ c κs. lowest-holds _ _ _ _ (c .before .before .before .enters-lowest .ensures) (not-false _ (c .before .before .if2 .left)) _ (c .before .loop .inv .0))
     (λ c.
     let l = c .before .before .before .before in
@@ -75,6 +72,5 @@ walk-lowest-spec =
     lowest-more _ _ _ _ _ _ _ _ (entering (l .before)) _ _ _ _ (l .loop .inv .1) _ _ (l .loop .inv .0) (c .before .before .passed .ensures) (omega (arith, c .before .before .before .loop-test .left)) (omega (arith, c .if4 .left)))
     (λ c. search laws)
     (λ c.
-    let l = c .before .before .before .before .before in
-    lowest-wrong _ _ _ _ _ _ _ _ (entering (l .before)) _ _ _ _ (l .loop .inv .1) (c .before .before .before .before .loop-test .taken) _ (c .before .before .before .node-of .ensures) _ (c .before .before .comes .ensures)
-    (not-true _ (c .before .if3 .taken)) _ (c .wrong2 .ensures)))
+    let l = c .before .before .before .before in
+    lowest-wrong _ _ _ _ _ _ _ _ (entering (l .before)) _ _ _ _ (l .loop .inv .1) (c .before .before .before .loop-test .taken) _ (c .before .before .comes .ensures) (not-true _ (c .before .if3 .taken)) _ (c .wrong2 .ensures)))

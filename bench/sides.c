@@ -1,0 +1,71 @@
+/* The calls of two sides in turns, and the table of their ratios. */
+#include "sides.h"
+#include "rust/peers.h"
+
+#include <stdio.h>
+#include <stdlib.h>
+
+static const configuration configurations[] = {
+    {"load 0.80", 16, 16, 1000, 80, RANDOM, 0, 0},    {"load 0.80", 16, 16, 10000, 80, RANDOM, 0, 0},    {"load 0.80", 16, 16, 60000, 80, RANDOM, 0, 0},
+    {"large blocks", 64, 32, 1000, 80, RANDOM, 0, 0}, {"large blocks", 64, 32, 10000, 80, RANDOM, 0, 0}, {"large blocks", 64, 32, 60000, 80, RANDOM, 0, 0},
+    {"small blocks", 2, 2, 1000, 80, RANDOM, 0, 0},   {"small blocks", 2, 2, 10000, 80, RANDOM, 0, 0},   {"small blocks", 2, 2, 30000, 80, RANDOM, 0, 0},
+    {"one partition", 16, 16, 60000, 80, FLAT, 0, 0}, {"one reserve", 16, 16, 10000, 80, ONE_RESERVE, 0, 0}, {"one reserve", 2, 2, 10000, 80, ONE_RESERVE, 0, 0},
+};
+
+enum { TABLES = sizeof configurations / sizeof *configurations };
+
+static int on_both_sides(const sides *both, int call) { return both->one[call].call && both->other[call].call; }
+
+/* The two sides of a call, in turns of their own: so many calls in a batch where nothing surrounds them, else so many batches. Descents have their batches. */
+static double against(const sides *both, int call, uint32_t held, int rounds) {
+    variant pair[2] = {both->one[call], both->other[call]};
+    int asks = pair->batch == ASKED;
+    for (int i = 0; i < 2 && !asks; i++) *(pair[i].before ? &pair[i].turns : &pair[i].batch) = 1 + 20000 / (int)held;
+    return ratio(pair, pair + 1, take_turns(pair, 2, both->scene, asks ? both->choose : NULL, 0, rounds));
+}
+
+static void print_head(const sides *both, int rounds) {
+    const char *one = both->one->who, *other = both->other->who;
+    for (int i = 0; i < SIDE_CALLS; i++)
+        if (!on_both_sides(both, i)) printf("%s has no call for \"%s\", which is left out\n", both->one[i].call ? other : one, both->one[i].operation);
+    printf("%s / %s, median of %d rounds\n%-30s", one, other, rounds, "");
+    for (int i = 0; i < SIDE_CALLS; i++)
+        if (on_both_sides(both, i)) printf("%12s", both->one[i].operation);
+    printf("\n");
+}
+
+static void print_figures(const sides *both, const char *name, const double *figures) {
+    printf("%-30s", name);
+    for (int i = 0; i < SIDE_CALLS; i++)
+        if (on_both_sides(both, i)) printf("%12.3f", figures[i]);
+    printf("\n");
+}
+
+void compare_sides(const sides *both, int rounds, double most[SIDE_CALLS]) {
+    double figures[SIDE_CALLS][TABLES], fewest[SIDE_CALLS];
+    print_head(both, rounds);
+    for (int t = 0; t < TABLES; t++) {
+        const configuration *of = &configurations[t];
+        both->open(*of);
+        printf("%-14s γ %2u B %2u %6u", of->title, of->gamma, of->nodes, of->held);
+        for (int i = 0; i < SIDE_CALLS; i++) {
+            if (!on_both_sides(both, i)) continue;
+            figures[i][t] = against(both, i, of->held, i ? 1 + rounds / 6 : rounds);
+            fewest[i] = t && fewest[i] < figures[i][t] ? fewest[i] : figures[i][t];
+            most[i] = t && most[i] > figures[i][t] ? most[i] : figures[i][t];
+            printf("%12.3f", figures[i][t]);
+            fflush(stdout);
+        }
+        printf("\n");
+        both->close();
+    }
+    print_figures(both, "least", fewest);
+    print_figures(both, "most", most);
+}
+
+int rounds_wanted(int argc, char **argv) {
+    int rounds = argc > 1 ? atoi(argv[1]) : 301;
+    if (argc <= 2 && rounds >= 1 && rounds <= MOST_ROUNDS) return rounds;
+    fprintf(stderr, "%s [ROUNDS], at most %d\n", argv[0], MOST_ROUNDS);
+    exit(2);
+}
