@@ -20,7 +20,7 @@ need:
 
 # A class needs no more than this and the program.
 reference:
-	@scripts/need cargo:cargo cc:gcc
+	@scripts/need cargo:cargo cc:gcc python3:python3
 	@mkdir -p build
 	@$(CARGO) build --quiet --release --offline --manifest-path reference/Cargo.toml
 

@@ -86,22 +86,31 @@ fn bytes_of_the_full_run() {
 /// version 2 price.
 #[test]
 fn a_block_of_each_version() {
-    let seed = identity_seed();
-    for (version, expected) in [
-        (1, "01 03 0000 00000000 00000000 00000000 00000000 00000001 00000009 00000008 00000003 00000007 00000000"),
-        (2, "01 03 0000 00000000 00000000 00000000 00000000 00000000 00000001 00000009 00000008 ffffffff \
-             00000003 00000007 00000000 00000001"),
-    ] {
-        let made = in_version(version, Made { sizes: sizes(2, 3, 2, 4), seed });
-        let orders: Orders = match version {
-            1 => [(1, order(9, 8)), (3, order(7, 0))].into(),
-            _ => [(1, priced(9, 8, u32::MAX)), (3, priced(7, 0, 1))].into(),
-        };
-        let table = image(&made, &orders).expect("they fit");
+    let first = "01 03 0000 00000000 \
+        00000000 00000000 00000000 \
+        00000001 00000009 00000008 \
+        00000003 00000007 00000000";
+    let second = "01 03 0000 00000000 \
+        00000000 00000000 00000000 00000000 \
+        00000001 00000009 00000008 ffffffff \
+        00000003 00000007 00000000 00000001";
+    let unpriced = [(1, order(9, 8)), (3, order(7, 0))];
+    let priced = [(1, priced(9, 8, u32::MAX)), (3, priced(7, 0, 1))];
+    for (version, expected, orders) in [(1, first, unpriced), (2, second, priced)] {
+        let made = in_version(version, of_nodes(3));
+        let table = image(&made, &orders.into()).expect("they fit");
         let block = unhex(expected);
         assert_eq!(made.sizes.block_length(), block.len());
         assert_eq!(table[HEADER..HEADER + block.len()], block);
         assert_eq!(table[0], version as u8);
+    }
+}
+
+/// The document's seed with so many nodes in a block.
+fn of_nodes(nodes: u32) -> Made {
+    Made {
+        sizes: sizes(2, nodes, 2, 4),
+        seed: identity_seed(),
     }
 }
 
@@ -378,13 +387,6 @@ fn another_version() {
             descent(&changed(&table), 0, &mut path),
             Some(Reply::refused(5))
         );
-    }
-}
-
-fn of_nodes(nodes: u32) -> Made {
-    Made {
-        sizes: sizes(2, nodes, 2, 4),
-        seed: identity_seed(),
     }
 }
 

@@ -97,15 +97,15 @@ static void equals_sign(void) {
 
 /* The rest of an answer, behind its number: every part of the reply, of a seek too, since a definition says which order it gives. */
 static void expect_rest(const char *call, balluchaw_reply got, uint32_t want_number) {
-    uint32_t key = number(), total = number(), displayed = number(), count = number();
-    same(got.number == want_number && got.key == key && got.total == total && got.displayed == displayed && got.count == count, call);
+    uint32_t key = number(), total = number(), displayed = number(), price = number(), count = number();
+    same(got.number == want_number && got.key == key && got.total == total && got.displayed == displayed && got.price == price && got.count == count, call);
     same(fnv(store, size) == hash_field(), "the bytes of the table");
 }
 
 static void expect(const char *call, balluchaw_reply got) { expect_rest(call, got, number()); }
 
 static balluchaw_reply only(uint32_t n) {
-    balluchaw_reply r = {n, 0, 0, 0, 0};
+    balluchaw_reply r = {n, 0, 0, 0, 0, 0};
     return r;
 }
 
@@ -126,12 +126,18 @@ static void expect_within(balluchaw_reply r, const uint8_t *output, size_t n) {
     same(fnv(store, size) == hash_field(), "the bytes of what is no table");
 }
 
-static void enter_or_amend(const char *name, uint32_t (*call)(uint8_t *, size_t, uint32_t, uint32_t, uint32_t)) {
+/* A table that was made is as long as the header's macro says, and its rows, too, are those of the macros. */
+static void expect_length(uint32_t n, size_t length, uint32_t version, uint32_t nodes, uint32_t blocks) {
+    size_t rows = (size_t)blocks * nodes * BALLUCHAW_ROW(version);
+    if (n == 0) same(length == BALLUCHAW_LENGTH(version, nodes, blocks) && length == 53 + 8 * (size_t)blocks + rows, "the length of the header's macros");
+}
+
+static void enter_or_amend(const char *name, uint32_t (*call)(uint8_t *, size_t, uint32_t, uint32_t, uint32_t, uint32_t)) {
     size_t length = number();
-    uint32_t key = number(), total = number(), displayed = number();
+    uint32_t key = number(), total = number(), displayed = number(), price = number();
     uint8_t *t = lend(length);
     equals_sign();
-    uint32_t n = call(t, length, key, total, displayed);
+    uint32_t n = call(t, length, key, total, displayed, price);
     take_back(t, length);
     expect(name, only(n));
 }
@@ -172,14 +178,15 @@ static void step(char *line) {
         if (place + unhex(text, NULL) > size) exit(2);
         unhex(text, store + place);
     } else if (strcmp(word, "make") == 0) {
-        uint32_t gamma = number(), nodes = number(), orders = number(), blocks = number();
+        uint32_t version = number(), gamma = number(), nodes = number(), orders = number(), blocks = number();
         char *text = field();
         size_t seed_length = unhex(text, NULL), length = number();
         uint8_t *t = lend(length), *seed = borrow(SEED, seed_length);
         unhex(text, seed);
         equals_sign();
-        uint32_t n = balluchaw_make(t, length, gamma, nodes, orders, blocks, seed, seed_length);
+        uint32_t n = balluchaw_make(t, length, version, gamma, nodes, orders, blocks, seed, seed_length);
         take_back(t, length);
+        expect_length(n, length, version, nodes, blocks);
         size_t kept = 0;
         while (kept < seed_length && seed[kept] == hex_byte(text, kept)) kept++;
         same(kept == seed_length, "the seed after make");

@@ -2,7 +2,7 @@
 
 use crate::tickets::{Kind, Ticket};
 use reference::calls::Reply;
-use reference::lists::Quantities;
+use reference::lists::Order;
 use reference::sizes::Sizes;
 
 /// Something that answers the calls. Every buffer is lent as one that could be written, also where the call only reads, so that a
@@ -26,6 +26,7 @@ struct RawReply {
     key: u32,
     total: u32,
     displayed: u32,
+    price: u32,
     count: u32,
 }
 
@@ -36,6 +37,7 @@ impl From<RawReply> for Reply {
             key: raw.key,
             total: raw.total,
             displayed: raw.displayed,
+            price: raw.price,
             count: raw.count,
         }
     }
@@ -45,6 +47,7 @@ extern "C" {
     fn balluchaw_make(
         table: *mut u8,
         length: usize,
+        version: u32,
         gamma: u32,
         nodes: u32,
         orders: u32,
@@ -53,8 +56,22 @@ extern "C" {
         seed_length: usize,
     ) -> u32;
     fn balluchaw_check(table: *const u8, length: usize) -> u32;
-    fn balluchaw_enter(table: *mut u8, length: usize, key: u32, total: u32, displayed: u32) -> u32;
-    fn balluchaw_amend(table: *mut u8, length: usize, key: u32, total: u32, displayed: u32) -> u32;
+    fn balluchaw_enter(
+        table: *mut u8,
+        length: usize,
+        key: u32,
+        total: u32,
+        displayed: u32,
+        price: u32,
+    ) -> u32;
+    fn balluchaw_amend(
+        table: *mut u8,
+        length: usize,
+        key: u32,
+        total: u32,
+        displayed: u32,
+        price: u32,
+    ) -> u32;
     fn balluchaw_cancel(table: *mut u8, length: usize, key: u32) -> u32;
     fn balluchaw_lookup(table: *const u8, length: usize, key: u32) -> RawReply;
     fn balluchaw_descent(
@@ -97,6 +114,7 @@ impl Calls for Archive {
     fn make(&mut self, table: &mut [u8], sizes: &Sizes, seed: &mut [u8]) -> Reply {
         let (at, seed_at) = (self.lend(table), self.lend(seed));
         let Sizes {
+            version,
             gamma,
             nodes,
             orders,
@@ -106,6 +124,7 @@ impl Calls for Archive {
             balluchaw_make(
                 at,
                 table.len(),
+                version,
                 gamma,
                 nodes,
                 orders,
@@ -127,8 +146,12 @@ impl Calls for Archive {
             Kind::Enter => balluchaw_enter,
             Kind::Amend => balluchaw_amend,
         };
-        let Quantities { total, displayed } = ticket.new;
-        Reply::refused(unsafe { call(at, table.len(), ticket.key, total, displayed) })
+        let Order {
+            total,
+            displayed,
+            price,
+        } = ticket.new;
+        Reply::refused(unsafe { call(at, table.len(), ticket.key, total, displayed, price) })
     }
 
     fn cancel(&mut self, table: &mut [u8], key: u32) -> Reply {

@@ -1,16 +1,16 @@
 //! Faults planted in the archive's answers: whoever compares must find each.
 
 use crate::archive::{Archive, Calls};
+use crate::prices::{self, Reading, Wrong as Price};
 use crate::seeks::{self, Other, Wrong, WRONG};
 use crate::slips::{self, Slip, SLIPS};
 use crate::tickets::{Found, Kind, Ticket};
 use reference::calls::Reply;
-use reference::image::{held, image, place, table};
-use reference::lists::{chunks, home, lists, Chunk, Label, Orders, Quantities};
+use reference::image::{blocks, held, image, place, table, Block};
+use reference::lists::{chunks, home, lists, Chunk, Label, Order, Orders};
 use reference::paths::{numbers, way, NUMBER};
 use reference::sizes::{
-    are_quantities, number_at, short_at, Made, Seed, Sizes, BLOCK_HEAD, FRONT, HEADER, NODE, P,
-    SEED,
+    number_at, row, short_at, Made, Seed, Sizes, BLOCK_HEAD, FRONT, HEADER, P, SEED,
 };
 use std::collections::BTreeSet;
 
@@ -82,12 +82,14 @@ pub enum Fault {
     AstrayBehind,
     AstrayCount,
     KeyBeyondUnseen,
+    PriceLeft,
+    Prices(Price),
     Seeks(Wrong),
     EnterSlips(Slip),
     CheckSlips(Slip),
 }
 
-/// Each with its name: those that enter and amend can both have, others, wrong seeks, the slips.
+/// Each with its name: those that enter and amend can both have, others, wrong prices, wrong seeks, the slips.
 pub fn faults() -> Vec<(String, Fault)> {
     let tickets = TICKET_FAULTS.into_iter().flat_map(|(name, fault)| {
         [
@@ -107,7 +109,11 @@ pub fn faults() -> Vec<(String, Fault)> {
     let seeks = WRONG
         .into_iter()
         .map(|(name, wrong)| (format!("a seek that {name}"), Fault::Seeks(wrong)));
-    tickets.chain(others).chain(seeks).chain(slips).collect()
+    let prices = prices::all()
+        .into_iter()
+        .map(|(name, wrong)| (name, Fault::Prices(wrong)));
+    let others = tickets.chain(others).chain(prices);
+    others.chain(seeks).chain(slips).collect()
 }
 
 const TICKET_FAULTS: [(&str, fn(Kind) -> Fault); 5] = [
@@ -118,7 +124,7 @@ const TICKET_FAULTS: [(&str, fn(Kind) -> Fault); 5] = [
     ("turns down the greatest total", Fault::GreatestTotalRefused),
 ];
 
-const FAULTS: [(&str, Fault); 61] = [
+const FAULTS: [(&str, Fault); 62] = [
     (
         "an enter that overwrites a held key",
         Fault::EnterOverwrites,
@@ -303,6 +309,10 @@ const FAULTS: [(&str, Fault); 61] = [
         "a check that accepts a key of p or more",
         Fault::KeyBeyondUnseen,
     ),
+    (
+        "a cancel that leaves a price behind a count",
+        Fault::PriceLeft,
+    ),
 ];
 
 /// The archive with one fault.
@@ -339,6 +349,9 @@ impl Calls for Faulty {
     }
 
     fn make(&mut self, table: &mut [u8], sizes: &Sizes, seed: &mut [u8]) -> Reply {
+        if let Fault::Prices(Price::Make(wrong)) = self.fault {
+            return prices::make(wrong, &mut self.archive, table, sizes, seed);
+        }
         let last = table.last().copied();
         let reply = self.archive.make(table, sizes, seed);
         if reply.number == 0 && self.is(Fault::LastByteKept) {
@@ -352,12 +365,17 @@ impl Calls for Faulty {
 
     fn check(&mut self, table: &mut [u8]) -> Reply {
         let mut copy = table.to_vec();
+        let width = row_of(table);
         match self.fault {
             Fault::FourToAll => return Reply::refused(4),
             Fault::KeyBeyondUnseen if is_rebuilt(table) => return Reply::done(),
             Fault::CheckSlips(slip) => return self.check_slips(slip, table),
+            Fault::Prices(Price::Check(unseen)) => match prices::as_seen(unseen, table) {
+                Some(seen) => copy = seen,
+                None => return Reply::refused(4),
+            },
             Fault::TailUnseen => each_block(&mut copy, |block| {
-                let counted = BLOCK_HEAD + NODE * usize::from(block[1]);
+                let counted = BLOCK_HEAD + width * usize::from(block[1]);
                 if let Some(tail) = block.get_mut(counted..) {
                     tail.fill(0);
                 }
@@ -390,6 +408,11 @@ impl Calls for Faulty {
         if let Some(number) = self.other_number(ticket, &found, reply.number) {
             table.copy_from_slice(&before);
             return Reply::refused(number);
+        }
+        if let Fault::Prices(wrong) = self.fault {
+            if let Some(reply) = prices::taken(wrong, &mut self.archive, table, ticket, &found) {
+                return reply;
+            }
         }
         let resulting = || found.with(ticket.key, ticket.new);
         match (self.fault, ticket.kind, reply.number) {
@@ -425,12 +448,16 @@ impl Calls for Faulty {
         match self.fault {
             Fault::CancelLeaves => table.copy_from_slice(&before),
             Fault::TouchedBefore => unsafe { *table.as_mut_ptr().sub(1) ^= 1 },
-            Fault::StaleTail => each_block(table, |block| {
-                let counted = BLOCK_HEAD + NODE * usize::from(block[1]);
-                if block[0] == 1 && counted < block.len() {
-                    block[counted..counted + 4].copy_from_slice(&key.to_be_bytes());
-                }
-            }),
+            Fault::StaleTail | Fault::PriceLeft => {
+                let width = row_of(table);
+                let within = if self.is(Fault::StaleTail) { 0 } else { 12 };
+                each_block(table, |block| {
+                    let place = BLOCK_HEAD + width * usize::from(block[1]) + within;
+                    if block[0] == 1 && within < width && place < block.len() {
+                        block[place..place + 4].copy_from_slice(&key.to_be_bytes());
+                    }
+                })
+            }
             Fault::LastKeyRefused if key == P - 1 => {
                 table.copy_from_slice(&before);
                 return Reply::refused(5);
@@ -448,6 +475,9 @@ impl Calls for Faulty {
             (Fault::KeyNotRepeated, 0) => reply.key = 0,
             (Fault::QuantitiesExchanged, 0) => {
                 std::mem::swap(&mut reply.total, &mut reply.displayed)
+            }
+            (Fault::Prices(Price::Reading(Reading::Lookup, given)), _) => {
+                return prices::given(given, table, reply)
             }
             _ => {}
         }
@@ -476,6 +506,9 @@ impl Calls for Faulty {
                 .for_each(<[u8]>::reverse),
             (Fault::PathOnEleven, 11) if !output.is_empty() => output[0] ^= 1,
             (Fault::DescentTouches, _) => table[HEADER] ^= 1,
+            (Fault::Prices(Price::Reading(Reading::Descent, given)), _) => {
+                return prices::given(given, table, reply)
+            }
             (Fault::ExactPathRefused, 0 | 9) if written == output.len() => {
                 output.copy_from_slice(&before);
                 return Reply::refused(11);
@@ -492,12 +525,21 @@ impl Calls for Faulty {
     fn span(&mut self, table: &mut [u8], lo: u32, hi: u32, output: &mut [u8]) -> Reply {
         let before = output.to_vec();
         let mut reply = self.archive.span(table, lo, hi, output);
-        let written = NODE * reply.count as usize;
+        let width = row_of(table);
+        let written = width * reply.count as usize;
         match (self.fault, reply.number) {
+            (Fault::Prices(Price::Span(rows)), 0 | 11) => {
+                let found = Found::in_table(table).expect("no 4");
+                let mut other = before.clone();
+                if let Some(reply) = prices::span(rows, &found, lo, hi, &mut other) {
+                    output.copy_from_slice(&other);
+                    return reply;
+                }
+            }
             (Fault::CountInvented, 0) if reply.count == 7 => reply.count = 8,
             (Fault::CountInTotal, 0) => std::mem::swap(&mut reply.total, &mut reply.count),
             (Fault::OutputBehind, 0) if written < output.len() => output[written] = 0xee,
-            (Fault::OutputOnRefusal, 11) if output.len() >= NODE => output[3] ^= 1,
+            (Fault::OutputOnRefusal, 11) if output.len() >= width => output[3] ^= 1,
             (Fault::ExactOutputRefused, 0) if written > 0 && written == output.len() => {
                 output.copy_from_slice(&before);
                 return Reply::refused(11);
@@ -517,6 +559,9 @@ impl Calls for Faulty {
                 table[HEADER] ^= 1;
                 return reply;
             }
+            (Fault::Prices(Price::Reading(Reading::Seek, given)), _) => {
+                return prices::given(given, table, reply)
+            }
             (Fault::AnotherAgain, 0) if again => Wrong::Order(Other::Second),
             (Fault::Seeks(wrong), 0 | 12) => wrong,
             _ => return reply,
@@ -534,6 +579,9 @@ impl Faulty {
         let last = found.orders.len() + 1 == found.made.sizes.orders as usize;
         let is_own = |kind| kind == ticket.kind;
         let other = match (self.fault, ticket.kind, number) {
+            (Fault::Prices(wrong), ..) => {
+                return prices::other_number(wrong, ticket, found, number)
+            }
             (Fault::SixBeforeFive(kind), _, 5) if is_own(kind) && ticket.is_bad() => 6,
             (Fault::NineBeforeFive, Kind::Amend, 5) => 9,
             (Fault::SevenBeforeSix, Kind::Enter, 6) if own.is_none() && n_orders => 7,
@@ -560,6 +608,7 @@ impl Faulty {
     /// What somebody leaves who answers 0 to an enter or amend and does not do it, or does it otherwise.
     fn done_otherwise(&mut self, ticket: &Ticket, found: &Found, table: &mut [u8]) {
         match (self.fault, ticket.kind) {
+            (Fault::Prices(wrong), _) => prices::done_otherwise(wrong, ticket, found, table),
             (Fault::Once(kind), _) if kind == ticket.kind => {
                 self.done += 1;
                 if self.done > 1 {
@@ -583,10 +632,12 @@ impl Faulty {
 
     fn amended_otherwise(&self, ticket: &Ticket, found: &Found, table: &mut [u8]) {
         let (key, new) = (ticket.key, ticket.new);
-        let Quantities { total, displayed } = found.orders[&key];
-        let old_displayed = Quantities { displayed, ..new };
+        let Order {
+            total, displayed, ..
+        } = found.orders[&key];
+        let old_displayed = Order { displayed, ..new };
         match self.fault {
-            Fault::OldTotal => write(table, &found.with(key, Quantities { total, ..new })),
+            Fault::OldTotal => write(table, &found.with(key, Order { total, ..new })),
             Fault::OldDisplayed => write(table, &found.with(key, old_displayed)),
             Fault::HiddenUnamended if new.is_hidden() => {
                 write(table, &found.with(key, old_displayed))
@@ -728,6 +779,7 @@ fn made_of(table: &[u8]) -> Option<Made> {
         return None;
     }
     let sizes = Sizes {
+        version: table[0].into(),
         gamma: table[5].into(),
         nodes: table[6].into(),
         orders: short_at(table, 7),
@@ -737,7 +789,12 @@ fn made_of(table: &[u8]) -> Option<Made> {
     (sizes.allowed() && sizes.length() == table.len()).then_some(Made { sizes, seed })
 }
 
-fn each_block(table: &mut [u8], change: impl FnMut(&mut [u8])) {
+/// Bytes of a node by the version byte.
+fn row_of(table: &[u8]) -> usize {
+    row(table.first().copied().unwrap_or(1).into())
+}
+
+pub fn each_block(table: &mut [u8], change: impl FnMut(&mut [u8])) {
     if let Some(made) = made_of(table) {
         table[HEADER..]
             .chunks_exact_mut(made.sizes.block_length())
@@ -750,24 +807,23 @@ fn arrange(table: &mut [u8]) {
 }
 
 /// Whether a table is that of what its blocks of level 1 hold, whatever the keys are.
-fn is_rebuilt(table: &mut [u8]) -> bool {
-    let mut orders = Orders::new();
-    each_block(table, |block| {
-        let nodes = block[BLOCK_HEAD..].chunks_exact(NODE);
-        for node in nodes.take(usize::from(block[1] * u8::from(block[0] == 1))) {
-            let [key, total, displayed] = [0, 4, 8].map(|place| number_at(node, place));
-            orders.insert(key, Quantities { total, displayed });
-        }
-    });
+fn is_rebuilt(table: &[u8]) -> bool {
+    let (made, blocks) = match (made_of(table), blocks(table)) {
+        (Some(made), Some(blocks)) => (made, blocks),
+        _ => return false,
+    };
+    let level_1 = blocks
+        .iter()
+        .flatten()
+        .filter(|block| block.label.level == 1);
+    let nodes = level_1.flat_map(Block::nodes);
+    let mut orders: Orders = nodes.map(|node| (node.key, node.order)).collect();
     orders.remove(&FRONT);
-    let fitting = orders
+    orders
         .values()
-        .all(|order| are_quantities(order.total, order.displayed));
-    let most = |made: &Made| orders.len() <= made.sizes.orders as usize;
-    match made_of(table).filter(most) {
-        Some(made) => fitting && image(&made, &orders).as_deref() == Some(table),
-        None => false,
-    }
+        .all(|order| order.is_allowed(made.sizes.version))
+        && orders.len() <= made.sizes.orders as usize
+        && image(&made, &orders).as_deref() == Some(table)
 }
 
 /// Places the blocks anew by rising label, from these homes.
@@ -803,7 +859,7 @@ pub fn arrange_by(table: &mut [u8], home: impl Fn(&Made, &Label) -> usize) {
 }
 
 /// The table of these orders, whatever their quantities, which must have room in it.
-fn write(bytes: &mut [u8], orders: &Orders) {
+pub fn write(bytes: &mut [u8], orders: &Orders) {
     let made = made_of(bytes).expect("an enter or amend went past 4");
     bytes.copy_from_slice(&image(&made, orders).expect("they fit"));
 }

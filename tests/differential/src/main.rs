@@ -4,10 +4,11 @@
 //!     differential faults     plants faults in the archive's answers, one after the other; each must be found
 //!
 //! SEED in the environment chooses other calls; TESTS=long does a hundred times as much; TELL=1 says of each fault how it was found, and of each
-//! kind of enter, amend, seek, level and hash how often it came.
+//! kind of enter, amend, span, seek, changed price, level and hash how often it came.
 
 mod archive;
 mod faults;
+mod prices;
 mod rounds;
 mod seeks;
 mod slips;
@@ -16,14 +17,10 @@ mod tickets;
 
 use archive::{Archive, Calls};
 use faults::{faults, Faulty};
-use rounds::{Amount, Rounds};
-use std::fmt::Display;
+use rounds::{Amount, Rounds, PRICES};
 use std::process::exit;
 use std::time::{Duration, Instant};
-use steps::{
-    differs, most_levels, script, shorten, Mismatch, Pair, Tally, GAMMAS, HASHES, NUMBERS, WAYS,
-};
-use tickets::TICKETS;
+use steps::{differs, script, shorten, Mismatch, Pair, Tally, GAMMAS, NUMBERS};
 
 fn main() {
     let seed = match std::env::var("SEED") {
@@ -46,17 +43,27 @@ struct Met {
     tally: Tally,
     still_images: u64,
     no_images: u64,
+    prices: [u64; PRICES.len()],
+}
+
+impl Met {
+    /// Each kind of changed price, and how often it came.
+    fn price_kinds(&self) -> impl Iterator<Item = (u64, String)> + '_ {
+        let names = PRICES.iter().map(|kind| kind.to_string());
+        self.prices.iter().copied().zip(names)
+    }
 }
 
 fn run(tested: &mut dyn Calls, seed: u64, amount: Amount) -> (Met, Result<(), Box<Mismatch>>) {
     let mut pair = Pair::new(tested);
     let mut rounds = Rounds::new(&mut pair, seed);
     let outcome = rounds.all(amount);
-    let (still_images, no_images) = (rounds.still_images, rounds.no_images);
+    let (still_images, no_images, prices) = (rounds.still_images, rounds.no_images, rounds.prices);
     let met = Met {
         tally: pair.tally,
         still_images,
         no_images,
+        prices,
     };
     (met, outcome)
 }
@@ -88,18 +95,20 @@ fn compare(seed: u64, amount: Amount) {
         eprintln!("differential: seed {seed}: no descent on what is no table");
         exit(1);
     }
-    let rarest_ticket = often_enough(seed, met.tally.rarest_ticket(), amount.0);
-    let rarest_seek = often_enough(seed, met.tally.rarest_seek(), amount.0);
-    let rarest_hash = often_enough(seed, met.tally.rarest_hash(), amount.of_hashes());
+    let rarest_ticket = rarest(seed, met.tally.ticket_kinds(), amount.0);
+    let rarest_span = rarest(seed, met.tally.span_kinds(), amount.0);
+    let rarest_price = rarest(seed, met.price_kinds(), amount.0);
+    let rarest_seek = rarest(seed, met.tally.seek_kinds(), amount.0);
+    let rarest_hash = rarest(seed, met.tally.hash_kinds(), amount.of_hashes());
     if std::env::var_os("TELL").is_some() {
-        tell_kinds(&met.tally);
+        tell_kinds(&met);
     }
     println!(
-        "differential: seed {seed}: {} calls of the archive answered and left what the reference did; every call met all its numbers; \
+        "differential: seed {seed}: {} calls of the archive answered and left what the reference did; every call met all its numbers in both versions; \
          of changed tables {} were none and {} still some; {} descents on what is no table kept within their outputs; \
-         of enters and amends that tell their questions apart each kind came {rarest_ticket} times or more, of seeks that tell reserves \
-         and orders apart {rarest_seek} times, of orders each level by each of {} γ and each kind of hash \
-         {rarest_hash} times; {:.0} s",
+         of enters and amends that tell their questions apart each kind came {rarest_ticket} times or more, of spans that tell rows apart \
+         {rarest_span} times, of changed prices {rarest_price} times, of seeks that tell reserves and orders apart {rarest_seek} times, \
+         of orders each level by each of {} γ and each kind of hash {rarest_hash} times; {:.0} s",
         met.tally.calls(),
         met.no_images,
         met.still_images,
@@ -110,7 +119,8 @@ fn compare(seed: u64, amount: Amount) {
 }
 
 /// How often the rarest kind came, if that is not too seldom.
-fn often_enough(seed: u64, (rarest, kind): (u64, impl Display), least: u32) -> u64 {
+fn rarest(seed: u64, kinds: impl Iterator<Item = (u64, String)>, least: u32) -> u64 {
+    let (rarest, kind) = kinds.min().expect("there are kinds");
     if rarest < u64::from(least) {
         eprintln!("differential: seed {seed}: met {rarest} times only: {kind}");
         exit(1);
@@ -119,20 +129,18 @@ fn often_enough(seed: u64, (rarest, kind): (u64, impl Display), least: u32) -> u
 }
 
 /// How often each kind came.
-fn tell_kinds(tally: &Tally) {
-    for (kind, times) in TICKETS.iter().zip(tally.tickets) {
+fn tell_kinds(met: &Met) {
+    let kinds = met.tally.ticket_kinds().chain(met.price_kinds());
+    for (times, kind) in kinds {
         println!("{kind}: {times}");
     }
-    for (times, kind) in tally.seek_kinds() {
+    for (times, kind) in met.tally.span_kinds() {
+        println!("spans, {kind}: {times}");
+    }
+    for (times, kind) in met.tally.seek_kinds() {
         println!("seeks, {kind}: {times}");
     }
-    for (way, levels) in WAYS.iter().zip(tally.levels) {
-        for (gamma, levels) in GAMMAS.into_iter().zip(levels) {
-            let times = &levels[1..=most_levels(gamma) as usize];
-            println!("orders of level 1, 2, .. with γ = {gamma} where {way}: {times:?}");
-        }
-    }
-    for (kind, times) in HASHES.iter().zip(tally.hashes) {
+    for (times, kind) in met.tally.hash_kinds() {
         println!("orders, {kind}: {times}");
     }
 }
@@ -152,13 +160,14 @@ fn tell(script: &str) {
 /// Each fault must be found, and the script of a mismatch must still show it.
 fn plant(seed: u64) {
     let start = Instant::now();
+    // Each in both versions; two calls have a 14, in version 1 alone.
     let numbers: usize = NUMBERS.iter().map(|numbers| numbers.len()).sum();
-    assert_eq!(Tally::default().missing().len(), numbers);
+    assert_eq!(Tally::default().missing().len(), 2 * numbers - 2);
     let all = faults();
     let mut slowest = (0, "");
     for (name, fault) in &all {
         let mut faulty = Faulty::new(*fault);
-        let (met, outcome) = run(&mut faulty, seed, Amount(4));
+        let (met, outcome) = run(&mut faulty, seed, Amount(9));
         let mismatch = match outcome {
             Err(mismatch) => mismatch,
             Ok(()) => {

@@ -1,20 +1,18 @@
-//! What is tried: edges of make, histories, every edit and every seek in small tables, damaged bytes, blocks in other places, chunks of other
-//! lists, hashes and levels, long tables.
+//! What is tried, in tables of either version: edges of make, histories, every edit and every seek in small tables, damaged bytes, prices in every
+//! node, blocks in other places, chunks of other lists, hashes and levels, long tables.
 
 use crate::steps::{most_levels, Mismatch, Outcome, Pair, Step, GAMMAS, MOST_ORDERS};
 use crate::tickets::{Kind, Ticket, BOTH};
 use reference::calls::Reply;
-use reference::image::{held, image, place, table};
-use reference::lists::{
-    chunks, lists, partitions, Chunk, Element, Label, List, Orders, Quantities,
-};
+use reference::image::{held, image, place, table, write_row};
+use reference::lists::{chunks, lists, partitions, Chunk, Element, Label, List, Order, Orders};
 use reference::paths::{path, NUMBER};
 use reference::samples::{
-    constant_seed, identity_seed, largest_seed, power_seed, random_seed, seed_with,
-    some_quantities, zero_seed, Xorshift, EDGE_KEYS,
+    constant_seed, identity_seed, largest_seed, power_seed, random_seed, seed_with, some_order,
+    some_price, zero_seed, Xorshift, EDGE_KEYS,
 };
 use reference::seeks::some_seek;
-use reference::sizes::{is_key, Made, Seed, Sizes, BLOCK_HEAD, HEADER, NODE, P};
+use reference::sizes::{is_key, number_at, row, Made, Seed, Sizes, BLOCK_HEAD, FRONT, HEADER, P};
 use std::collections::BTreeMap;
 
 /// How much is done: `make test` does 150.
@@ -37,7 +35,9 @@ pub struct Rounds<'p, 'a> {
     /// Changed tables that were still images, and that were none.
     pub still_images: u64,
     pub no_images: u64,
-    /// Which pair of γ and B comes next.
+    /// Prices that were changed, of each kind.
+    pub prices: [u64; PRICES.len()],
+    /// Which version, γ and B come next.
     turn: u32,
 }
 
@@ -48,6 +48,7 @@ impl<'p, 'a> Rounds<'p, 'a> {
             generator: Xorshift::new(start),
             still_images: 0,
             no_images: 0,
+            prices: [0; PRICES.len()],
             turn: 0,
         }
     }
@@ -55,7 +56,7 @@ impl<'p, 'a> Rounds<'p, 'a> {
     pub fn all(&mut self, amount: Amount) -> Outcome {
         self.makes()?;
         for round in 0..amount.0 {
-            self.histories(33)?;
+            self.histories(28)?;
             self.every_edit()?;
             for _ in 0..4 {
                 let (made, orders) = self.small_image(900);
@@ -70,6 +71,7 @@ impl<'p, 'a> Rounds<'p, 'a> {
                 let (made, orders) = self.small_image(900);
                 self.other_blocks(&made, &orders)?;
                 self.other_lengths(&made, &orders)?;
+                self.other_prices(&made, &orders)?;
             }
             for _ in 0..40 {
                 self.other_chunks()?;
@@ -92,10 +94,57 @@ impl Rounds<'_, '_> {
         })
     }
 
-    /// Sizes and seeds at and just beyond what is allowed.
+    /// Versions, sizes and seeds at and just beyond what is allowed.
     fn makes(&mut self) -> Outcome {
+        for version in [1, 2] {
+            self.seeds_and_lengths(sizes(version, 2, 2, 2, 4))?;
+        }
+        self.versions()?;
         let seed = identity_seed().bytes();
-        let good = sizes(2, 2, 2, 4);
+        for gamma in (0..70).chain([254, 255, 256, 257, 258, 1 << 16, u32::MAX]) {
+            for nodes in [0, 1, 2, 3, 31, 32, 33, 34, 256, 258, u32::MAX] {
+                let version = self.generator.within(1, 2);
+                let sizes = sizes(version, gamma, nodes, 2, 4);
+                self.pair.room(allowed_length(&sizes), 0xff);
+                self.make(&sizes, &seed, self.pair.bytes().len())?;
+            }
+        }
+        // β steps up just above each power of γ.
+        for gamma in 2..=64u32 {
+            for e in 0..=16 {
+                let version = self.generator.within(1, 2);
+                let power = u64::from(gamma).pow(e).min(70_000) as u32;
+                for orders in [power - 1, power, power + 1] {
+                    let beta = sizes(version, gamma, 2, orders, 0).beta();
+                    for blocks in [beta - 1, beta] {
+                        let sizes = sizes(version, gamma, 2, orders, blocks);
+                        self.pair.room(allowed_length(&sizes), 1);
+                        self.make(&sizes, &seed, self.pair.bytes().len())?;
+                    }
+                }
+            }
+        }
+        for (orders, blocks) in [
+            (65_535, 65_535),
+            (65_536, 65_535),
+            (65_535, 65_536),
+            (1, 65_537),
+            (65_537, 3),
+            (u32::MAX, 4),
+            (2, u32::MAX),
+        ] {
+            for version in [1, 2] {
+                let sizes = sizes(version, 64, 2, orders, blocks);
+                self.pair.room(allowed_length(&sizes), 1);
+                self.make(&sizes, &seed, self.pair.bytes().len())?;
+            }
+        }
+        Ok(())
+    }
+
+    /// Every length up to some bytes more than the right one; seeds of other lengths, and with numbers at the edge of what is allowed.
+    fn seeds_and_lengths(&mut self, good: Sizes) -> Outcome {
+        let seed = identity_seed().bytes();
         let length = good.length();
         self.pair.room(length + 100, 0x3c);
         for seed_length in (0..=48).chain([80, 400]) {
@@ -114,39 +163,22 @@ impl Rounds<'_, '_> {
         for length in 0..=length + 100 {
             self.make(&good, &seed, length)?;
         }
-        for gamma in (0..70).chain([254, 255, 256, 257, 258, 1 << 16, u32::MAX]) {
-            for nodes in [0, 1, 2, 3, 31, 32, 33, 34, 256, 258, u32::MAX] {
-                let sizes = sizes(gamma, nodes, 2, 4);
-                self.pair.room(allowed_length(&sizes), 0xff);
-                self.make(&sizes, &seed, self.pair.bytes().len())?;
+        Ok(())
+    }
+
+    /// Versions that are none, alone and with a "no" to 1, to another part of 2 and to 3; the numbers are also such whose lowest byte is a version.
+    fn versions(&mut self) -> Outcome {
+        let seed = identity_seed().bytes();
+        self.pair.room(300, 0xa5);
+        for version in (0..=4).chain([127, 128, 255, 256, 257, 258, 513, 65_537, u32::MAX]) {
+            // 181 is the length of version 1, 213 of version 2.
+            for length in [0, 53, 181, 182, 213, 245] {
+                let good = sizes(version, 2, 2, 2, 4);
+                self.make(&good, &seed, length)?;
+                self.make(&good, &[0xff; 40], length)?;
+                self.make(&good, &seed[1..], length)?;
+                self.make(&sizes(version, 2, 2, 2, 2), &seed, length)?;
             }
-        }
-        // β steps up just above each power of γ.
-        for gamma in 2..=64u32 {
-            for e in 0..=16 {
-                let power = u64::from(gamma).pow(e).min(70_000) as u32;
-                for orders in [power - 1, power, power + 1] {
-                    let beta = sizes(gamma, 2, orders, 0).beta();
-                    for blocks in [beta - 1, beta] {
-                        let sizes = sizes(gamma, 2, orders, blocks);
-                        self.pair.room(allowed_length(&sizes), 1);
-                        self.make(&sizes, &seed, self.pair.bytes().len())?;
-                    }
-                }
-            }
-        }
-        for (orders, blocks) in [
-            (65_535, 65_535),
-            (65_536, 65_535),
-            (65_535, 65_536),
-            (1, 65_537),
-            (65_537, 3),
-            (u32::MAX, 4),
-            (2, u32::MAX),
-        ] {
-            let sizes = sizes(64, 2, orders, blocks);
-            self.pair.room(allowed_length(&sizes), 1);
-            self.make(&sizes, &seed, self.pair.bytes().len())?;
         }
         Ok(())
     }
@@ -163,8 +195,9 @@ fn allowed_length(sizes: &Sizes) -> usize {
 
 // ---- made-up tables ----------------------------------------------------------
 
-pub fn sizes(gamma: u32, nodes: u32, orders: u32, blocks: u32) -> Sizes {
+pub fn sizes(version: u32, gamma: u32, nodes: u32, orders: u32, blocks: u32) -> Sizes {
     Sizes {
+        version,
         gamma,
         nodes,
         orders,
@@ -228,32 +261,16 @@ impl Rounds<'_, '_> {
         keys
     }
 
-    /// Sizes with this γ, B and N, M from the least on; often so many blocks that the first N keys fill the table exactly.
-    fn made(&mut self, gamma: u32, nodes: u32, orders: u32, keys: &[u32]) -> Made {
+    /// This version with this γ, B and N, M from the least on; often so many blocks that the first N keys fill the table exactly.
+    fn made(&mut self, version: u32, gamma: u32, nodes: u32, orders: u32, keys: &[u32]) -> Made {
         let seed = self.seed(gamma);
-        let unbounded = sizes(gamma, nodes, orders, 65_535);
-        let beta = unbounded.beta();
-        let exact = {
-            let first = keys.iter().take(orders as usize);
-            let orders = first
-                .map(|&key| {
-                    (
-                        key,
-                        Quantities {
-                            total: 1,
-                            displayed: 0,
-                        },
-                    )
-                })
-                .collect();
-            chunk_count(
-                &Made {
-                    sizes: unbounded,
-                    seed,
-                },
-                &orders,
-            )
+        let mut made = Made {
+            sizes: sizes(version, gamma, nodes, orders, 65_535),
+            seed,
         };
+        let beta = made.sizes.beta();
+        let first = keys.iter().take(orders as usize);
+        let exact = chunk_count(&made, &first.map(|&key| (key, Order::default())).collect());
         let generator = &mut self.generator;
         let blocks = match generator.below(8) {
             0 => beta,
@@ -263,13 +280,8 @@ impl Rounds<'_, '_> {
             4 => exact + generator.within(0, 2 * exact),
             _ => exact,
         };
-        Made {
-            sizes: Sizes {
-                blocks: blocks.clamp(beta, 65_535),
-                ..unbounded
-            },
-            seed,
-        }
+        made.sizes.blocks = blocks.clamp(beta, 65_535);
+        made
     }
 
     /// A table of at most some bytes, and orders that fit into it.
@@ -279,15 +291,15 @@ impl Rounds<'_, '_> {
             let nodes = self.generator.pick(&[2, 2, 3, 4, 8]);
             let orders = self.generator.pick(&[1, 2, 3, 4, 6, 9, 14]);
             let keys = self.keys(orders);
-            let made = self.made(gamma, nodes, orders, &keys);
+            let version = self.generator.within(1, 2);
+            let made = self.made(version, gamma, nodes, orders, &keys);
             if made.sizes.length() > most {
                 continue;
             }
             let wanted = self.generator.within(0, orders) as usize;
             let mut held = Orders::new();
             for &key in keys.iter().take(wanted) {
-                let (total, displayed) = some_quantities(&mut self.generator);
-                held.insert(key, Quantities { total, displayed });
+                held.insert(key, some_order(&mut self.generator, made.sizes.version));
                 if chunk_count(&made, &held) > made.sizes.blocks {
                     held.remove(&key);
                 }
@@ -318,10 +330,11 @@ const BAD_QUANTITIES: [(u32, u32); 5] = [
 ];
 
 impl Rounds<'_, '_> {
-    /// Histories for so many pairs of γ and B, which go through all pairs in turn.
-    fn histories(&mut self, pairs: u32) -> Outcome {
-        for _ in 0..pairs {
-            // 63 and 31 have no common divisor, so the steps meet all pairs.
+    /// So many histories, which go through both versions with all γ and B in turn.
+    fn histories(&mut self, count: u32) -> Outcome {
+        for _ in 0..count {
+            // No two of 2, 63 and 31 have a common divisor, so the steps meet all three together.
+            let version = 1 + self.turn % 2;
             let (gamma, nodes) = (2 + self.turn % 63, 2 + self.turn % 31);
             self.turn += 1;
             let orders = match self.generator.below(12) {
@@ -332,7 +345,7 @@ impl Rounds<'_, '_> {
                 _ => self.generator.pick(&[1, 2, 3, 4, 5, 8, 13, 21]),
             };
             let keys = self.keys(orders);
-            let made = self.made(gamma, nodes, orders, &keys);
+            let made = self.made(version, gamma, nodes, orders, &keys);
             self.history(&made, &keys, 150)?;
         }
         Ok(())
@@ -340,13 +353,13 @@ impl Rounds<'_, '_> {
 
     fn history(&mut self, made: &Made, keys: &[u32], steps: u32) -> Outcome {
         let length = made.sizes.length();
-        let extra = self.generator.pick(&[0, 1, 12, made.sizes.block_length()]);
+        let extra = self.generator.pick(&[0, 1, 16, made.sizes.block_length()]);
         self.pair.room(length + extra, self.generator.draw() as u8);
         self.pair.take(Step::Check { length })?;
         self.make(&made.sizes, &made.seed.bytes(), length)?;
         for &key in keys.iter().take(40 + steps as usize) {
-            let quantities = some_quantities(&mut self.generator);
-            self.ticket(Kind::Enter, length, key, quantities)?;
+            let new = some_order(&mut self.generator, made.sizes.version);
+            self.ticket(Kind::Enter, length, key, new)?;
         }
         for step in 0..steps {
             self.random_step(length, keys)?;
@@ -383,8 +396,8 @@ impl Rounds<'_, '_> {
         match self.generator.below(20) {
             0..=6 => {
                 let kind = self.generator.pick(&BOTH);
-                let quantities = self.quantities(length, key);
-                self.ticket(kind, length, key, quantities)?;
+                let new = self.order(length, key);
+                self.ticket(kind, length, key, new)?;
             }
             7..=11 => {
                 self.pair.take(Step::Cancel { length, key })?;
@@ -402,35 +415,64 @@ impl Rounds<'_, '_> {
         kind: Kind,
         length: usize,
         key: u32,
-        (total, displayed): (u32, u32),
+        new: Order,
     ) -> Result<Reply, Box<Mismatch>> {
-        let new = Quantities { total, displayed };
         let ticket = Ticket { kind, key, new };
         self.pair.take(Step::Ticket { length, ticket })
     }
 
     /// Amends a held key and enters any other.
-    fn put(&mut self, length: usize, key: u32, order: Quantities) -> Result<Reply, Box<Mismatch>> {
+    fn put(&mut self, length: usize, key: u32, order: Order) -> Result<Reply, Box<Mismatch>> {
         let is_held = orders_of(&self.pair.bytes()[..length]).contains_key(&key);
         let kind = if is_held { Kind::Amend } else { Kind::Enter };
-        self.ticket(kind, length, key, (order.total, order.displayed))
+        self.ticket(kind, length, key, order)
     }
 
-    /// Some total and displayed; now and then bad ones, or those that the order under the key has, or one of its two.
-    fn quantities(&mut self, length: usize, key: u32) -> (u32, u32) {
-        let (total, displayed) = some_quantities(&mut self.generator);
-        let kind = self.generator.below(12);
-        if kind == 0 {
-            return self.generator.pick(&BAD_QUANTITIES);
+    /// The version of the table, as its first byte says.
+    fn version(&self) -> u32 {
+        self.pair.bytes()[0].into()
+    }
+
+    /// A price that the version has not: 14 turns it down in version 1, 6 in version 2.
+    fn bad_price(&mut self) -> u32 {
+        match self.version() {
+            1 => some_price(&mut self.generator),
+            _ => 0,
         }
-        if kind > 3 {
-            return (total, displayed);
+    }
+
+    /// Some order; now and then with bad quantities, a bad price or both, or the one that stands under the key, or that one but for one number.
+    fn order(&mut self, length: usize, key: u32) -> Order {
+        let version = self.version();
+        let mut new = some_order(&mut self.generator, version);
+        let kind = self.generator.below(16);
+        if let 0 | 1 = kind {
+            (new.total, new.displayed) = self.generator.pick(&BAD_QUANTITIES);
         }
-        match orders_of(&self.pair.bytes()[..length]).get(&key) {
-            Some(own) if kind == 1 => (own.total, own.displayed),
-            Some(own) if kind == 2 => (own.total, displayed.min(own.total)),
-            Some(own) => (total.max(own.displayed), own.displayed),
-            None => (total, displayed),
+        if let 1 | 2 | 3 = kind {
+            new.price = self.bad_price();
+        }
+        if !(4..=7).contains(&kind) {
+            return new;
+        }
+        let own = match orders_of(&self.pair.bytes()[..length]).get(&key) {
+            Some(own) => *own,
+            None => return new,
+        };
+        match kind {
+            4 => own,
+            5 => Order {
+                displayed: new.displayed.min(own.total),
+                ..own
+            },
+            6 => Order {
+                total: new.total.max(own.displayed),
+                ..own
+            },
+            _ => Order {
+                price: new.price,
+                ..own
+            },
         }
     }
 
@@ -456,16 +498,20 @@ impl Rounds<'_, '_> {
         Ok(())
     }
 
-    /// A span with an output of the exact room, less, more or none.
+    /// A span with an output of the exact room, less, more or none, or of the room that the rows of the other version take.
     fn span(&mut self, length: usize, lo: u32, hi: u32) -> Step {
         let orders = orders_of(&self.pair.bytes()[..length]);
         let inside = orders.keys().filter(|&&key| lo <= key && key <= hi);
-        let needed = NODE * inside.count();
-        let room = match self.generator.below(6) {
+        let (inside, width) = (inside.count(), row(self.version()));
+        let needed = width * inside;
+        let room = match self.generator.below(9) {
             0 => 0,
             1 => needed.saturating_sub(1),
-            2 => needed.saturating_sub(NODE),
+            2 => needed.saturating_sub(width),
             3 => needed + self.generator.within(1, 30) as usize,
+            4 => 12 * inside,
+            5 => 12 * inside + 1,
+            6 => 16 * inside,
             _ => needed,
         };
         Step::Span {
@@ -522,13 +568,13 @@ impl Rounds<'_, '_> {
         let mut mixed = [others.as_slice(), wanted.as_slice()].concat();
         self.generator.shuffle(&mut mixed);
         for &key in &mixed {
-            let quantities = some_quantities(&mut self.generator);
-            self.ticket(Kind::Enter, length, key, quantities)?;
+            let new = some_order(&mut self.generator, made.sizes.version);
+            self.ticket(Kind::Enter, length, key, new)?;
         }
         for &key in &others {
             self.pair.take(Step::Cancel { length, key })?;
         }
-        // Each with its own quantities; those that the others kept out come in now.
+        // Each as it was; those that the others kept out come in now.
         for key in wanted {
             if self.put(length, key, orders[&key])?.number != 0 {
                 return Err(self
@@ -548,25 +594,39 @@ impl Rounds<'_, '_> {
 // ---- every edit of every small set ---------------------------------------------
 
 impl Rounds<'_, '_> {
-    /// Four keys, each absent or with one of two pairs of quantities: from every such set that fits, every enter, amend and
-    /// cancel of these keys; the quantities that are there, both others, or one of them.
+    /// Four keys, each absent or with one of two orders: from every such set that fits, every enter, amend and cancel of these keys; the order
+    /// that is there, the other one, one of its quantities or its price alone, and a price that the version has not.
     fn every_edit(&mut self) -> Outcome {
         let gamma = self.generator.pick(&[2, 2, 2, 3, 4, 8]);
         let nodes = self.generator.pick(&[2, 2, 3, 4]);
         let most = self.generator.within(1, 4);
         let mut keys = self.keys(4);
         keys.truncate(4);
-        let made = self.made(gamma, nodes, most, &keys);
+        let version = self.generator.within(1, 2);
+        let made = self.made(version, gamma, nodes, most, &keys);
         let length = made.sizes.length();
-        let quantities = [(1, 0), (u32::MAX, u32::MAX)];
+        let (low, high) = match version {
+            1 => (0, 0),
+            _ => (1, u32::MAX),
+        };
+        let both = [(1, 0, low), (u32::MAX, u32::MAX, high)].map(order);
+        let tried = match version {
+            1 => vec![both[0], both[1], order((u32::MAX, 0, 0)), order((1, 0, 1))],
+            _ => vec![
+                both[0],
+                both[1],
+                order((u32::MAX, 0, 1)),
+                order((1, 0, high)),
+                order((1, 0, 0)),
+            ],
+        };
         self.pair.room(length, 0);
         for set in 0..3usize.pow(keys.len() as u32) {
             let mut orders = Orders::new();
             for (place, &key) in keys.iter().enumerate() {
                 let choice = set / 3usize.pow(place as u32) % 3;
                 if choice > 0 {
-                    let (total, displayed) = quantities[choice - 1];
-                    orders.insert(key, Quantities { total, displayed });
+                    orders.insert(key, both[choice - 1]);
                 }
             }
             if orders.len() > most as usize {
@@ -581,23 +641,23 @@ impl Rounds<'_, '_> {
                 length,
                 lo: 1,
                 hi: P - 1,
-                room: NODE * orders.len(),
+                room: row(version) * orders.len(),
             })?;
             for &key in &keys {
-                self.edits_of(&bytes, key)?;
+                self.edits_of(&bytes, key, &tried)?;
             }
         }
         Ok(())
     }
 
     /// Every call with this key on a table of these bytes.
-    fn edits_of(&mut self, bytes: &[u8], key: u32) -> Outcome {
+    fn edits_of(&mut self, bytes: &[u8], key: u32, tried: &[Order]) -> Outcome {
         let length = bytes.len();
         self.pair.take(Step::Lookup { length, key })?;
         let descent = self.descent(length, key);
         self.pair.take(descent)?;
         for kind in BOTH {
-            for new in [(1, 0), (u32::MAX, u32::MAX), (u32::MAX, 0)] {
+            for &new in tried {
                 if self.ticket(kind, length, key, new)?.number == 0 {
                     self.pair.set(0, bytes);
                 }
@@ -607,6 +667,15 @@ impl Rounds<'_, '_> {
             self.pair.set(0, bytes);
         }
         Ok(())
+    }
+}
+
+/// Of total, displayed and price.
+fn order((total, displayed, price): (u32, u32, u32)) -> Order {
+    Order {
+        total,
+        displayed,
+        price,
     }
 }
 
@@ -620,8 +689,7 @@ impl Rounds<'_, '_> {
     /// every r that one of them can have and one more. Each is asked twice.
     fn every_seek(&mut self, made: &Made, mut orders: Orders) -> Outcome {
         for order in orders.values_mut() {
-            let (total, displayed) = self.generator.pick(&CLOSE_QUANTITIES);
-            *order = Quantities { total, displayed };
+            (order.total, order.displayed) = self.generator.pick(&CLOSE_QUANTITIES);
         }
         let length = made.sizes.length();
         self.stand(made, &orders);
@@ -658,7 +726,8 @@ impl Rounds<'_, '_> {
         if self.generator.one_in(12) {
             let key = self.key(keys);
             for kind in BOTH {
-                self.ticket(kind, length, key, (7, 3))?;
+                let price = u32::from(self.version() == 2);
+                self.ticket(kind, length, key, order((7, 3, price)))?;
             }
             self.pair.take(Step::Cancel { length, key })?;
             self.reading(length, keys)?;
@@ -682,10 +751,11 @@ impl Rounds<'_, '_> {
     fn damage(&mut self, made: &Made, keys: &[u32]) -> Outcome {
         let sizes = &made.sizes;
         let (length, width) = (sizes.length(), sizes.block_length());
+        let numbers = row(sizes.version) as u32 / 4;
         let bytes = self.pair.bytes().to_vec();
         let block = HEADER + self.generator.below(sizes.blocks) as usize * width;
         let count = usize::from(bytes[block + 1]);
-        let (place, bytes) = match self.generator.below(8) {
+        let (place, bytes) = match self.generator.below(10) {
             0 => {
                 let place = self.generator.below(length as u32) as usize;
                 (place, vec![bytes[place] ^ 1 << self.generator.below(8)])
@@ -697,35 +767,46 @@ impl Rounds<'_, '_> {
                     vec![bytes[place].wrapping_add(self.generator.pick(&[1, 255]))],
                 )
             }
-            // A number in some node.
-            2 => {
-                let number = self.generator.below(3 * sizes.nodes) as usize;
-                let value: u32 = self.generator.pick(&[0, 1, P, u32::MAX]);
+            // A number in some node, or the last one in a node up to the first unused, which is the price in version 2.
+            kind @ (2 | 3) => {
+                let used = (count as u32 + 1).min(sizes.nodes);
+                let (number, values) = match kind {
+                    2 => (
+                        self.generator.below(numbers * sizes.nodes),
+                        [0, 1, P, u32::MAX],
+                    ),
+                    _ => (
+                        numbers * self.generator.within(1, used) - 1,
+                        [0, 0, 1, u32::MAX],
+                    ),
+                };
+                let value = self.generator.pick(&values);
                 (
-                    block + BLOCK_HEAD + 4 * number,
+                    block + BLOCK_HEAD + 4 * number as usize,
                     value.to_be_bytes().to_vec(),
                 )
             }
             // A tail behind the count.
-            3 if count < sizes.nodes as usize => {
-                let place = block + BLOCK_HEAD + NODE * count;
+            4 if count < sizes.nodes as usize => {
                 let key = self.generator.pick(keys);
-                (
-                    place,
-                    [key, 5, 5].iter().flat_map(|n| n.to_be_bytes()).collect(),
-                )
+                tail(made, block, count, key)
             }
             // The count, with or without the node.
-            4 => (
+            5 => (
                 block + 1,
                 vec![bytes[block + 1].wrapping_add(self.generator.pick(&[1, 255]))],
             ),
-            5 => (block + 3, vec![bytes[block + 3].wrapping_add(1)]),
+            6 => (block + 3, vec![bytes[block + 3].wrapping_add(1)]),
             // The number of orders.
-            6 => (
+            7 => (
                 12,
                 vec![bytes[12].wrapping_add(self.generator.pick(&[1, 255]))],
             ),
+            8 => match self.generator.below(4) {
+                0 => (0, vec![0]),
+                1 => (0, vec![3]),
+                _ => (0, other_version(made, &bytes)),
+            },
             // A block over the next.
             _ => {
                 let next = if block + width < length {
@@ -810,13 +891,13 @@ impl Rounds<'_, '_> {
             let at = HEADER + block * width;
             self.ask_changed(length, &keys, at, &empty)?;
             let count = usize::from(bytes[at + 1]);
+            let node_width = row(made.sizes.version);
             for node in count..made.sizes.nodes as usize {
-                let place = at + BLOCK_HEAD + NODE * node;
-                for number in 0..3 {
-                    self.ask_changed(length, &keys, place + 4 * number + 3, &[1])?;
-                }
                 let key = self.generator.pick(&keys);
-                let tail: Vec<u8> = [key, 10, 10].iter().flat_map(|n| n.to_be_bytes()).collect();
+                let (place, tail) = tail(made, at, node, key);
+                for last in (3..node_width).step_by(4) {
+                    self.ask_changed(length, &keys, place + last, &[1])?;
+                }
                 self.ask_changed(length, &keys, place, &tail)?;
             }
             // The last node cut out, its bytes kept; the first cut out, the others pulled up.
@@ -824,7 +905,7 @@ impl Rounds<'_, '_> {
                 self.ask_changed(length, &keys, at + 1, &[count as u8 - 1])?;
                 let mut shorter = own.to_vec();
                 shorter[1] -= 1;
-                shorter.drain(BLOCK_HEAD..BLOCK_HEAD + NODE);
+                shorter.drain(BLOCK_HEAD..BLOCK_HEAD + node_width);
                 shorter.resize(width, 0);
                 self.ask_changed(length, &keys, at, &shorter)?;
             }
@@ -832,12 +913,17 @@ impl Rounds<'_, '_> {
         Ok(())
     }
 
-    /// The same bytes lent shorter and longer; the sizes in the header changed so that the length is right again.
+    /// The same bytes lent shorter and longer; version and sizes in the header changed so that the length is right again.
     fn other_lengths(&mut self, made: &Made, orders: &Orders) -> Outcome {
         let keys = self.stand(made, orders);
         let bytes = self.pair.bytes().to_vec();
         let width = made.sizes.block_length();
-        self.pair.room(bytes.len() + 2 * width, 0);
+        let in_version = |version| Sizes {
+            version,
+            ..made.sizes
+        };
+        let most = in_version(2).length().max(bytes.len() + 2 * width);
+        self.pair.room(most, 0);
         self.pair.set(0, &bytes);
         let near = bytes.len().saturating_sub(width + 2)..=bytes.len() + width + 2;
         for length in (0..=60).chain(near) {
@@ -846,7 +932,7 @@ impl Rounds<'_, '_> {
             }
         }
         let plus = |size: u32, change: i32| size.wrapping_add(change as u32);
-        for (blocks, gamma, most) in [
+        let other_sizes = [
             (1, 0, 0),
             (-1, 0, 0),
             (2, 0, 0),
@@ -855,23 +941,92 @@ impl Rounds<'_, '_> {
             (0, 0, 1),
             (0, 0, -1),
             (1, 1, 1),
-        ] {
-            let changed = Sizes {
-                gamma: plus(made.sizes.gamma, gamma),
-                blocks: plus(made.sizes.blocks, blocks),
-                orders: plus(made.sizes.orders, most),
-                ..made.sizes
-            };
+        ];
+        let other_sizes = other_sizes.map(|(blocks, gamma, most)| Sizes {
+            gamma: plus(made.sizes.gamma, gamma),
+            blocks: plus(made.sizes.blocks, blocks),
+            orders: plus(made.sizes.orders, most),
+            ..made.sizes
+        });
+        for changed in other_sizes.into_iter().chain([0, 1, 2, 3].map(in_version)) {
             let length = changed.length();
             let mut header = bytes[..HEADER].to_vec();
+            header[0] = changed.version as u8;
             header[1..5].copy_from_slice(&(length as u32).to_be_bytes());
             header[5] = changed.gamma as u8;
             header[7..9].copy_from_slice(&(changed.orders as u16).to_be_bytes());
             header[9..11].copy_from_slice(&(changed.blocks as u16).to_be_bytes());
             self.ask_changed(length, &keys, 0, &header)?;
         }
+        self.ask_changed(bytes.len(), &keys, 0, &other_version(made, &bytes))
+    }
+
+    /// Every price of a table of version 2, those where none may be too, changed to 0, to another, and to the lowest and the highest.
+    fn other_prices(&mut self, made: &Made, orders: &Orders) -> Outcome {
+        if made.sizes.version == 1 {
+            return Ok(());
+        }
+        let keys = self.stand(made, orders);
+        let bytes = self.pair.bytes().to_vec();
+        for block in (HEADER..bytes.len()).step_by(made.sizes.block_length()) {
+            for node in 0..made.sizes.nodes as usize {
+                let place = block + BLOCK_HEAD + row(2) * node;
+                let price = number_at(&bytes, place + 12);
+                for value in [0, 1, u32::MAX, price.wrapping_add(1), price ^ 1 << 31] {
+                    if value != price {
+                        let kind =
+                            price_kind(&bytes[block..], node, number_at(&bytes, place), value);
+                        self.prices[kind] += 1;
+                        self.ask_changed(bytes.len(), &keys, place + 12, &value.to_be_bytes())?;
+                    }
+                }
+            }
+        }
         Ok(())
     }
+}
+
+/// Prices that are changed in a table of version 2.
+pub const PRICES: [&str; 6] = [
+    "a price in an empty block",
+    "a price behind the count",
+    "a price above level 1",
+    "a price of the front in level 1",
+    "price 0 of an order",
+    "another price of an order",
+];
+
+/// Which of these a value is as the price of a node with this key.
+fn price_kind(block: &[u8], node: usize, key: u32, value: u32) -> usize {
+    match (block[0], usize::from(block[1])) {
+        (0, _) => 0,
+        (_, count) if node >= count => 1,
+        (level, _) if level > 1 => 2,
+        _ if key == FRONT => 3,
+        _ if value == 0 => 4,
+        _ => 5,
+    }
+}
+
+/// The place of a node and what an order with this key would be there.
+fn tail(made: &Made, block: usize, node: usize, key: u32) -> (usize, Vec<u8>) {
+    let version = made.sizes.version;
+    let place = block + BLOCK_HEAD + row(version) * node;
+    let mut bytes = Vec::new();
+    write_row(version, key, &order((5, 5, 5)), &mut bytes);
+    (place, bytes)
+}
+
+/// The header in the other version; where some B leaves the blocks as long as they are, with that B, so that the length is right.
+fn other_version(made: &Made, table: &[u8]) -> Vec<u8> {
+    let mut header = table[..HEADER].to_vec();
+    let version = 3 - made.sizes.version;
+    header[0] = version as u8;
+    let nodes = row(made.sizes.version) * made.sizes.nodes as usize;
+    if nodes % row(version) == 0 {
+        header[6] = (nodes / row(version)) as u8;
+    }
+    header
 }
 
 // ---- chunks in other places, and other chunks ---------------------------------
@@ -983,7 +1138,7 @@ impl Rounds<'_, '_> {
         let mut nodes = BTreeMap::new();
         for level in 1..=beta {
             if !self.generator.one_in(12) {
-                nodes.insert(label(level, 0, 0), self.made_up_nodes(sizes.nodes));
+                nodes.insert(label(level, 0, 0), self.made_up_nodes(sizes));
             }
         }
         let wanted = self.generator.within(beta, sizes.blocks) as usize;
@@ -993,7 +1148,7 @@ impl Rounds<'_, '_> {
             for chunk_number in 0..=self.generator.below(8) {
                 if nodes.len() < wanted {
                     let own = label(level, first_key, chunk_number);
-                    nodes.insert(own, self.made_up_nodes(sizes.nodes));
+                    nodes.insert(own, self.made_up_nodes(sizes));
                 }
             }
         }
@@ -1001,21 +1156,18 @@ impl Rounds<'_, '_> {
     }
 
     /// Up to B nodes, their keys mostly small, in any order.
-    fn made_up_nodes(&mut self, most: u32) -> List {
+    fn made_up_nodes(&mut self, sizes: &Sizes) -> List {
         let generator = &mut self.generator;
         let count = if generator.one_in(3) {
-            generator.within(0, most)
+            generator.within(0, sizes.nodes)
         } else {
-            most
+            sizes.nodes
         };
         (0..count)
-            .map(|_| {
-                let (total, displayed) = some_quantities(generator);
-                Element {
-                    key: generator.pick(&[0, 0, 0, 0, 0, 1, 1, 1, 2, 3, 9, u32::MAX]),
-                    quantities: Quantities { total, displayed },
-                    level: 1,
-                }
+            .map(|_| Element {
+                key: generator.pick(&[0, 0, 0, 0, 0, 1, 1, 1, 2, 3, 9, u32::MAX]),
+                order: some_order(generator, sizes.version),
+                level: 1,
             })
             .collect()
     }
@@ -1101,14 +1253,14 @@ impl Rounds<'_, '_> {
     /// which is right otherwise.
     fn filled(&mut self, gamma: u32, seed: Seed, keys: &[u32]) -> Outcome {
         let nodes = self.generator.pick(&[2, 2, 3, 8]);
+        let version = self.generator.within(1, 2);
         let mut made = Made {
-            sizes: sizes(gamma, nodes, MOST_ORDERS, 65_535),
+            sizes: sizes(version, gamma, nodes, MOST_ORDERS, 65_535),
             seed,
         };
         let mut orders = Orders::new();
         for &key in keys {
-            let (total, displayed) = some_quantities(&mut self.generator);
-            orders.insert(key, Quantities { total, displayed });
+            orders.insert(key, some_order(&mut self.generator, version));
         }
         let with = |number: u32| {
             let mut more = orders.clone();
@@ -1122,8 +1274,7 @@ impl Rounds<'_, '_> {
         let mut keys: Vec<u32> = orders.keys().copied().collect();
         self.generator.shuffle(&mut keys);
         for &key in &keys {
-            let Quantities { total, displayed } = orders[&key];
-            let reply = self.ticket(Kind::Enter, length, key, (total, displayed))?;
+            let reply = self.ticket(Kind::Enter, length, key, orders[&key])?;
             if reply.number == 0 {
                 self.pair.tally.count_hash(&made, key);
             }
@@ -1160,15 +1311,15 @@ impl Rounds<'_, '_> {
             ..random
         };
         let all = [
-            (sizes(16, 16, 2_000, 400), random, 1_900),
-            (sizes(2, 2, 3_000, 0), random, 3_000),
-            (sizes(64, 32, 5_000, 0), flat, 5_000),
-            (sizes(16, 8, 3_000, 0), crowded, 3_000),
-            (sizes(3, 2, 300, 0), zero_seed(), 300),
-            (sizes(16, 16, 65_535, 20_000), random, 60_000),
-            (sizes(2, 3, 65_535, 65_535), identity_seed(), 20_000),
-            (sizes(64, 32, 65_535, 65_535), random, 65_535),
-            (sizes(64, 2, 65_535, 65_535), flat, 65_535),
+            (sizes(1, 16, 16, 2_000, 400), random, 1_900),
+            (sizes(2, 2, 2, 3_000, 0), random, 3_000),
+            (sizes(2, 64, 32, 5_000, 0), flat, 5_000),
+            (sizes(1, 16, 8, 3_000, 0), crowded, 3_000),
+            (sizes(2, 3, 2, 300, 0), zero_seed(), 300),
+            (sizes(2, 16, 16, 65_535, 20_000), random, 60_000),
+            (sizes(1, 2, 3, 65_535, 65_535), identity_seed(), 20_000),
+            (sizes(2, 64, 32, 65_535, 65_535), random, 65_535),
+            (sizes(1, 64, 2, 65_535, 65_535), flat, 65_535),
         ];
         let tried = if amount.0 >= 10 { all.len() } else { 5 };
         for (sizes, seed, held) in all.into_iter().take(tried) {
@@ -1199,25 +1350,12 @@ impl Rounds<'_, '_> {
         let mut orders = Orders::new();
         while orders.len() < held {
             let key = self.generator.within(1, P - 1);
-            let (total, displayed) = some_quantities(&mut self.generator);
-            orders.insert(key, Quantities { total, displayed });
+            orders.insert(key, some_order(&mut self.generator, sizes.version));
         }
-        let unbounded = Made {
-            sizes: Sizes {
-                blocks: 65_535,
-                ..sizes
-            },
-            seed,
-        };
-        let blocks = if sizes.blocks == 0 {
-            chunk_count(&unbounded, &orders)
-        } else {
-            sizes.blocks
-        };
-        let made = Made {
-            sizes: Sizes { blocks, ..sizes },
-            seed,
-        };
+        let mut made = Made { sizes, seed };
+        if sizes.blocks == 0 {
+            made.sizes.blocks = chunk_count(&made, &orders);
+        }
         let bytes = image(&made, &orders).expect("they fit");
         let keys: Vec<u32> = orders.keys().copied().collect();
         let length = bytes.len();
@@ -1230,18 +1368,19 @@ impl Rounds<'_, '_> {
             length,
             lo: 1,
             hi: P - 1,
-            room: NODE * held,
+            room: row(sizes.version) * held,
         })?;
         self.some_calls(&made, &keys)?;
-        // Out, in again with other quantities, and amended: every byte as before.
+        // Out, in again as another, and amended: every byte as before.
         let before = self.pair.tested_bytes().to_vec();
         let key = self.generator.pick(&keys);
         let found = self.pair.take(Step::Lookup { length, key })?;
         self.pair.take(Step::Cancel { length, key })?;
         if found.number == 0 {
-            let other = some_quantities(&mut self.generator);
+            let other = some_order(&mut self.generator, sizes.version);
             self.ticket(Kind::Enter, length, key, other)?;
-            self.ticket(Kind::Amend, length, key, (found.total, found.displayed))?;
+            let own = order((found.total, found.displayed, found.price));
+            self.ticket(Kind::Amend, length, key, own)?;
             if self.pair.tested_bytes() != before {
                 return Err(self
                     .pair

@@ -2,7 +2,7 @@
 
 use crate::tickets::Found;
 use reference::calls::Reply;
-use reference::lists::{chunks, lists, Label, Quantities};
+use reference::lists::{chunks, lists, Label, Order};
 use reference::seeks::label;
 use reference::sizes::P;
 use std::collections::BTreeSet;
@@ -48,10 +48,11 @@ pub enum Other {
     Least,
     LowestKey,
     NextQuantities,
+    Cheapest,
 }
 
 /// Each with its name.
-pub const WRONG: [(&str, Wrong); 21] = [
+pub const WRONG: [(&str, Wrong); 22] = [
     (
         "takes a hidden order's total for its reserve",
         Wrong::Reserve(Reserve::Old),
@@ -115,15 +116,19 @@ pub const WRONG: [(&str, Wrong); 21] = [
         "gives the quantities of the next order",
         Wrong::Order(Other::NextQuantities),
     ),
+    (
+        "gives the order with the lowest price",
+        Wrong::Order(Other::Cheapest),
+    ),
 ];
 
 /// An order with its key.
-type Row = (u32, Quantities);
+type Row = (u32, Order);
 
 /// The answer of somebody who goes wrong, where the right one is 0 or 12.
 pub fn answer(wrong: Wrong, found: &Found, asked: (u32, u32, u32), right: Reply) -> Reply {
     let (lo, hi, r) = asked;
-    let has = |order: &Quantities| order.reserve() >= r;
+    let has = |order: &Order| order.reserve() >= r;
     match wrong {
         Wrong::Reserve(reserve) => {
             first(&rows(found, lo, hi), |order| is_enough(reserve, order, r))
@@ -141,12 +146,12 @@ fn rows(found: &Found, lo: u32, hi: u32) -> Vec<Row> {
 }
 
 /// The first order that suits, or 12.
-fn first(rows: &[Row], suits: impl Fn(&Quantities) -> bool) -> Reply {
+fn first(rows: &[Row], suits: impl Fn(&Order) -> bool) -> Reply {
     let found = rows.iter().find(|(_, order)| suits(order));
     found.map_or(Reply::refused(12), |(key, order)| Reply::order(*key, order))
 }
 
-fn is_enough(reserve: Reserve, order: &Quantities, r: u32) -> bool {
+fn is_enough(reserve: Reserve, order: &Order, r: u32) -> bool {
     let (hidden, has) = (order.is_hidden(), order.reserve() >= r);
     match reserve {
         Reserve::Old => order.total - order.displayed >= r,
@@ -214,6 +219,7 @@ fn given(other: Other, found: &Found, (lo, hi, r): (u32, u32, u32), right: Reply
         Other::Least => having.iter().min_by_key(reserve).copied(),
         Other::LowestKey => Some((inside[0].0, having[0].1)),
         Other::NextQuantities => behind.first().map(|&(_, order)| (right.key, order)),
+        Other::Cheapest => having.iter().min_by_key(|(_, order)| order.price).copied(),
     };
     order.map_or(right, |(key, order)| Reply::order(key, &order))
 }

@@ -2,7 +2,7 @@
 
 use crate::faults::arrange_by;
 use reference::image::{place, table};
-use reference::lists::{chunks, Element, Label, List, Orders, Quantities};
+use reference::lists::{chunks, Element, Label, List, Order, Orders};
 use reference::sizes::{Made, FRONT, P};
 
 #[derive(Clone, Copy, PartialEq, Eq)]
@@ -95,17 +95,16 @@ pub const SLIPS: [(&str, Slip); 20] = [
 
 /// The table of these orders by somebody who slips, or None when they make more than M chunks then.
 pub fn image(slip: Slip, made: &Made, orders: &Orders) -> Option<Vec<u8>> {
-    let element = |key, quantities| Element {
+    let element = |key, order| Element {
         key,
-        quantities,
+        order,
         level: level(slip, made, key),
     };
-    let nothing = Quantities {
-        total: 0,
-        displayed: 0,
-    };
     let held = orders.iter().map(|(&key, &order)| element(key, order));
-    let all: List = [element(FRONT, nothing)].into_iter().chain(held).collect();
+    let all: List = [element(FRONT, Order::default())]
+        .into_iter()
+        .chain(held)
+        .collect();
     let list = |k| -> List {
         let high = all.iter().filter(|element| element.level >= k);
         high.copied().collect()

@@ -1,11 +1,12 @@
 //! Steps taken on both sides, and their comparison after each.
 
 use crate::archive::Calls;
-use crate::tickets::{self, Found, Kind, Ticket, TICKETS};
+use crate::tickets::{self, Found, Kind, Ticket, EITHER, FIRST, SECOND, TICKETS};
 use reference::calls::{self, stays_within, Reply};
+use reference::lists::Order;
 use reference::samples::{fnv_1a, largest_seed, power_seed};
 use reference::seeks::{Sought, SEEKS};
-use reference::sizes::{Made, Sizes};
+use reference::sizes::{row, Made, Sizes};
 use std::fmt::Write;
 use std::time::{Duration, Instant};
 
@@ -76,8 +77,8 @@ fn place_of(kind: Kind) -> usize {
 pub const NUMBERS: [&[usize]; 9] = [
     &[0, 1, 2, 3],
     &[0, 4],
-    &[0, 4, 5, 6, 7, 8, 13],
-    &[0, 4, 5, 6, 9],
+    &[0, 4, 5, 6, 7, 8, 13, 14],
+    &[0, 4, 5, 6, 9, 14],
     &[0, 4, 5, 9],
     &[0, 4, 5, 9],
     &[0, 4, 5, 10, 11],
@@ -85,18 +86,60 @@ pub const NUMBERS: [&[usize]; 9] = [
     &[0, 4, 5, 9, 11],
 ];
 
+/// What is counted for each version; place 0 is for all others.
+type Versions<T> = [T; 3];
+
 /// How often each call answered each number, how many descents there were whose answer no definition decides, how often each kind of enter and
-/// amend came, and of seek, how many seeks were the call before again, and how many orders of each level and with each kind of hash were
-/// entered into tables made for that.
+/// amend came, of span and of seek, how many seeks were the call before again, and how many orders of each level and with each kind of hash
+/// were entered into tables made for that.
 #[derive(Clone, Default)]
 pub struct Tally {
-    answered: [[u64; 14]; 9],
+    answered: Versions<[[u64; 15]; 9]>,
     pub undecided: u64,
-    pub tickets: [u64; TICKETS.len()],
-    pub seeks: [u64; SEEKS.len()],
-    pub asked_again: u64,
-    pub levels: [[[u64; 19]; GAMMAS.len()]; WAYS.len()],
-    pub hashes: [u64; HASHES.len()],
+    tickets: Versions<[u64; TICKETS.len()]>,
+    spans: Versions<[u64; SPANS.len()]>,
+    seeks: [u64; SEEKS.len()],
+    asked_again: u64,
+    levels: [[[u64; 19]; GAMMAS.len()]; WAYS.len()],
+    hashes: [u64; HASHES.len()],
+}
+
+/// Spans that find orders and tell one width of rows from another.
+const SPANS: [(&str, &[usize]); 6] = [
+    ("of rows with no byte to spare", EITHER),
+    ("of rows with 16 bytes for each", FIRST),
+    ("11 for one byte", EITHER),
+    ("11 for one row", EITHER),
+    ("11 to 12 bytes a row", SECOND),
+    ("11 to one byte more than 12 bytes a row", SECOND),
+];
+
+/// Which of these kinds a span is that found so many orders of this version.
+fn span_kinds(version: u32, orders: usize, room: usize, number: u32) -> [bool; SPANS.len()] {
+    let needed = row(version) * orders;
+    [
+        number == 0 && room == needed,
+        number == 0 && room == 16 * orders,
+        number == 11 && room + 1 == needed,
+        number == 11 && room + row(version) == needed,
+        number == 11 && room == 12 * orders,
+        number == 11 && room == 12 * orders + 1,
+    ]
+}
+
+/// Each kind in each version that has it, with how often it came.
+fn by_version<'t, const N: usize>(
+    kinds: &'static [(&str, &[usize]); N],
+    times: &'t Versions<[u64; N]>,
+) -> impl Iterator<Item = (u64, String)> + 't {
+    kinds
+        .iter()
+        .enumerate()
+        .flat_map(move |(kind, (name, versions))| {
+            let versions = versions.iter();
+            versions
+                .map(move |&version| (times[version][kind], format!("version {version}, {name}")))
+        })
 }
 
 /// The γ of the tables with orders of every level, and the N of these tables, which makes β as large as it can be.
@@ -104,10 +147,10 @@ pub const GAMMAS: [u32; 5] = [2, 3, 16, 63, 64];
 pub const MOST_ORDERS: u32 = 65_535;
 
 /// In which ways each level must come.
-pub const WAYS: [&str; 2] = ["h(x) = x", "no number of h is 0"];
+const WAYS: [&str; 2] = ["h(x) = x", "no number of h is 0"];
 
 /// Hashes that tell one power from another, the largest sums, and a sum that comes to 0 only by mod p.
-pub const HASHES: [&str; 12] = [
+const HASHES: [&str; 12] = [
     "h(x) = 1",
     "h(x) = x",
     "h(x) = x²",
@@ -143,6 +186,7 @@ fn hash_kinds(made: &Made, key: u32) -> [bool; HASHES.len()] {
 /// β of the tables with orders of every level.
 pub fn most_levels(gamma: u32) -> u32 {
     let sizes = Sizes {
+        version: 1,
         gamma,
         nodes: 2,
         orders: MOST_ORDERS,
@@ -152,34 +196,32 @@ pub fn most_levels(gamma: u32) -> u32 {
 }
 
 /// How the tally calls a seek that is the call before again.
-pub const ASKED_AGAIN: &str = "a seek that was just asked, asked again";
+const ASKED_AGAIN: &str = "a seek that was just asked, asked again";
 
 impl Tally {
     pub fn calls(&self) -> u64 {
-        self.answered.iter().flatten().sum::<u64>() + self.undecided
+        self.answered.iter().flatten().flatten().sum::<u64>() + self.undecided
     }
 
-    /// Calls and numbers that were never met.
+    /// Versions, calls and numbers that were never met. There is no 14 in version 2.
     pub fn missing(&self) -> Vec<String> {
-        let met = |call: usize, number: usize| self.answered[call][number] > 0;
-        let all = (0..CALLS.len())
-            .flat_map(|call| NUMBERS[call].iter().map(move |&number| (call, number)));
-        all.filter(|&(call, number)| !met(call, number))
-            .map(|(call, number)| format!("{} {number}", CALLS[call]))
-            .collect()
+        let mut missing = Vec::new();
+        for &version in EITHER {
+            for (call, numbers) in NUMBERS.into_iter().enumerate() {
+                for &number in numbers {
+                    let times = self.answered[version][call][number];
+                    if times == 0 && (version, number) != (2, 14) {
+                        missing.push(format!("version {version}, {} {number}", CALLS[call]));
+                    }
+                }
+            }
+        }
+        missing
     }
 
     fn count_ticket(&mut self, ticket: &Ticket, found: &Found, number: u32) {
         let kinds = tickets::kinds(ticket, found, number);
-        for (count, met) in self.tickets.iter_mut().zip(kinds) {
-            *count += u64::from(met);
-        }
-    }
-
-    fn count_seek(&mut self, sought: &Sought) {
-        for (count, met) in self.seeks.iter_mut().zip(sought.kinds()) {
-            *count += u64::from(met);
-        }
+        count(&mut self.tickets[found.version() as usize], kinds);
     }
 
     /// Counts an order that was entered into a table with one of the γ above.
@@ -190,13 +232,11 @@ impl Tally {
         for (levels, met) in self.levels.iter_mut().zip(ways) {
             levels[gamma][made.level(key) as usize] += u64::from(met);
         }
-        for (count, met) in self.hashes.iter_mut().zip(hash_kinds(made, key)) {
-            *count += u64::from(met);
-        }
+        count(&mut self.hashes, hash_kinds(made, key));
     }
 
-    /// The level that came least often in some way with some γ, or the kind of hash, and how often.
-    pub fn rarest_hash(&self) -> (u64, String) {
+    /// Each level in each way with each γ, and each kind of hash, and how often it came.
+    pub fn hash_kinds(&self) -> impl Iterator<Item = (u64, String)> {
         let mut kinds = Vec::new();
         for (way, levels) in WAYS.iter().zip(&self.levels) {
             for (&gamma, levels) in GAMMAS.iter().zip(levels) {
@@ -208,25 +248,31 @@ impl Tally {
         }
         let hashes = HASHES.iter().map(|kind| kind.to_string());
         kinds.extend(self.hashes.iter().copied().zip(hashes));
-        kinds.into_iter().min().expect("there are kinds")
+        kinds.into_iter()
     }
 
-    /// The kind of enter or amend that came least often, and how often.
-    pub fn rarest_ticket(&self) -> (u64, &'static str) {
-        let kinds = self.tickets.iter().copied().zip(TICKETS);
-        kinds.min().expect("there are kinds")
+    /// Each kind of enter and amend in each version, and how often it came.
+    pub fn ticket_kinds(&self) -> impl Iterator<Item = (u64, String)> + '_ {
+        by_version(&TICKETS, &self.tickets)
+    }
+
+    /// Each kind of span.
+    pub fn span_kinds(&self) -> impl Iterator<Item = (u64, String)> + '_ {
+        by_version(&SPANS, &self.spans)
     }
 
     /// Each kind of seek, and how often it came.
-    pub fn seek_kinds(&self) -> impl Iterator<Item = (u64, &'static str)> + '_ {
-        let names = SEEKS.iter().map(|&(kind, _)| kind);
+    pub fn seek_kinds(&self) -> impl Iterator<Item = (u64, String)> + '_ {
+        let names = SEEKS.iter().map(|&(kind, _)| kind.to_string());
         let kinds = self.seeks.iter().copied().zip(names);
-        kinds.chain([(self.asked_again, ASKED_AGAIN)])
+        kinds.chain([(self.asked_again, ASKED_AGAIN.to_string())])
     }
+}
 
-    /// The one that came least often.
-    pub fn rarest_seek(&self) -> (u64, &'static str) {
-        self.seek_kinds().min().expect("there are kinds")
+/// Counts the kinds that were met.
+fn count<const N: usize>(times: &mut [u64; N], met: [bool; N]) {
+    for (times, met) in times.iter_mut().zip(met) {
+        *times += u64::from(met);
     }
 }
 
@@ -337,6 +383,7 @@ impl<'a> Pair<'a> {
             return Ok(Reply::done());
         }
         let ticket = self.ticket_and_found(step);
+        let version = self.version_of(step);
         let (call, found, output) = self.on_tested(step)?;
         let (wanted, expected_output) = on_reference(&mut self.expected, step);
         let name = CALLS[call];
@@ -345,10 +392,11 @@ impl<'a> Pair<'a> {
                 return Err(format!("{name} answered {found:?}, not {wanted:?}"));
             }
             Some(_) => {
-                self.tally.answered[call][found.number as usize] += 1;
+                self.tally.answered[version][call][found.number as usize] += 1;
                 if let Some((ticket, before)) = ticket {
                     self.tally.count_ticket(&ticket, &before, found.number);
                 }
+                self.count_span(step, found);
                 self.count_seek(step, found);
             }
             None => self.tally.undecided += 1,
@@ -379,6 +427,19 @@ impl<'a> Pair<'a> {
                 true
             }
             _ => false,
+        }
+    }
+
+    /// The version that a make is asked for, or that of the table that another call is lent; 0 if it is neither 1 nor 2.
+    fn version_of(&self, step: &Step) -> usize {
+        let version = match *step {
+            Step::Make { ref sizes, .. } => sizes.version,
+            _ => self.expected.first().copied().unwrap_or(0).into(),
+        };
+        if version <= 2 {
+            version as usize
+        } else {
+            0
         }
     }
 
@@ -446,13 +507,34 @@ impl<'a> Pair<'a> {
         Ok(found)
     }
 
+    /// Counts a span that finds orders by its kinds.
+    fn count_span(&mut self, step: &Step, reply: Reply) {
+        if let (
+            &Step::Span {
+                length,
+                lo,
+                hi,
+                room,
+            },
+            0 | 11,
+        ) = (step, reply.number)
+        {
+            let found = Found::in_table(&self.expected[..length]).expect("no 4");
+            let (version, orders) = (found.version(), found.orders.range(lo..=hi).count());
+            if orders > 0 {
+                let kinds = span_kinds(version, orders, room, reply.number);
+                count(&mut self.tally.spans[version as usize], kinds);
+            }
+        }
+    }
+
     /// Counts a seek by its kinds; one that is the step before again, as that alone.
     fn count_seek(&mut self, step: &Step, reply: Reply) {
         if let Step::Seek { length, lo, hi, r } = *step {
             if self.steps.iter().rev().nth(1) == Some(step) {
                 self.tally.asked_again += 1;
             } else if let Some(sought) = Sought::new(&self.expected[..length], (lo, hi, r), reply) {
-                self.tally.count_seek(&sought);
+                count(&mut self.tally.seeks, sought.kinds());
             }
         }
     }
@@ -501,14 +583,7 @@ fn on_reference(store: &mut [u8], step: &Step) -> (Option<Reply>, Vec<u8>) {
             ref sizes,
             ref seed,
             length,
-        } => calls::make(
-            sizes.gamma,
-            sizes.nodes,
-            sizes.orders,
-            sizes.blocks,
-            seed,
-            &mut store[..length],
-        ),
+        } => calls::make(sizes, seed, &mut store[..length]),
         Step::Check { length } => calls::check(&store[..length]),
         Step::Ticket { length, ticket } => ticket.on_reference(&mut store[..length]),
         Step::Cancel { length, key } => calls::cancel(&mut store[..length], key),
@@ -599,15 +674,25 @@ fn line(step: &Step) -> String {
             ref seed,
             length,
         } => {
-            let (gamma, nodes, seed) = (sizes.gamma, sizes.nodes, hex(seed));
-            let (orders, blocks) = (sizes.orders, sizes.blocks);
-            format!("make {gamma} {nodes} {orders} {blocks} {seed} {length}")
+            let Sizes {
+                version,
+                gamma,
+                nodes,
+                orders,
+                blocks,
+            } = *sizes;
+            let seed = hex(seed);
+            format!("make {version} {gamma} {nodes} {orders} {blocks} {seed} {length}")
         }
         Step::Check { length } => format!("check {length}"),
         Step::Ticket { length, ticket } => {
             let (word, key) = (CALLS[place_of(ticket.kind)], ticket.key);
-            let (total, displayed) = (ticket.new.total, ticket.new.displayed);
-            format!("{word} {length} {key} {total} {displayed}")
+            let Order {
+                total,
+                displayed,
+                price,
+            } = ticket.new;
+            format!("{word} {length} {key} {total} {displayed} {price}")
         }
         Step::Cancel { length, key } => format!("cancel {length} {key}"),
         Step::Lookup { length, key } => format!("lookup {length} {key}"),
@@ -630,8 +715,9 @@ fn answer(reply: Option<Reply>, store: &[u8]) -> String {
             key,
             total,
             displayed,
+            price,
             count,
-        }) => format!(" = {number} {key} {total} {displayed} {count} {hash:016x}"),
+        }) => format!(" = {number} {key} {total} {displayed} {price} {count} {hash:016x}"),
         None => format!(" = ? {hash:016x}"),
     }
 }
