@@ -39,10 +39,16 @@ unfoldable pub upto-in : (w : ℕ) → List ℕ → (left at y : ℕ) → ℕ
 upto-in w bs zero a y = 0
 upto-in w bs (suc j) a y = cond (ltb y (field a 4 bs)) 0 (suc (upto-in w bs j (a + w) y))
 
--- .. of the chunk in block i; none where the block says more nodes than fit
+-- .. the last being asked first: in a table the keys rise
+unfoldable pub passed-in : (w : ℕ) → List ℕ → (n at y : ℕ) → ℕ
+passed-in w bs n a y = cond (leb (field (a + w * (n - 1)) 4 bs) y) n (upto-in w bs n a y)
+
+-- .. of the chunk in block i, so for a full one; none where the block says more nodes than fit
 unfoldable pub reached-in : Sizes → List ℕ → (i y : ℕ) → ℕ
 reached-in s bs i y =
-    cond (ltb (s .nodes) (getD bs (53 + i * block-long s + 1) 0)) 0 (upto-in (row s) bs (getD bs (53 + i * block-long s + 1) 0) (53 + i * block-long s + 8) y)
+    let n = getD bs (53 + i * block-long s + 1) 0 in
+    let a = 53 + i * block-long s + 8 in
+    cond (ltb (s .nodes) n) 0 (cond (ltb n (s .nodes)) (upto-in (row s) bs n a y) (passed-in (row s) bs n a y))
 
 -- .. of the chunk that a search found, and its block
 unfoldable pub found-upto : Sizes → List ℕ → (y : ℕ) → Found → ℕ

@@ -8,7 +8,7 @@ ghost use Rattle.sizes.specs.Sizes.{row};
 ghost use Rattle.sizes.specs.Geometry.{Reckoned};
 ghost use Rattle.sizes.specs.Hash.{hash-from};
 ghost use Rattle.placement.specs.Place.{Shaped};
-ghost use Rattle.levels.specs.Ways.{starting, trek, number-in, upto-in, reached-in, trod, along-in, down-in, way-down};
+ghost use Rattle.levels.specs.Ways.{starting, trek, number-in, upto-in, passed-in, reached-in, trod, along-in, down-in, way-down};
 use crate::Trail;
 use placement::Found;
 use placement::Label;
@@ -49,7 +49,21 @@ pub fn upto(table: &[u8], w: usize, at: usize, n: u32, y: u32) -> u32
     i
 }
 
-// The same of the chunk in a block. No block of a table has more nodes than fit.
+// The same where keys rise, as they do in a table, and the way may go past all of them: the last key is asked first.
+fn passed(table: &[u8], w: usize, at: usize, n: u32, y: u32) -> u32
+    requires { ⌜ (12 ≤ w) × (w ≤ 16) × (at + w * n ≤ length (now table)) ⌝ }
+    ensures { λ r. ⌜ (r ≡ passed-in w (now (table .entry)) n at y) × (r ≤ n) ⌝ }
+{
+    if n == 0 {
+        return 0;
+    }
+    if key_at(table, w, at, n, n - 1) <= y {
+        return n;
+    }
+    upto(table, w, at, n, y)
+}
+
+// The same of the chunk in a block. No block of a table has more nodes than fit, and a way goes past none but full ones.
 fn reached(table: &[u8], s: Sizes, i: u32, y: u32) -> u32
     requires { ⌜ Shaped s (now table) × (i < s .blocks) ⌝ }
     ensures { λ r. ⌜ (r ≡ reached-in s (now (table .entry)) i y) × (r ≤ s .nodes) ⌝ }
@@ -58,7 +72,12 @@ fn reached(table: &[u8], s: Sizes, i: u32, y: u32) -> u32
     if s.nodes < n {
         return 0;
     }
-    upto(table, row(s), offset(s, i) + 8, n, y)
+    let w = row(s);
+    let at = offset(s, i) + 8;
+    if n < s.nodes {
+        return upto(table, w, at, n, y);
+    }
+    passed(table, w, at, n, y)
 }
 
 // The number of a block comes to the path, where it has room.

@@ -20,7 +20,8 @@ fn fold(t: u64) -> u64
     t % 2147483648 + t / 2147483648
 }
 
-// A folded number below 5 · 2^31, reduced. One more fold is enough but for a few numbers. Those are below 2 · p, so no division is left of it when compiled.
+// A folded number below 5 · 2^31, reduced. One more fold is enough but for a few numbers. Those are divided: had they a cheap way, the compiler would go both
+// ways with every number, and choose.
 fn reduce(t: u64) -> u32
     requires { ⌜ t ≤ 10737418235 ⌝ }
     ensures { λ r. ⌜ (r ≡ t % 2147483647) × (r < 2147483647) ⌝ }
@@ -29,7 +30,7 @@ fn reduce(t: u64) -> u32
     if r < 2147483647 {
         return r as u32;
     }
-    (r % 2147483647) as u32
+    (t % 2147483647) as u32
 }
 
 // A key mod p. Every key of a table is below p; bytes that are none may say more.

@@ -57,22 +57,29 @@ fn quantities(level: u32, n: Order) -> bool
     n.displayed <= n.total
 }
 
-// The price of a node, which stands at a place: 0 above level 1 and for the front; an order's is at least 1. It is read here, and only where nodes have one.
+// Where in a node its price stands; where nodes have none, the key, which no order has 0 either.
+fn price_at(s: Sizes) -> usize
+    ensures { λ r. ⌜ (r ≡ 3 * (row s - 12)) × (r + 4 ≤ row s) ⌝ }
+{
+    if s.version == 1 {
+        return 0;
+    }
+    12
+}
+
+// The price of a node, which stands at a place: 0 above level 1 and for the front; an order's is at least 1. Of an order one number is read in either version,
+// so that the loop over orders need not ask for the version.
 fn priced(table: &[u8], s: Sizes, level: u32, at: usize, n: Order) -> bool
     requires { ⌜ (at + row s ≤ length (now table)) × (n ≡ node-of (row s) (now table) at) ⌝ }
     ensures { λ r. ⌜ r ≡ price-ok s level n ⌝ }
 {
-    if s.version == 1 {
-        return true;
-    }
-    let price = node_of(table, s, at).price;
     if level != 1 {
-        return price == 0;
+        return node_of(table, s, at).price == 0;
     }
     if n.key == 0 {
-        return price == 0;
+        return node_of(table, s, at).price == 0;
     }
-    1 <= price
+    1 <= be4(table, at + price_at(s))
 }
 
 // Does a node fit into a partition? The first key is known, any other has exactly the level of its list.

@@ -1,13 +1,13 @@
 -- The way down in a table: the blocks that come on it, and the node where it ends.
 use mathlib.Core.Path.{_≡_, refl, sym, ap, _∙_, subst}
-use mathlib.Core.Bool.{true}
+use mathlib.Core.Bool.{Bool, true, false, cond}
 use mathlib.Core.List.{List, [], _∷_, _++_, map}
 use Prim.Native.Nat.{ℕ, zero, suc, _+_, _*_, _-_, _/_, _%_, _≤_, _<_}
 use native.Mathlib.Decide.{decLt}
 use native.Mathlib.Nat.{add-zero, zero-mul, suc-mul, add-comm, div-eq-of-lt, mod-eq-of-lt, mul-add-div-right, mul-add-mod-self-right}
 use native.Mathlib.Omega.{arith}
-use borrow.Author.Tests.{ltb-true, ne-eqb, le-ltb, lt-ltb}
-use lib.Dec.{ltb}
+use borrow.Author.Tests.{ltb-true, leb-true, ne-eqb, le-ltb, lt-ltb}
+use lib.Dec.{ltb, leb}
 use lib.ListN.{length, getD, take, drop, length-append, length-take, length-drop, take-append-drop, List·getD-append}
 use lib.Seq.{drop-append-le, drop-drop}
 use Rattle.sizes.specs.Numbers.{field, rows-in}
@@ -24,6 +24,7 @@ use Rattle.placement.specs.declared.Order.{Order}
 use Rattle.placement.specs.declared.Found.{Found}
 use Rattle.placement.specs.declared.Found.the-variants.{At, Nothing}
 use Rattle.sizes.proofs.Laws.Sizes.{some-nodes}
+use Rattle.placement.proofs.Laws.Cells.{cond-valid}
 use Rattle.placement.proofs.Laws.Reading.{node-at, key-of, nodes-read, node-read}
 use Rattle.skiplist.specs.Paths.{labels-from, stands-in}
 use Rattle.skiplist.proofs.Laws.Parts.{Up, below, up-front, and-left, and-right}
@@ -32,9 +33,9 @@ use Rattle.skiplist.proofs.Laws.Descent.{last-from}
 use Rattle.skiplist.proofs.Laws.Paths.{found-stands}
 use Rattle.levels.specs.declared.Trail.{Trail}
 use Rattle.levels.specs.Edit.{Pieces}
-use Rattle.levels.specs.Ways.{Trek, trek, upto-in, reached-in, found-upto, found-block, node-place, trod, chunks-in}
+use Rattle.levels.specs.Ways.{Trek, trek, upto-in, passed-in, reached-in, found-upto, found-block, node-place, trod, chunks-in}
 use Rattle.levels.proofs.Laws.Numbers.{numbers-in}
-use Rattle.levels.proofs.Laws.Takes.{none-found, some-found, counted}
+use Rattle.levels.proofs.Laws.Takes.{Stood, none-found, some-found, counted}
 use Rattle.levels.proofs.Laws.Chunking.{pieces-none, pieces-full, drop-past}
 
 -- A NODE stands in bytes
@@ -91,6 +92,32 @@ upto-read w bs y (p ∷ ps) qs a e u h =
     rw (le-ltb y (field a 4 bs) (omega (arith, key-of w bs a, ap (λ (l : List Order). node-at l 0 .key) h, low)))
     (ap suc (upto-read w bs y ps qs (a + w) (and-right (ltb (p .key) (suc y)) (below (suc y) ps) e) u (rw drop-drop at (ap (drop 1) h))))
 
+-- .. the last being asked first: where it is not above y, none is
+up-last : (a : ℕ) (z : Order) (qs : List Order) → a ≤ z .key → Up (suc (z .key)) qs → a ≤ last-of z qs .key
+unfolding last-of
+up-last a z [] h u = h
+up-last a z (q ∷ qs) h u = up-last a q qs (omega (arith, u .0)) (u .1)
+
+last-above : (y : ℕ) (ps qs : List Order) → Up (suc y) qs → (0 < length (ps ++ qs) → node-at (ps ++ qs) (length (ps ++ qs) - 1) .key ≤ y) → length (ps ++ qs) ≡ length ps
+unfolding last-of
+last-above y ps [] u l = omega (arith, length-append ps [])
+last-above y ps (q ∷ qs) u l =
+    let h : 0 < length (ps ++ q ∷ qs) = omega (arith, length-append ps (q ∷ qs)) in
+    let e = sym (last-at q (ps ++ q ∷ qs) h) ∙ last-append q ps (q ∷ qs) in
+    absurd (omega (arith, ap (λ (o : Order). o .key) e, l h, up-last (suc y) q qs (u .0) (u .1)))
+
+module _ (w : ℕ) (bs : List ℕ) (y : ℕ) (ps qs : List Order) (a : ℕ) (u : Up (suc y) qs) where
+  abbrev n : ℕ
+  n = length (ps ++ qs)
+
+  passed-read : (0 < n → field (a + w * (n - 1)) 4 bs ≡ node-at (ps ++ qs) (n - 1) .key) → upto-in w bs n a y ≡ length ps → passed-in w bs n a y ≡ length ps
+  unfolding passed-in
+  passed-read e h = go (leb (field (a + w * (n - 1)) 4 bs) y) refl
+    where
+      go : (t : Bool) → leb (field (a + w * (n - 1)) 4 bs) y ≡ t → cond t n (upto-in w bs n a y) ≡ length ps
+      go true t = last-above y ps qs u (λ p. omega (arith, e p, leb-true (field (a + w * (n - 1)) 4 bs) y t))
+      go false t = h
+
 -- A CHUNK of a table
 module _ (s : Sizes) (F : Map) (n : ℕ) (hd bs : List ℕ) (t : Table s F n hd bs) (k f : ℕ) (pos : 0 < k) where
   abbrev sought : (j : ℕ) → Found
@@ -102,13 +129,20 @@ module _ (s : Sizes) (F : Map) (n : ℕ) (hd bs : List ℕ) (t : Table s F n hd 
     unfolding found-upto reached-in
     chunk-upto y ps qs e l u = go (sought j) refl
       where
+        last : (b : ℕ) → Stood s F (label k f j) bs b → 0 < length (F k f j)
+            → node-of (row s) bs (53 + b * block-long s + 8 + row s * (length (F k f j) - 1)) ≡ node-at (F k f j) (length (F k f j) - 1)
+        last b v p = node-read s bs b (label k f j) (F k f j) (v .is) (v .held .fine) (length (F k f j) - 1) (omega arith)
+
         go : (r : Found) → r ≡ sought j → found-upto s bs y r ≡ length ps
         go Nothing er = omega (arith, ap length (sym e ∙ none-found s F n hd bs t (label k f j) pos Nothing er refl), length-append ps qs)
         go (At b) er =
             let v = some-found s F n hd bs t (label k f j) pos (At b) er b refl in
             let c : getD bs (53 + b * block-long s + 1) 0 ≡ length (ps ++ qs) = counted s F n hd bs t (label k f j) pos (At b) er b refl _ refl ∙ ap length e in
+            let front = upto-read (row s) bs y ps qs (53 + b * block-long s + 8) l u (rw e at (nodes-read s bs b (label k f j) (F k f j) (v .is) (v .held .fine))) in
             rw (c, le-ltb (s .nodes) (length (ps ++ qs)) (omega (arith, v .held .nodes, ap length e)))
-            (upto-read (row s) bs y ps qs (53 + b * block-long s + 8) l u (rw e at (nodes-read s bs b (label k f j) (F k f j) (v .is) (v .held .fine))))
+            (cond-valid (λ (z : ℕ). z ≡ length ps) (ltb (length (ps ++ qs)) (s .nodes)) front
+            (passed-read (row s) bs y ps qs (53 + b * block-long s + 8) u
+            (λ p. sym (key-of (row s) bs _) ∙ ap (λ (o : Order). o .key) (rw e at (last b v (rw e p)))) front))
 
     module _ (full : 0 < length (F k f j)) where
       there : (b : ℕ) × (sought j ≡ At b)

@@ -25,7 +25,7 @@ use Rattle.placement.proofs.Laws.Cells.{cond-valid}
 use Rattle.placement.proofs.Laws.Loops.{search-below}
 use Rattle.placement.proofs.Laws.Behind.{search-behind}
 use Rattle.levels.specs.declared.Trail.{Trail}
-use Rattle.levels.specs.Ways.{Trek, trek, coming, starting, number-in, upto-in, reached-in, found-upto, found-block, node-place, trod, chunks-in, along-in, down-in, way-down}
+use Rattle.levels.specs.Ways.{Trek, trek, coming, starting, number-in, upto-in, passed-in, reached-in, found-upto, found-block, node-place, trod, chunks-in, along-in, down-in, way-down}
 
 -- one row more
 pub rows-next : (w i : ℕ) → w * (i + 1) ≡ w * i + w
@@ -70,15 +70,35 @@ module _ (w : ℕ) (bs : List ℕ) (n at y : ℕ) where
         let c : n - i ≡ 0 = omega arith in
         omega (arith, p .rest, ap (λ (q : ℕ). upto-in w bs q (at + w * i) y) c)
 
+-- .. the last being asked first
+module _ (w : ℕ) (bs : List ℕ) (n at y : ℕ) where
+  pub passed-none : n ≡ 0 → 0 ≡ passed-in w bs n at y
+  unfolding passed-in upto-in
+  passed-none e = rw e (sym (cond-valid (λ (r : ℕ). r ≡ 0) (leb (field (at + w * (0 - 1)) 4 bs) y) refl refl))
+
+  module _ (k : ℕ) (e : k ≡ field (at + w * (n - 1)) 4 bs) where
+    pub passed-last : k ≤ y → n ≡ passed-in w bs n at y
+    unfolding passed-in
+    passed-last h = rw (le-leb (field (at + w * (n - 1)) 4 bs) y (rw (← e) h))
+
+    pub passed-front : y < k → (r : ℕ) → r ≡ upto-in w bs n at y → r ≡ passed-in w bs n at y
+    unfolding passed-in
+    passed-front h r er = er ∙ rw (lt-leb (field (at + w * (n - 1)) 4 bs) y (rw (← e) h))
+
 -- .. of the chunk in a block
 module _ (s : Sizes) (bs : List ℕ) (i y : ℕ) (c : ℕ) (e : c ≡ getD bs (53 + i * block-long s + 1) 0) where
   pub reached-wide : s .nodes < c → 0 ≡ reached-in s bs i y
   unfolding reached-in
   reached-wide h = rw (lt-ltb (s .nodes) (getD bs (53 + i * block-long s + 1) 0) (omega (arith, h, e)))
 
-  pub reached-all : c ≤ s .nodes → (a : ℕ) → a ≡ 53 + i * block-long s → (w r : ℕ) → w ≡ row s → r ≡ upto-in w bs c (a + 8) y → r ≡ reached-in s bs i y
-  unfolding reached-in
-  reached-all h a ea w r ew er = er ∙ rw (ew, ea, ← e, le-ltb _ _ h)
+  module _ (h : c ≤ s .nodes) (a : ℕ) (ea : a ≡ 53 + i * block-long s) (w : ℕ) (ew : w ≡ row s) (r : ℕ) where
+    pub reached-part : c < s .nodes → r ≡ upto-in w bs c (a + 8) y → r ≡ reached-in s bs i y
+    unfolding reached-in
+    reached-part l er = er ∙ rw (ew, ea, ← e, le-ltb _ _ h, lt-ltb _ _ l)
+
+    pub reached-full : s .nodes ≤ c → r ≡ passed-in w bs c (a + 8) y → r ≡ reached-in s bs i y
+    unfolding reached-in
+    reached-full l er = er ∙ rw (ew, ea, ← e, le-ltb _ _ h, le-ltb _ _ l)
 
 -- there is room for the nodes
 module _ (s : Sizes) (bs : List ℕ) (h : Shaped s bs) (a : ℕ) (q : a + block-long s ≤ 53 + s .blocks * block-long s) where

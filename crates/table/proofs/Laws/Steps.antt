@@ -2,10 +2,12 @@
 use mathlib.Core.Path.{_≡_, refl, sym, ap, _∙_}
 use mathlib.Core.Bool.{Bool, true, false, _&&_, not, cond, and-false, and-true}
 use mathlib.Core.List.{List}
-use Prim.Native.Nat.{ℕ, _-_, _≤_, _<_}
+use Prim.Native.Nat.{ℕ, _+_, _*_, _-_, _≤_, _<_}
+use native.Mathlib.Nat.{add-zero}
+use native.Mathlib.Omega.{arith}
 use lib.Dec.{ltb, leb, eqb}
 use lib.ListN.{drop}
-use borrow.Author.Tests.{eq-eqb, ne-eqb, le-leb, lt-leb, le-ltb, lt-ltb, leb-true, ltb-true}
+use borrow.Author.Tests.{eq-eqb, ne-eqb, eqb-true, eqb-false, le-leb, lt-leb, le-ltb, lt-ltb, leb-true, ltb-true}
 use Rattle.sizes.specs.Numbers.{field}
 use Rattle.sizes.specs.Sizes.{prime, row}
 use Rattle.sizes.specs.Hash.{level}
@@ -13,7 +15,9 @@ use Rattle.placement.specs.Decode.{node-in, node-of}
 use Rattle.sizes.specs.declared.Sizes.{Sizes}
 use Rattle.placement.specs.declared.Order.{Order}
 use Rattle.sizes.proofs.Laws.Sizes.{and-parts}
-use Rattle.placement.proofs.Laws.Nodes.{price-none}
+use Rattle.sizes.proofs.Laws.Numbers.{field-drop}
+use Rattle.placement.proofs.Laws.Nodes.{price-none, price-some}
+use Rattle.placement.proofs.Laws.Reading.{key-of}
 use Rattle.skiplist.specs.Image.{price-good}
 use Rattle.table.specs.declared.Seen.{Seen}
 use Rattle.table.specs.Walk.{wrong-seen, nothing-in, quantities-ok, price-ok, belongs-in, fits-in, counts, node-good, enters-ok, enters-lowest, comes-ok, entered-seen, passed-seen, ended-seen, stops-at}
@@ -47,16 +51,17 @@ module _ (l : ℕ) (n : Order) where
   unfolding quantities-ok
   quantities-above q e h = h ∙ rw (ne-eqb _ _ e)
 
-either : (t v : Bool) → v ≡ cond t v v
-either true v = refl
-either false v = refl
+-- where a price stands
+pub place-one : (s : Sizes) → s .version ≡ 1 → (0 ≡ 3 * (row s - 12)) × (0 + 4 ≤ row s)
+unfolding row
+place-one s e = (rw (eq-eqb _ _ e), rw (eq-eqb _ _ e) (omega arith))
 
--- the price of a node: read from its place only where it has one
+pub place-other : (s : Sizes) → (s .version ≡ 1 → ⊥) → (12 ≡ 3 * (row s - 12)) × (12 + 4 ≤ row s)
+unfolding row
+place-other s e = (rw (ne-eqb _ _ e), rw (ne-eqb _ _ e) (omega arith))
+
+-- the price of a node
 module _ (s : Sizes) (l : ℕ) (bs : List ℕ) (a : ℕ) (n : Order) (is : n ≡ node-of (row s) bs a) where
-  pub priced-none : s .version ≡ 1 → true ≡ price-ok s l n
-  unfolding price-ok price-good node-of node-in
-  priced-none e = rw (is, eq-eqb _ _ e, ← price-none s (drop a bs) 12 e) (either (eqb l 1 && not (eqb (field 0 4 (drop a bs)) 0)) true)
-
   module _ (m : Order) (em : m ≡ node-of (row s) bs a) where
     abbrev same : m .price ≡ n .price
     same = ap (λ (x : Order). x .price) (em ∙ sym is)
@@ -69,9 +74,21 @@ module _ (s : Sizes) (l : ℕ) (bs : List ℕ) (a : ℕ) (n : Order) (is : n ≡
     unfolding price-ok
     priced-front e = rw (same, eq-eqb (n .key) 0 e, and-false)
 
-    pub priced-last : (s .version ≡ 1 → ⊥) → l ≡ 1 → (n .key ≡ 0 → ⊥) → leb 1 (m .price) ≡ price-ok s l n
-    unfolding price-ok price-good
-    priced-last v e k = rw (same, ne-eqb (s .version) 1 v, eq-eqb l 1 e, ne-eqb (n .key) 0 k)
+  -- .. of an order: one number is read, which in version 1 is the key
+  pub priced-order : l ≡ 1 → (n .key ≡ 0 → ⊥) → (i v : ℕ) → i ≡ 3 * (row s - 12) → v ≡ field (a + i) 4 bs → leb 1 v ≡ price-ok s l n
+  unfolding price-ok price-good node-of node-in
+  priced-order e k i v ei ev = rw (eq-eqb l 1 e, ne-eqb (n .key) 0 k) (go (eqb (s .version) 1) refl)
+    where
+      go : (t : Bool) → eqb (s .version) 1 ≡ t → leb 1 v ≡ cond t (eqb (n .price) 0) (leb 1 (n .price))
+      go true et =
+          let h : s .version ≡ 1 = eqb-true (s .version) 1 et in
+          let u : v ≡ n .key = ev ∙ ap (λ (z : ℕ). field (a + z) 4 bs) (ei ∙ sym (place-one s h .0)) ∙ rw add-zero (sym (ap (λ (x : Order). x .key) is ∙ key-of (row s) bs a)) in
+          let p : n .price ≡ 0 = ap (λ (x : Order). x .price) is ∙ sym (price-none s (drop a bs) 12 h) in
+          le-leb 1 v (omega (arith, u, k)) ∙ rw p
+      go false et =
+          let h : s .version ≡ 1 → ⊥ = eqb-false (s .version) 1 et in
+          let u : v ≡ field 12 4 (drop a bs) = ev ∙ ap (λ (z : ℕ). field (a + z) 4 bs) (ei ∙ sym (place-other s h .0)) ∙ sym (field-drop 12 4 a bs) in
+          ap (leb 1) (price-some s (drop a bs) 12 v h u ∙ sym (ap (λ (x : Order). x .price) is))
 
 module _ (s : Sizes) (l f : ℕ) (o : Bool) (n : Order) where
   module _ (q : Bool) (eq : q ≡ quantities-ok l n) where
