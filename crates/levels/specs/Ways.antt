@@ -43,7 +43,7 @@ upto-in w bs (suc j) a y = cond (ltb y (field a 4 bs)) 0 (suc (upto-in w bs j (a
 unfoldable pub passed-in : (w : ℕ) → List ℕ → (n at y : ℕ) → ℕ
 passed-in w bs n a y = cond (leb (field (a + w * (n - 1)) 4 bs) y) n (upto-in w bs n a y)
 
--- .. of the chunk in block i, so for a full one; none where the block says more nodes than fit
+-- .. of the chunk in block i, a full one's last key being asked first; none where the block says more nodes than fit
 unfoldable pub reached-in : Sizes → List ℕ → (i y : ℕ) → ℕ
 reached-in s bs i y =
     let n = getD bs (53 + i * block-long s + 1) 0 in

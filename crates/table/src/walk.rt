@@ -57,7 +57,7 @@ fn quantities(level: u32, n: Order) -> bool
     n.displayed <= n.total
 }
 
-// Where in a node its price stands; where nodes have none, the key, which no order has 0 either.
+// Where in a node its price stands, byte 12; where nodes have none, byte 0, the key, which no order has 0 either. Of nodes of w bytes both are 3 · (w − 12).
 fn price_at(s: Sizes) -> usize
     ensures { λ r. ⌜ (r ≡ 3 * (row s - 12)) × (r + 4 ≤ row s) ⌝ }
 {
