@@ -27,7 +27,7 @@ class Table:
     def __init__(self, data):
         need(len(data) >= 53, "fewer than 53 bytes")
         need(data[0] in WIDTH, "version")
-        self.width = WIDTH[data[0]]
+        self.version, self.width = data[0], WIDTH[data[0]]
         self.gamma, self.room, most, self.count, self.held = data[5], data[6], number(data, 7, 2), number(data, 9, 2), number(data, 11, 2)
         self.seed = [number(data, 13 + 4 * i, 4) for i in range(10)]
         need(2 <= self.gamma <= 64 and 2 <= self.room <= 32 and most >= 1, "sizes")
@@ -56,6 +56,11 @@ class Table:
         starts = range(8, 8 + self.width * block[1], self.width)
         return [tuple(number(block, at + i, 4) for i in range(0, self.width, 4)) for at in starts]
 
+    def rank(self, label):
+        """Labels compare as this does: by level, in version 2 the higher one first, then first key, then chunk number."""
+        level, first, chunk = label
+        return (level if self.version == 1 else -level, first, chunk)
+
     def find(self, label):
         """The number of the block that has a label."""
         home = (self.hashed(5, label[1]) + 65536 * label[0] + label[2]) % P % self.count
@@ -63,7 +68,7 @@ class Table:
             place = (home + i) % self.count
             block = self.blocks[place]
             here = (block[0], number(block, 4, 4), number(block, 2, 2))
-            if not any(block) or here > label:
+            if not any(block) or self.rank(here) > self.rank(label):
                 return None
             if here == label:
                 return place

@@ -1,7 +1,7 @@
 //! The bytes of a table and when they are an image ("Bytes of the table",
 //! "When bytes are an image").
 
-use crate::lists::{chunks, home, lists, Chunk, Label, Order, Orders};
+use crate::lists::{chunks, compare, home, lists, Chunk, Label, Order, Orders};
 use crate::sizes::{
     is_key, number_at, row, short_at, Made, Seed, Sizes, BLOCK_HEAD, FRONT, HEADER, SEED,
 };
@@ -29,8 +29,8 @@ pub fn image(made: &Made, orders: &Orders) -> Option<Vec<u8>> {
     fits.then(|| table(made, orders.len(), &place(made, &chunks)))
 }
 
-/// Places at most M chunks, which come in rising label order, each at the first
-/// free block from its home, going round. All blocks passed over hold smaller
+/// Places at most M chunks, which come in the version's rising label order, each at
+/// the first free block from its home, going round. All blocks passed over hold smaller
 /// labels, and no later chunk moves one, so rule 3 holds.
 pub fn place<'a>(made: &Made, chunks: &[Chunk<'a>]) -> Arrangement<'a> {
     let mut arrangement = vec![None; made.sizes.blocks as usize];
@@ -179,6 +179,11 @@ pub fn blocks(table: &[u8]) -> Option<Vec<Option<Block<'_>>>> {
     Some(read_blocks(&header.made.sizes, table))
 }
 
+/// What a table is made with; None where rule 1 fails.
+pub fn made(table: &[u8]) -> Option<Made> {
+    Some(rule_1(table)?.made)
+}
+
 /// Version and sizes as they stand and a seed that make allows. None when there are
 /// fewer than 53 bytes or the seed is none.
 fn read_made(table: &[u8]) -> Option<Made> {
@@ -273,7 +278,7 @@ fn are_orders(version: u32, orders: &Orders) -> bool {
 /// exactly its bytes.
 fn rule_2(made: &Made, orders: &Orders, blocks: &[Option<Block>]) -> bool {
     let mut found: Vec<&Block> = blocks.iter().flatten().collect();
-    found.sort_by_key(|block| block.label);
+    found.sort_by(|one, two| compare(made.sizes.version, &one.label, &two.label));
     let lists = lists(made, orders);
     let chunks = chunks(made, &lists);
     let mut bytes = Vec::new();
@@ -286,21 +291,18 @@ fn rule_2(made: &Made, orders: &Orders, blocks: &[Option<Block>]) -> bool {
 }
 
 /// "Going round from a chunk's home (block M−1 is followed by 0) up to just
-/// before its block, every block holds a smaller label." The labels are those in
-/// the blocks, None for an empty one.
+/// before its block, every block holds a smaller label", smaller by the version. The
+/// labels are those in the blocks, None for an empty one, which holds no smaller label.
 pub fn rule_3(made: &Made, labels: &[Option<Label>]) -> bool {
-    // An empty block holds no smaller label, so it counts as above them all.
-    let ranks: Vec<u64> = labels
-        .iter()
-        .map(|label| label.as_ref().map_or(u64::MAX, Label::rank))
-        .collect();
+    let is_smaller = |passed: &Option<Label>, label: &Label| {
+        let version = made.sizes.version;
+        passed.map_or(false, |passed| compare(version, &passed, label).is_lt())
+    };
     labels.iter().enumerate().all(|(block, label)| match label {
         Some(label) => {
-            let (before_end, from_0) = going_round(&ranks, home(made, label), block);
-            before_end
-                .iter()
-                .chain(from_0)
-                .all(|&passed| passed < label.rank())
+            let (before_end, from_0) = going_round(labels, home(made, label), block);
+            let mut passed = before_end.iter().chain(from_0);
+            passed.all(|passed| is_smaller(passed, label))
         }
         None => true,
     })

@@ -7,6 +7,7 @@
 //! Words in quotation marks and titles in brackets point into document 01; where
 //! a request is named, into that request of document 02.
 
+pub mod arrangements;
 pub mod book;
 pub mod calls;
 pub mod image;

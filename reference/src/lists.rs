@@ -1,6 +1,7 @@
 //! Lists, partitions, chunks, labels and homes ("Lists, partitions, chunks").
 
 use crate::sizes::{Made, FRONT, P};
+use std::cmp::Ordering;
 use std::collections::BTreeMap;
 
 /// An order beside its key. In version 1 the price is 0.
@@ -63,22 +64,27 @@ pub struct Element {
 /// L_k for one k.
 pub type List = Vec<Element>;
 
-/// "A chunk's label is (level, first key of its partition, chunk number)."
-/// The derived order takes the fields as they stand: "by level, then first key,
-/// then chunk number".
-#[derive(Clone, Copy, Debug, PartialEq, Eq, PartialOrd, Ord)]
+/// "A chunk's label is (level, first key of its partition, chunk number)." Labels have
+/// no order of their own: `compare` asks for the version.
+#[derive(Clone, Copy, Debug, PartialEq, Eq, Hash)]
 pub struct Label {
     pub level: u32,
     pub first_key: u32,
     pub chunk_number: u32,
 }
 
-impl Label {
-    /// A number for each label; labels compare as their numbers do. First keys
-    /// have 32 bits, chunk numbers 16.
-    pub fn rank(&self) -> u64 {
-        u64::from(self.level) << 48 | u64::from(self.first_key) << 16 | u64::from(self.chunk_number)
-    }
+/// "Labels compare by level, then first key, then chunk number"; other versions than 1
+/// compare "by higher level first, then first key, then chunk number" (request A.7).
+pub fn compare(version: u32, one: &Label, two: &Label) -> Ordering {
+    let by_level = one.level.cmp(&two.level);
+    let by_level = if version == 1 {
+        by_level
+    } else {
+        by_level.reverse()
+    };
+    by_level
+        .then(one.first_key.cmp(&two.first_key))
+        .then(one.chunk_number.cmp(&two.chunk_number))
 }
 
 /// A chunk: its label and its part of a list.
@@ -143,7 +149,7 @@ fn cut<'a>(made: &Made, level: u32, partition: &'a [Element]) -> impl Iterator<I
     })
 }
 
-/// All chunks of the lists L_1 to L_β, in rising label order.
+/// All chunks of the lists L_1 to L_β, in rising label order of the version.
 pub fn chunks<'a>(made: &Made, lists: &'a [List]) -> Vec<Chunk<'a>> {
     let mut chunks = Vec::new();
     for (level, list) in (1..).zip(lists) {
@@ -151,7 +157,13 @@ pub fn chunks<'a>(made: &Made, lists: &'a [List]) -> Vec<Chunk<'a>> {
             chunks.extend(cut(made, level, partition));
         }
     }
+    sort(made.sizes.version, &mut chunks);
     chunks
+}
+
+/// In rising label order of a version.
+pub fn sort(version: u32, chunks: &mut [Chunk]) {
+    chunks.sort_by(|one, two| compare(version, &one.label, &two.label));
 }
 
 /// "home(label) = ((g(first key) + 65,536·level + chunk number) mod p) mod M."

@@ -3,7 +3,7 @@
 use crate::image::blocks;
 use crate::lists::{chunks, lists, Chunk, Label, List, Orders};
 use crate::sizes::{Made, FRONT};
-use std::collections::BTreeMap;
+use std::collections::HashMap;
 
 /// Bytes of a block's number in a path.
 pub const NUMBER: usize = 2;
@@ -47,7 +47,7 @@ pub fn path(table: &[u8], made: &Made, orders: &Orders, key: u32) -> Vec<u16> {
 /// The numbers of the blocks of an image where the chunks with these labels stand.
 pub fn numbers(table: &[u8], labels: &[Label]) -> Vec<u16> {
     let blocks = blocks(table).expect("an image");
-    let stand: BTreeMap<Label, u16> = (0..)
+    let stand: HashMap<Label, u16> = (0..)
         .zip(blocks)
         .filter_map(|(number, block)| Some((block?.label, number)))
         .collect();

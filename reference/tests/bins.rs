@@ -3,6 +3,7 @@
 mod common;
 
 use common::{is_full, priced};
+use reference::arrangements::{self, ORDERS};
 use reference::calls::{self, Reply};
 use reference::program::program;
 use reference::samples::fnv_1a;
@@ -90,6 +91,8 @@ struct Reader {
     full: u32,
     odd_seeds: u32,
     tickets: [u32; TICKETS.len()],
+    /// In each version, calls that show which label is smaller.
+    orders: [[u32; ORDERS.len()]; 3],
     /// Seeks of each kind, and those that the line before asked too.
     seeks: [u32; SEEKS.len()],
     asked_again: u32,
@@ -179,6 +182,7 @@ impl Reader {
         };
         let pair = (asked[0].to_string(), version, number);
         *self.pairs.entry(pair).or_default() += 1;
+        self.count_orders(&asked, number, &before);
         if ["enter", "amend"].contains(&asked[0]) && number != 4 {
             self.full += u32::from(number == 0 && is_full(&self.store[..place(asked[1])]).1);
             self.count_ticket(&asked, number, &before);
@@ -213,6 +217,23 @@ impl Reader {
             answer == 0 && amend && same && price != own.price,
         ];
         for (count, met) in self.tickets.iter_mut().zip(kinds) {
+            *count += u32::from(met);
+        }
+    }
+
+    fn count_orders(&mut self, asked: &[&str], answer: u32, before: &[u8]) {
+        let (length, key) = match asked[0] {
+            "make" => (place(asked[7]), 0),
+            "check" => (place(asked[1]), 0),
+            _ => (place(asked[1]), number(asked[2])),
+        };
+        let (before, after) = (&before[..length], &self.store[..length]);
+        let version = match after.first() {
+            Some(&version @ 1..=2) => usize::from(version),
+            _ => return,
+        };
+        let met = arrangements::kinds(asked[0], answer, key, before, after);
+        for (count, met) in self.orders[version].iter_mut().zip(met) {
             *count += u32::from(met);
         }
     }
@@ -288,7 +309,8 @@ const CALLS: [(&str, &[u32]); 9] = [
 ];
 
 /// Reads a run and sees that every call gave all its numbers in either version, and
-/// that every kind of seek is there.
+/// that every kind of seek is there, and in either version every kind of call that
+/// shows which label is smaller.
 fn read(text: &str) -> Reader {
     let mut reader = Reader::default();
     text.lines().for_each(|line| reader.line(line));
@@ -304,6 +326,9 @@ fn read(text: &str) -> Reader {
                 );
             }
         }
+        for (kind, times) in ORDERS.iter().zip(reader.orders[version as usize]) {
+            assert!(times >= 5, "{kind} in {version}: {times}");
+        }
     }
     for ((kind, _), times) in SEEKS.iter().zip(reader.seeks) {
         assert!(times >= 5, "{kind}: {times}");
@@ -315,7 +340,7 @@ fn read(text: &str) -> Reader {
 /// As many lines as are read again with each buffer watched.
 #[test]
 fn a_short_run_has_every_number_and_kind() {
-    read(&vectors(1500));
+    read(&vectors(2100));
 }
 
 #[test]

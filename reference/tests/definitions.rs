@@ -3,13 +3,16 @@
 
 mod common;
 
-use common::{document, sizes, some_made, some_orders};
+use common::{document, in_version, is_smaller, sizes, some_made, some_orders};
+use reference::arrangements::tells_apart;
 use reference::image::image;
-use reference::lists::{chunks, home, lists, Label, Orders};
+use reference::lists::{chunks, compare, home, lists, Label, Orders};
 use reference::samples::{
-    identity_seed, largest_seed, power_seed, random_seed, seed_with, some_seed, Xorshift, EDGE_KEYS,
+    identity_seed, largest_seed, power_seed, random_seed, seed_with, some_order, some_seed,
+    Xorshift, EDGE_KEYS,
 };
 use reference::sizes::{is_key, Made, Seed, Sizes, P};
+use std::cmp::Ordering;
 
 // ---- the second way --------------------------------------------------------
 
@@ -65,15 +68,31 @@ fn slow_level(made: &Made, key: u32) -> u32 {
     1 + (0..beta).filter(|&j| divides(j)).max().unwrap()
 }
 
-fn slow_home(made: &Made, label: (u32, u32, u32)) -> usize {
+/// Level, first key and chunk number.
+type Parts = (u32, u32, u32);
+
+fn slow_home(made: &Made, label: Parts) -> usize {
     let (level, first_key, chunk_number) = label;
     let g = u128::from(slow_hash(&made.seed.b, first_key));
     let sum = g + 65_536 * u128::from(level) + u128::from(chunk_number);
     (sum % u128::from(P) % u128::from(made.sizes.blocks)) as usize
 }
 
-/// Label and keys of every chunk, in any order.
-fn slow_chunks(made: &Made, orders: &Orders) -> Vec<((u32, u32, u32), Vec<u32>)> {
+/// What labels are sorted by: the level, in version 2 from the highest down (document
+/// 02, A.7), then the two others.
+fn rising(made: &Made, (level, first_key, chunk_number): Parts) -> (i64, u32, u32) {
+    let level = match made.sizes.version {
+        2 => -i64::from(level),
+        _ => i64::from(level),
+    };
+    (level, first_key, chunk_number)
+}
+
+/// Label and keys of a chunk.
+type SlowChunk = (Parts, Vec<u32>);
+
+/// Every chunk, in any order.
+fn slow_chunks(made: &Made, orders: &Orders) -> Vec<SlowChunk> {
     let beta = slow_beta(made.sizes.gamma, made.sizes.orders);
     let list = |k: u32| -> Vec<u32> {
         let keys = std::iter::once(0).chain(orders.keys().copied());
@@ -108,11 +127,11 @@ fn slow_image(made: &Made, orders: &Orders, generator: &mut Xorshift) -> Vec<u8>
     generator.shuffle(&mut chunks);
     let blocks = made.sizes.blocks as usize;
     assert!(chunks.len() <= blocks, "{made:?} {orders:?}");
-    let mut placed = vec![None; blocks];
+    let mut placed: Vec<Option<SlowChunk>> = vec![None; blocks];
     for mut chunk in chunks {
         let mut block = slow_home(made, chunk.0);
         while let Some(other) = placed[block].take() {
-            let (smaller, larger) = if chunk < other {
+            let (smaller, larger) = if rising(made, chunk.0) < rising(made, other.0) {
                 (chunk, other)
             } else {
                 (other, chunk)
@@ -126,9 +145,7 @@ fn slow_image(made: &Made, orders: &Orders, generator: &mut Xorshift) -> Vec<u8>
     slow_bytes(made, orders, &placed)
 }
 
-type Placed = Option<((u32, u32, u32), Vec<u32>)>;
-
-fn slow_bytes(made: &Made, orders: &Orders, placed: &[Placed]) -> Vec<u8> {
+fn slow_bytes(made: &Made, orders: &Orders, placed: &[Option<SlowChunk>]) -> Vec<u8> {
     // Document 02, A.6: nodes of 16 bytes, the last four for the price.
     let version = made.sizes.version;
     let row = if version == 2 { 16 } else { 12 };
@@ -368,6 +385,8 @@ fn levels_of_zero_and_the_front() {
     assert_eq!(made.level(0), 7);
 }
 
+/// "Labels compare by level, then first key, then chunk number"; in version 2 by
+/// "higher level first" (document 02, request A.7).
 #[test]
 fn labels_compare_by_level_then_key_then_chunk() {
     let mut generator = Xorshift::new(12);
@@ -376,14 +395,56 @@ fn labels_compare_by_level_then_key_then_chunk() {
         first_key: generator.pick(&[0, 1, 65_535, 65_536, P - 1, u32::MAX]),
         chunk_number: generator.pick(&[0, 1, 65_535]),
     };
-    let parts = |label: &Label| (label.level, label.first_key, label.chunk_number);
     for _ in 0..20_000 {
         let (one, two) = (label(), label());
-        assert_eq!(one.cmp(&two), parts(&one).cmp(&parts(&two)));
-        assert_eq!(one.rank().cmp(&two.rank()), parts(&one).cmp(&parts(&two)));
+        for version in [1, 2] {
+            let expected = match (is_smaller(version, &one, &two), one == two) {
+                (true, _) => Ordering::Less,
+                (_, true) => Ordering::Equal,
+                _ => Ordering::Greater,
+            };
+            assert_eq!(compare(version, &one, &two), expected, "{one:?} {two:?}");
+        }
+        // The versions differ where the levels do, and only there.
+        let both = [1, 2].map(|version| compare(version, &one, &two));
+        assert_eq!(both[0] == both[1], one.level == two.level);
     }
 }
 
+/// By hand: each label is smaller than the next.
+#[test]
+fn labels_of_each_version_by_hand() {
+    let by_level = [
+        (1, 0, 0),
+        (1, 0, 1),
+        (1, 6, 0),
+        (2, 0, 0),
+        (2, 0, 1),
+        (3, 0, 0),
+    ];
+    let upper_first = [
+        (3, 0, 0),
+        (2, 0, 0),
+        (2, 0, 1),
+        (1, 0, 0),
+        (1, 0, 1),
+        (1, 6, 0),
+    ];
+    for (version, labels) in [(1, by_level), (2, upper_first)] {
+        let labels = labels.map(|(level, first_key, chunk_number)| Label {
+            level,
+            first_key,
+            chunk_number,
+        });
+        for pair in labels.windows(2) {
+            assert_eq!(compare(version, &pair[0], &pair[1]), Ordering::Less);
+            assert_eq!(compare(version, &pair[1], &pair[0]), Ordering::Greater);
+            assert_eq!(compare(version, &pair[0], &pair[0]), Ordering::Equal);
+        }
+    }
+}
+
+/// A home is the same in either version: the level counts in it as it did.
 #[test]
 fn homes() {
     let mut generator = Xorshift::new(13);
@@ -399,19 +460,22 @@ fn homes() {
             generator.below(32_768),
         );
         let (level, first_key, chunk_number) = label;
-        let found = home(
-            &made,
-            &Label {
-                level,
-                first_key,
-                chunk_number,
-            },
-        );
-        assert_eq!(found, slow_home(&made, label), "{made:?} {label:?}");
+        for made in [1, 2].map(|version| in_version(version, made)) {
+            let found = home(
+                &made,
+                &Label {
+                    level,
+                    first_key,
+                    chunk_number,
+                },
+            );
+            assert_eq!(found, slow_home(&made, label), "{made:?} {label:?}");
+        }
     }
 }
 
-/// The chunks are those of the definition and come in rising label order.
+/// The chunks are those of the definition and come in rising label order, which is the
+/// version's.
 #[test]
 fn chunks_by_definition() {
     let mut generator = Xorshift::new(14);
@@ -434,17 +498,18 @@ fn chunks_by_definition() {
             .collect();
         with_second_chunk += u32::from(found.iter().any(|(label, _)| label.2 > 0));
         let mut expected = slow_chunks(&made, &orders);
-        expected.sort();
+        expected.sort_by_key(|(label, _)| rising(&made, *label));
         assert_eq!(found, expected, "{made:?}");
     }
     assert!(with_second_chunk > 200, "{with_second_chunk}");
 }
 
-/// Placing in rising order and ordered probing in any order give equal bytes.
+/// Placing in rising order and ordered probing in any order give equal bytes. In many
+/// tables of either version the other's order would put a chunk elsewhere.
 #[test]
 fn images_by_ordered_probing() {
     let mut generator = Xorshift::new(15);
-    let mut full = 0;
+    let (mut full, mut told_apart) = (0, [0; 3]);
     for _ in 0..1500 {
         let made = some_made(&mut generator);
         let orders = some_orders(&mut generator, &made, 60);
@@ -456,8 +521,12 @@ fn images_by_ordered_probing() {
         );
         let chunks = slow_chunks(&made, &orders).len();
         full += u32::from(chunks == made.sizes.blocks as usize);
+        let version = made.sizes.version as usize;
+        told_apart[version] += u32::from(tells_apart(&made, &orders));
     }
     assert!(full > 50, "{full} tables were full");
+    let [_, first, second] = told_apart;
+    assert!(first > 200 && second > 200, "{first} {second}");
 }
 
 /// A larger table, to see chunk numbers and keys of several bytes.
@@ -468,15 +537,14 @@ fn large_images() {
         a: [1, 0, 0, 0, 0],
         ..random_seed(&mut generator)
     };
-    for seed in [random_seed(&mut generator), all_level_1] {
-        let made = Made {
-            sizes: sizes(64, 2, 700, 800),
-            seed,
-        };
+    let seeds = [random_seed(&mut generator), all_level_1];
+    for (version, seed) in [1, 2].into_iter().flat_map(|v| seeds.map(|seed| (v, seed))) {
+        let sizes = sizes(64, 2, 700, 800);
+        let made = in_version(version, Made { sizes, seed });
         let mut orders = Orders::new();
         for _ in 0..700 {
             let key = generator.within(1, P - 1);
-            orders.insert(key, common::order(key, key / 2));
+            orders.insert(key, some_order(&mut generator, version));
         }
         let table = image(&made, &orders).unwrap();
         assert_eq!(table, slow_image(&made, &orders, &mut generator));

@@ -61,21 +61,22 @@ fn unhex(text: &str) -> Vec<u8> {
 // ---- bytes -----------------------------------------------------------------
 
 /// The document's run in version 2, byte for byte, written by hand. 213 bytes are
-/// 53 + 4·(8 + 16·2).
+/// 53 + 4·(8 + 16·2). Levels 3, 2 and 1 of the front and then key 6 stand in blocks 0
+/// to 3 (request A.7; label_order.rs works that out).
 #[test]
 fn bytes_of_the_full_run() {
     let header = "02 000000d5 02 02 0002 0004 0002 \
         00000000 00000001 00000000 00000000 00000000 \
         00000000 00000001 00000000 00000000 00000000";
     let blocks = [
-        "01 02 0000 00000000",
-        "00000000 00000000 00000000 00000000  00000003 00000064 00000014 01020304",
-        "02 02 0000 00000000",
-        "00000000 00000000 00000000 00000000  00000006 00000000 00000000 00000000",
-        "01 01 0000 00000006",
-        "00000006 00000032 00000032 00000007  00000000 00000000 00000000 00000000",
         "03 01 0000 00000000",
         "00000000 00000000 00000000 00000000  00000000 00000000 00000000 00000000",
+        "02 02 0000 00000000",
+        "00000000 00000000 00000000 00000000  00000006 00000000 00000000 00000000",
+        "01 02 0000 00000000",
+        "00000000 00000000 00000000 00000000  00000003 00000064 00000014 01020304",
+        "01 01 0000 00000006",
+        "00000006 00000032 00000032 00000007  00000000 00000000 00000000 00000000",
     ];
     let expected = unhex(&[header, &blocks.concat()].concat());
     assert_eq!(full_table_2(), expected);
@@ -83,7 +84,8 @@ fn bytes_of_the_full_run() {
 }
 
 /// A block of each version with the same two orders: key, total, displayed, and in
-/// version 2 price.
+/// version 2 price. With three levels and no key above level 1 it is block 0 in version
+/// 1 and block 2 in version 2.
 #[test]
 fn a_block_of_each_version() {
     let first = "01 03 0000 00000000 \
@@ -96,14 +98,20 @@ fn a_block_of_each_version() {
         00000003 00000007 00000000 00000001";
     let unpriced = [(1, order(9, 8)), (3, order(7, 0))];
     let priced = [(1, priced(9, 8, u32::MAX)), (3, priced(7, 0, 1))];
-    for (version, expected, orders) in [(1, first, unpriced), (2, second, priced)] {
+    for (version, expected, number, orders) in [(1, first, 0, unpriced), (2, second, 2, priced)] {
         let made = in_version(version, of_nodes(3));
         let table = image(&made, &orders.into()).expect("they fit");
         let block = unhex(expected);
         assert_eq!(made.sizes.block_length(), block.len());
-        assert_eq!(table[HEADER..HEADER + block.len()], block);
+        assert_eq!(blocks_of(&made, &table)[number], block);
         assert_eq!(table[0], version as u8);
     }
+}
+
+/// The bytes of each block.
+fn blocks_of(made: &Made, table: &[u8]) -> Vec<Vec<u8>> {
+    let blocks = table[HEADER..].chunks(made.sizes.block_length());
+    blocks.map(<[u8]>::to_vec).collect()
 }
 
 /// The document's seed with so many nodes in a block.
@@ -114,37 +122,51 @@ fn of_nodes(nodes: u32) -> Made {
     }
 }
 
-/// "Version 1 tables live on": levels, labels, homes and places are those of version
-/// 1, so a table of version 2 without its prices is the one of version 1.
+/// A block of version 2 without its prices.
+fn unpriced(block: &[u8]) -> Vec<u8> {
+    let mut narrow = block[..BLOCK_HEAD].to_vec();
+    for node in block[BLOCK_HEAD..].chunks(16) {
+        narrow.extend(&node[..12]);
+    }
+    narrow
+}
+
+/// Levels, labels and homes are those of version 1, so the blocks of a version 2 table
+/// without their prices are those of version 1. Which block each has, the labels' order
+/// decides (request A.7): often it is not the same.
 #[test]
-fn without_its_prices_it_is_version_1() {
+fn without_its_prices_it_has_the_chunks_of_version_1() {
     let mut generator = Xorshift::new(61);
-    let mut priced_orders = 0;
+    let (mut prices, mut same, mut moved) = (0, 0, 0);
     for _ in 0..800 {
         let made = in_version(2, some_made(&mut generator));
         let orders = some_orders(&mut generator, &made, 60);
         let table = image(&made, &orders).expect("they fit");
         let first = in_version(1, made);
-        let unpriced = orders
+        let without = orders
             .iter()
             .map(|(&key, o)| (key, order(o.total, o.displayed)));
-        let expected = image(&first, &unpriced.collect()).expect("as many chunks");
-        let mut found = expected[..5].to_vec();
-        found.extend(&table[5..HEADER]);
-        for block in table[HEADER..].chunks(made.sizes.block_length()) {
-            found.extend(&block[..BLOCK_HEAD]);
-            for node in block[BLOCK_HEAD..].chunks(16) {
-                found.extend(&node[..12]);
-                priced_orders += usize::from(node[12..] != [0; 4]);
-            }
-        }
+        let expected = image(&first, &without.collect()).expect("as many chunks");
+        assert_eq!(table[5..HEADER], expected[5..HEADER], "{made:?}");
+        let blocks = blocks_of(&made, &table);
+        let nodes = blocks
+            .iter()
+            .flat_map(|block| block[BLOCK_HEAD..].chunks(16));
+        prices += nodes.filter(|node| node[12..] != [0; 4]).count();
+        prices -= orders.len();
+        let mut found: Vec<_> = blocks.iter().map(|block| unpriced(block)).collect();
+        let mut expected = blocks_of(&first, &expected);
+        *if found == expected {
+            &mut same
+        } else {
+            &mut moved
+        } += 1;
+        found.sort();
+        expected.sort();
         assert_eq!(found, expected, "{made:?} {orders:?}");
-        priced_orders -= orders.len();
     }
-    assert_eq!(
-        priced_orders, 0,
-        "each order's price stands once, and no other"
-    );
+    assert_eq!(prices, 0, "each order's price stands once, and no other");
+    assert!(same > 50 && moved > 200, "{same} {moved}");
 }
 
 // ---- make ------------------------------------------------------------------
@@ -257,9 +279,15 @@ fn readings_give_the_price() {
         price: 0x0102_0304,
         count: 0,
     };
-    for (table, three, six) in [
-        (full_table_2(), three, Reply::order(6, &SIX)),
-        (full_table(), Reply { price: 0, ..three }, found(6, 50, 50)),
+    let first = Reply { price: 0, ..three };
+    for (table, three, six, way) in [
+        (
+            full_table_2(),
+            three,
+            Reply::order(6, &SIX),
+            [0, 0, 0, 1, 0, 2, 9],
+        ),
+        (full_table(), first, found(6, 50, 50), [0, 3, 0, 1, 0, 0, 9]),
     ] {
         assert_eq!(lookup(&table, 3), three);
         assert_eq!(seek(&table, 1, P - 1, 80), three);
@@ -267,7 +295,7 @@ fn readings_give_the_price() {
         let mut path = [9; 7];
         let by_descent = Reply { count: 3, ..three };
         assert_eq!(descent(&table, 3, &mut path), Some(by_descent));
-        assert_eq!(path, [0, 3, 0, 1, 0, 0, 9]);
+        assert_eq!(path, way);
         let nine = Reply {
             count: 3,
             ..Reply::refused(9)
@@ -335,11 +363,11 @@ fn prices_where_none_may_be() {
     let [block_0, block_1, block_2, block_3] = BLOCK;
     for byte in 0..4 {
         for (what, place) in [
-            ("of the front in level 1", block_0 + FIRST_PRICE),
+            ("of the front in level 1", block_2 + FIRST_PRICE),
             ("of the front in level 2", block_1 + FIRST_PRICE),
-            ("of the front in level 3", block_3 + FIRST_PRICE),
+            ("of the front in level 3", block_0 + FIRST_PRICE),
             ("of key 6 in level 2", block_1 + SECOND_PRICE),
-            ("of an unused node", block_2 + SECOND_PRICE),
+            ("of an unused node", block_0 + SECOND_PRICE),
             ("of an unused node", block_3 + SECOND_PRICE),
         ] {
             for value in [1, 0x80, 0xff] {
@@ -350,7 +378,7 @@ fn prices_where_none_may_be() {
             }
         }
     }
-    for price in [block_0 + SECOND_PRICE, block_2 + FIRST_PRICE] {
+    for price in [block_2 + SECOND_PRICE, block_3 + FIRST_PRICE] {
         assert!(!judged(&with(&table, price, &[0; 4])), "price 0");
         for other in [[0, 0, 0, 1], [0xff; 4], [1, 0, 0, 0]] {
             assert!(judged(&with(&table, price, &other)), "another price");
@@ -359,7 +387,9 @@ fn prices_where_none_may_be() {
 }
 
 /// The version byte alone asks for another length. With the B that leaves blocks as
-/// long as they are rule 1 holds, and the nodes are read otherwise: 4·12 is 3·16.
+/// long as they are rule 1 holds, and the nodes are read otherwise: 4·12 is 3·16. Blocks
+/// that hold the front alone are the same in both, and stand in the same places if no
+/// two of them have one home (request A.7).
 #[test]
 fn another_version() {
     for table in [full_table(), full_table_2()] {
@@ -367,28 +397,34 @@ fn another_version() {
             assert!(!judged(&with(&table, 0, &[version])));
         }
     }
-    for (made, version, nodes) in [
-        (in_version(1, of_nodes(4)), 2, 3),
-        (in_version(2, of_nodes(3)), 1, 4),
-    ] {
-        let changed = |table: &[u8]| with(&with(table, 0, &[version]), 6, &[nodes]);
-        // Blocks that hold the front alone are the same in both.
-        let empty = made_table(&made);
-        assert!(judged(&changed(&empty)));
-        let mut table = empty;
-        let price = u32::from(made.sizes.version == 2);
-        assert_eq!(enter(&mut table, 3, priced(9, 9, price)), Reply::done());
-        assert!(judged(&table));
-        assert!(!judged(&changed(&table)));
-        assert_eq!(refused(&changed(&table), |t| cancel(t, 3)), 4);
-        let mut path = [9; 8];
-        assert_eq!(descent(&changed(&table), 3, &mut path), None);
-        assert_eq!(
-            descent(&changed(&table), 0, &mut path),
-            Some(Reply::refused(5))
-        );
+    for (blocks, is_alike) in [(4, false), (7, true)] {
+        for (version, nodes, other_nodes) in [(1, 4, 3), (2, 3, 4)] {
+            let made = in_version(version, of_nodes(nodes));
+            let sizes = Sizes {
+                blocks,
+                ..made.sizes
+            };
+            let other = 3 - version as u8;
+            let changed = |table: &[u8]| with(&with(table, 0, &[other]), 6, &[other_nodes]);
+            let mut table = made_table(&Made { sizes, ..made });
+            // 65,536 mod 4 is 0; mod 7 it is 2, so that the homes are 2, 4 and 6.
+            assert_eq!(judged(&changed(&table)), is_alike);
+            let order = priced(9, 9, u32::from(version == 2));
+            assert_eq!(enter(&mut table, 3, order), Reply::done());
+            assert!(judged(&table));
+            assert!(!judged(&changed(&table)));
+            assert_eq!(refused(&changed(&table), |t| cancel(t, 3)), 4);
+            let mut path = [9; 8];
+            assert_eq!(descent(&changed(&table), 3, &mut path), None);
+            let five = descent(&changed(&table), 0, &mut path);
+            assert_eq!(five, Some(Reply::refused(5)));
+        }
     }
 }
+
+/// The block of the run's table of version 1 that has the chunk of this block in version
+/// 2.
+const IN_VERSION_1: [usize; 4] = [3, 1, 0, 2];
 
 /// The place in a table of version 1 of what stands at this one in the run's table of
 /// version 2; None for a price.
@@ -397,26 +433,40 @@ fn place_in_version_1(place: usize) -> Option<usize> {
         return Some(place);
     }
     let (block, place) = ((place - HEADER) / 40, (place - HEADER) % 40);
+    let block = HEADER + 32 * IN_VERSION_1[block];
     let (node, byte) = match place.checked_sub(BLOCK_HEAD) {
-        None => return Some(HEADER + 32 * block + place),
+        None => return Some(block + place),
         Some(place) => (place / 16, place % 16),
     };
-    (byte < 12).then_some(HEADER + 32 * block + BLOCK_HEAD + 12 * node + byte)
+    (byte < 12).then_some(block + BLOCK_HEAD + 12 * node + byte)
+}
+
+/// Whether the run's table of version 2 is one with this byte of b0..b4 changed. b0 is
+/// g(0): level 3 stands in block 0 if its home is 0, and level 2 and level 1 of the
+/// front behind it if theirs are, for which 4 must divide b0. The chunk of 6 takes the
+/// last block, whatever its home is, so that the others may be any number below p.
+fn is_g(place: usize, value: u8) -> bool {
+    match place {
+        33 | 37 | 41 | 45 | 49 => value < 0x80,
+        36 => value % 4 == 0,
+        _ => true,
+    }
 }
 
 /// Every byte of the run's table of version 2 to every value. Behind version and
-/// length what remains an image is what does in version 1, which damage.rs tells by
-/// hand, and every other price but 0.
+/// length, and but for g, what remains an image is what does in version 1, which
+/// damage.rs tells by hand, and every other price but 0.
 #[test]
 fn every_byte_to_every_value() {
     let (first, table) = (full_table(), full_table_2());
-    let orders = [BLOCK[0] + SECOND_PRICE, BLOCK[2] + FIRST_PRICE];
+    let orders = [BLOCK[2] + SECOND_PRICE, BLOCK[3] + FIRST_PRICE];
     let mut prices = 0;
     for place in 0..table.len() {
         for value in (0..=255).filter(|&value| value != table[place]) {
             let changed = with(&table, place, &[value]);
             let expected = match place_in_version_1(place) {
                 Some(0..=4) => false,
+                Some(33..=52) => is_g(place, value),
                 Some(same) => is_image(&with(&first, same, &[value])),
                 None => orders.into_iter().any(|price| {
                     (price..price + 4).contains(&place) && changed[price..price + 4] != [0; 4]
@@ -547,7 +597,8 @@ fn an_older_reader_knows_version_1_alone() {
     }
 }
 
-/// Version 2 bytes that differ from a table of version 1 as little as can be.
+/// Version 2 bytes that differ from a table of version 1 as little as can be: no two
+/// levels have one home, since 65,536 times 1 to 5 is 16, 32, 8, 24 and 0 mod 40.
 #[test]
 fn an_older_reader_and_blocks_of_the_same_length() {
     let mut generator = Xorshift::new(63);

@@ -82,8 +82,16 @@ static size_t make_step(uint8_t *to) {
     return n;
 }
 
-/* Version, sizes, a kind of seed, then calls: many enters of any keys, amends of held ones, a few enters of held keys and amends of any, some that
- * are mostly refused, seeks, other makes, then any. */
+/* The table by the other version's order, all chunks or two neighbours; or the same orders in the other version, at some price. */
+static size_t order_of_labels_step(uint8_t *to, int rows) {
+    to[0] = rows ? 128 + 14 : 128 + 15;
+    to[1] = (uint8_t)draw();
+    to[2] = (uint8_t)(rows ? draw() % 240 : draw());
+    return 3;
+}
+
+/* Version, sizes, a kind of seed, then calls: many enters of any keys, chunks in other places, amends of held keys, a few enters of held keys and amends of
+ * any, some that are mostly refused, seeks, other makes, then any. */
 static void calls(uint32_t version, uint8_t gamma, uint8_t nodes, uint8_t orders, uint8_t more, uint8_t seed) {
     enum { ENTER_HELD = 0, ENTER_ANY = 16, AMEND_ANY = 4, AMEND_HELD = 20 };
     static const uint8_t seed_bytes[] = {0, 0, 8, 36, 40, 4, 4, 4}; /* what each kind of seed reads */
@@ -98,6 +106,7 @@ static void calls(uint32_t version, uint8_t gamma, uint8_t nodes, uint8_t orders
     for (int i = 0; i < seed_bytes[seed % 8]; i++) bytes[n++] = (uint8_t)draw();
     bytes[n++] = (uint8_t)draw(); /* how make's buffers are lent */
     for (int i = 0; i < orders + 4; i++) n += order_step(bytes + n, ENTER_ANY);
+    for (int i = 0; i < 12; i++) n += order_of_labels_step(bytes + n, i % 4 == 0);
     for (int i = 0; i < orders / 2 + 2; i++) n += order_step(bytes + n, AMEND_HELD);
     for (int i = 0; i < 4; i++) n += order_step(bytes + n, i % 2 ? ENTER_HELD : AMEND_ANY);
     for (int i = 0; i < 16; i++) n += refused_step(bytes + n, i % 4 == 0 ? ENTER_HELD : i % 4 == 1 ? ENTER_ANY : i % 4 == 2 ? AMEND_ANY : AMEND_HELD);

@@ -8,8 +8,10 @@
  *   - a seek gives the lowest order of its range that has the reserve, asked again too;
  *   - after an edit the check answers 0, lookup and span give what the model holds, and each node has its numbers: those of its order at level 1,
  *     else the key alone;
+ *   - in a table each chunk stands behind smaller labels alone, by its version's order: from its home to its block there is nothing else. Chunks where
+ *     the other version's order puts them, or two neighbours exchanged, are no table;
  *   - a version 2 table with another price in one node is that of the order with this price, and no table where an order would have price 0 or
- *     anything else a price; the blocks of a table, with nodes of the other version, are a table of that version;
+ *     anything else a price; the blocks of a table, with nodes of the other version and placed by its order, are a table of that version;
  *   - the same orders entered into a new table in another order, some of them amended later, give the same bytes;
  *   - bytes that the check accepts are those that make and enters of their own orders give; on others every call but descent answers 4; under
  *     another version no table is one;
@@ -21,14 +23,15 @@
  * The archive is compiled from proved code and carries no coverage counters, so libFuzzer would see only this file. The counters that it also
  * reads (section __libfuzzer_extra_counters) are fed from outside: which call answered which number, which questions of an enter or amend had
  * a no at once, and what each edit left: levels, full and part-filled blocks, how far a chunk stands from its home, chains that go round, chunk
- * numbers; all of it for each version. So an input that brings a table into a new shape is kept, though no new line of this file ran. */
+ * numbers, how many chunks the other version's order would have elsewhere; all of it for each version. So an input that brings a table into a new shape
+ * is kept, though no new line of this file ran. */
 #define _GNU_SOURCE
 #include "balluchaw.h"
 #include "../c/zone.h"
 
 #define P 2147483647u
 
-enum { FIRST_RAW = 192, MOST_ORDERS = 48, MOST_STEPS = 140, LONGEST_RAW = 1 << 16 };
+enum { FIRST_RAW = 192, MOST_ORDERS = 48, MOST_STEPS = 152, LONGEST_RAW = 1 << 16 };
 enum { MAKE, CHECK, ENTER, AMEND, CANCEL, LOOKUP, SPAN, SEEK, DESCENT };
 enum { TABLE, SEED, OUTPUT };
 
@@ -50,7 +53,13 @@ static void feature_of(uint32_t version, size_t f) { feature(f + (version == 2 ?
 
 static unsigned long archive_calls;
 
-static void tell(void) { fprintf(stderr, "fuzz: %lu calls\n", archive_calls); }
+/* By version: tables that the other version's order has otherwise; such tables as that order has them; and with two neighbours exchanged. */
+static unsigned long told_apart[3], by_other_order[3], exchanged[3];
+
+static void tell(void) {
+    fprintf(stderr, "fuzz: %lu calls\n", archive_calls);
+    for (int v = 1; v <= 2; v++) fprintf(stderr, "fuzz: version %d: orders %lu %lu %lu\n", v, told_apart[v], by_other_order[v], exchanged[v]);
+}
 
 int LLVMFuzzerInitialize(int *count, char ***words);
 int LLVMFuzzerInitialize(int *count, char ***words) {
@@ -285,6 +294,41 @@ typedef struct {
 /* What the first byte says, which tells nothing where the bytes are no table; 0 where there is none. */
 static uint32_t version_of(const table *t) { return t->length ? t->bytes[0] : 0; }
 
+static uint8_t *block_in(const table *t, uint32_t number) { return t->bytes + 53 + number * width_of(version_of(t), t->bytes[6]); }
+
+static uint32_t blocks_of(const table *t) { return short_at(t->bytes + 9); }
+
+static label label_of(const uint8_t *block) { return (label){block[0], short_at(block + 2), number_at(block + 4)}; }
+
+/* By level, in version 2 the higher one first; then by first key, then by chunk number. */
+static int is_smaller(uint32_t version, label a, label b) {
+    if (a.level != b.level) return version == 1 ? a.level < b.level : a.level > b.level;
+    return a.first != b.first ? a.first < b.first : a.chunk < b.chunk;
+}
+
+static uint32_t home_of(const table *t, label l) {
+    uint32_t b[5];
+    for (int i = 0; i < 5; i++) b[i] = number_at(t->bytes + 33 + 4 * i);
+    return (uint32_t)((hash(b, l.first) + 65536 * (uint64_t)l.level + l.chunk) % P % blocks_of(t));
+}
+
+/* Whether each block from a chunk's home to just before its own holds a label that is smaller by the order of this version. */
+static int is_placed(const table *t, uint32_t version, uint32_t number) {
+    label own = label_of(block_in(t, number));
+    for (uint32_t i = home_of(t, own); i != number; i = (i + 1) % blocks_of(t)) {
+        label passed = label_of(block_in(t, i));
+        if (passed.level == 0 || !is_smaller(version, passed, own)) return 0;
+    }
+    return 1;
+}
+
+/* How many chunks do not. */
+static uint32_t misplaced(const table *t, uint32_t version) {
+    uint32_t count = 0;
+    for (uint32_t i = 0; i < blocks_of(t); i++) count += block_in(t, i)[0] != 0 && !is_placed(t, version, i);
+    return count;
+}
+
 /* The nodes that a block counts, number by number. */
 static void contents(const model *m, const uint8_t *block) {
     size_t row = row_of(m->version);
@@ -299,15 +343,22 @@ static void contents(const model *m, const uint8_t *block) {
     }
 }
 
+/* In a table each chunk stands; by the other version's order maybe not. */
+static void placed(const table *t) {
+    uint32_t version = version_of(t), others = misplaced(t, 3 - version);
+    must(misplaced(t, version) == 0, "each chunk stands behind smaller labels alone");
+    told_apart[version] += others != 0;
+    feature_of(version, 3800 + (others < 63 ? others : 63));
+}
+
 static void shape(const model *m, const table *t) {
-    size_t width = width_of(m->version, m->nodes);
     uint32_t filled = 0, farthest = 0, round = 0;
+    placed(t);
     for (uint32_t i = 0; i < m->blocks; i++) {
-        const uint8_t *b = t->bytes + 53 + i * width;
+        const uint8_t *b = block_in(t, i);
         if (b[0] == 0) continue;
         filled++;
-        uint32_t chunk = (uint32_t)b[2] << 8 | b[3];
-        uint32_t home = (uint32_t)(((uint64_t)hash(m->b, number_at(b + 4)) + 65536u * b[0] + chunk) % P % m->blocks);
+        uint32_t chunk = short_at(b + 2), home = home_of(t, label_of(b));
         uint32_t far = i >= home ? i - home : m->blocks - home + i;
         round |= i < home;
         if (far > farthest) farthest = far;
@@ -410,9 +461,8 @@ static balluchaw_reply descend(table *t, uint32_t key, size_t room, unsigned how
 }
 
 static const uint8_t *block_at(const table *t, uint32_t number) {
-    uint32_t nodes = t->bytes[6], blocks = short_at(t->bytes + 9);
-    must(number < blocks, "a path's numbers are those of blocks");
-    return t->bytes + 53 + number * width_of(version_of(t), nodes);
+    must(number < blocks_of(t), "a path's numbers are those of blocks");
+    return block_in(t, number);
 }
 
 static void descent(const model *m, table *t, uint32_t key, size_t room, unsigned how) {
@@ -627,6 +677,7 @@ static void foreign(table *t, unsigned how) {
         return;
     }
     must(has_header(t), "a table has a header, of version 1 or 2");
+    placed(t);
     static model m;
     m = (model){.version = t->bytes[0], .gamma = t->bytes[5], .nodes = t->bytes[6]};
     m.orders = (uint32_t)t->bytes[7] << 8 | t->bytes[8];
@@ -815,8 +866,46 @@ static table rewritten(const model *m, const table *t, uint32_t version, uint32_
     return other;
 }
 
-/* Where the blocks stand does not depend on the version: a table with rows of the other one is a table of that version, if its orders have prices
- * there. */
+/* Labels by the order that is sorted by just now. */
+static uint32_t sorting;
+
+static int by_label(const void *a, const void *b) {
+    label one = label_of(*(uint8_t *const *)a), two = label_of(*(uint8_t *const *)b);
+    return is_smaller(sorting, two, one) - is_smaller(sorting, one, two);
+}
+
+/* Places the chunks of a table, or whatever stands in its blocks, by rising label of a version's order, each at the first free block from its home. */
+static void arrange(table *t, uint32_t version) {
+    size_t width = width_of(version_of(t), t->bytes[6]), size = blocks_of(t) * width;
+    uint8_t *all = malloc(size), **used = malloc(blocks_of(t) * sizeof *used);
+    must(all != NULL && used != NULL, "no memory");
+    memcpy(all, t->bytes + 53, size);
+    memset(t->bytes + 53, 0, size);
+    uint32_t count = 0;
+    for (uint8_t *block = all; block < all + size; block += width)
+        if (block[0]) used[count++] = block;
+    sorting = version;
+    qsort(used, count, sizeof *used, by_label);
+    for (uint32_t i = 0; i < count; i++) {
+        uint32_t at = home_of(t, label_of(used[i]));
+        while (block_in(t, at)[0]) at = (at + 1) % blocks_of(t);
+        memcpy(block_in(t, at), used[i], width);
+    }
+    free(used);
+    free(all);
+}
+
+/* All orders of a table that nobody has edited, and one of them by itself. */
+static void read_again(const model *m, table *t, unsigned how) {
+    span(m, t, 1, P - 1, row_of(m->version) * m->n, how + 2);
+    if (m->n == 0) return;
+    uint32_t key = m->held[how % m->n].key;
+    lookup(m, t, key, how + 1);
+    descent(m, t, key, 2 * LONGEST_WAY, how + 3);
+}
+
+/* A table with rows of the other version is a table of that version if its chunks stand by the order of that one, and if its orders have prices there.
+ * Placed by that order they stand. */
 static void other_rows(const model *m, const table *t, unsigned how) {
     uint32_t b = byte(), price = b < 64 ? 0 : b < 240 ? b : word(), version = 3 - m->version;
     static model as;
@@ -824,11 +913,34 @@ static void other_rows(const model *m, const table *t, unsigned how) {
     as.version = version;
     for (uint32_t i = 0; i < as.n; i++) as.held[i].price = version == 1 ? 0 : price;
     table other = rewritten(m, t, version, price);
-    int right = version == 1 || price || m->n == 0;
-    must(check(&other, how) == (right ? 0 : 4), "a table with the rows of the other version is one, if its orders have prices");
-    if (!right) refused(&other, how);
-    else if (m->n) lookup(&as, &other, as.held[how % m->n].key, how + 1);
-    if (right) span(&as, &other, 1, P - 1, row_of(version) * m->n, how + 2);
+    int right = version == 1 || price || m->n == 0, stand = misplaced(&other, version) == 0;
+    must(check(&other, how) == (right && stand ? 0 : 4), "a table with the rows of the other version is one if its chunks stand by that one's order");
+    if (!right || !stand) refused(&other, how);
+    arrange(&other, version);
+    must(check(&other, how) == (right ? 0 : 4), "a table with the rows of the other version, placed by its order, is one, if its orders have prices");
+    if (right) read_again(&as, &other, how);
+    else refused(&other, how);
+    free(other.bytes);
+}
+
+/* The table as the other version's order has it; or with two neighbours exchanged of which the second, of another level, passes the first: that order has
+ * them so. */
+static void other_order(const table *t, unsigned how) {
+    table other = copy_of(t);
+    uint32_t version = version_of(t), i = byte() % (blocks_of(t) - 1);
+    size_t width = width_of(version, t->bytes[6]);
+    const uint8_t *one = block_in(t, i), *two = one + width;
+    int exchange = how & 32 && one[0] && two[0] && one[0] != two[0] && home_of(t, label_of(two)) != i + 1;
+    if (exchange) {
+        memcpy(block_in(&other, i), two, width);
+        memcpy(block_in(&other, i + 1), one, width);
+    } else {
+        arrange(&other, 3 - version);
+    }
+    int same = memcmp(other.bytes, t->bytes, t->length) == 0;
+    (exchange ? exchanged : by_other_order)[version] += !same;
+    must(check(&other, how) == (same ? 0 : 4), "chunks as the other version's order has them are no table");
+    if (!same) refused(&other, how);
     free(other.bytes);
 }
 
@@ -922,7 +1034,9 @@ static void step(model *m, table *t) {
         else if (m->version == 2 && kind & 64) other_price(m, t, how);
         else other_bytes(m, t, 0, how);
         return;
-    default: other_bytes(m, t, 1, how);
+    default:
+        if (kind & 128) other_order(t, how);
+        else other_bytes(m, t, 1, how);
     }
 }
 
@@ -949,8 +1063,6 @@ static void calls(uint32_t version) {
     free(t.bytes);
 }
 
-static uint64_t rank(const uint8_t *block) { return (uint64_t)block[0] << 48 | (uint64_t)number_at(block + 4) << 16 | short_at(block + 2); }
-
 /* A block with few levels, first keys, chunk numbers and keys, so that some lead to others. A great count stays. */
 static void narrow(uint8_t *b, size_t row, uint32_t nodes, uint32_t beta) {
     b[0] = (uint8_t)(1 + b[0] % beta);
@@ -961,34 +1073,18 @@ static void narrow(uint8_t *b, size_t row, uint32_t nodes, uint32_t beta) {
     for (uint32_t i = 0; i < nodes; i++) write_number(b + 8 + row * i, b[11 + row * i] % 8);
 }
 
-/* Chunks of no lists, each where a search for its label finds it: by rising label, at the first free block from its home. */
+/* Chunks of no lists, each where a search for its label finds it; two blocks stay empty. */
 static void made_up(table *t) {
     uint8_t *b = t->bytes;
     b[5] = (uint8_t)(2 + b[5] % 7);
     b[7] = b[11] = 0;
     b[8] = (uint8_t)(1 + b[8] % 32);
     b[12] = (uint8_t)(b[12] % (b[8] + 1));
-    uint32_t nodes = b[6], blocks = short_at(b + 9), beta = beta_of(b[5], b[8]), seed[5];
-    size_t width = width_of(b[0], nodes);
+    uint32_t nodes = b[6], blocks = blocks_of(t), beta = beta_of(b[5], b[8]);
     if (blocks < beta || blocks > 64) return;
-    for (int i = 0; i < 5; i++) seed[i] = number_at(b + 33 + 4 * i);
-    uint8_t *all = malloc(blocks * width), taken[64] = {0};
-    must(all != NULL, "no memory");
-    memcpy(all, b + 53, blocks * width);
-    memset(b + 53, 0, blocks * width);
-    for (uint32_t i = 0; i < blocks; i++) narrow(all + i * width, row_of(b[0]), nodes, beta);
-    for (uint32_t round = 0; round + 2 < blocks; round++) {
-        uint32_t least = 0;
-        while (taken[least]) least++;
-        for (uint32_t i = least; i < blocks; i++)
-            if (!taken[i] && rank(all + i * width) < rank(all + least * width)) least = i;
-        const uint8_t *one = all + least * width;
-        uint64_t at = (hash(seed, number_at(one + 4)) + 65536u * (uint64_t)one[0] + one[3]) % P % blocks;
-        while (b[53 + at * width]) at = (at + 1) % blocks;
-        memcpy(b + 53 + at * width, one, width);
-        taken[least] = 1;
-    }
-    free(all);
+    for (uint32_t i = 0; i < blocks; i++) narrow(block_in(t, i), row_of(b[0]), nodes, beta);
+    memset(block_in(t, blocks - 2), 0, 2 * width_of(b[0], nodes));
+    arrange(t, b[0]);
 }
 
 /* The first byte's lowest bit asks for a header that agrees with the length, so that more inputs come past rule 1; the next asks for blocks

@@ -99,11 +99,137 @@ static void put_prices(uint8_t *table, size_t length) {
     free(plain);
 }
 
+/* ---- other orders of the labels ---- */
+
+typedef struct {
+    uint32_t level, chunk, first;
+} label;
+
+static uint32_t short_at(const uint8_t *p) { return (uint32_t)p[0] << 8 | p[1]; }
+
+static label label_of(const uint8_t *block) { return (label){block[0], short_at(block + 2), number_at(block + 4)}; }
+
+static uint32_t levels_of(const uint8_t *table) {
+    uint32_t levels = 2;
+    for (uint64_t power = 1; power < short_at(table + 7); power *= table[5]) levels++;
+    return levels;
+}
+
+/* Whether one label is smaller than another in a table of this version with so many levels. */
+typedef int order_of_labels(uint32_t version, uint32_t levels, label one, label two);
+
+static int smaller_key(label one, label two) { return one.first != two.first ? one.first < two.first : one.chunk < two.chunk; }
+
+static int as_first(uint32_t version, uint32_t levels, label one, label two) {
+    (void)version, (void)levels;
+    return one.level != two.level ? one.level < two.level : smaller_key(one, two);
+}
+
+static int as_second(uint32_t version, uint32_t levels, label one, label two) {
+    (void)version, (void)levels;
+    return one.level != two.level ? one.level > two.level : smaller_key(one, two);
+}
+
+static int right_order(uint32_t version, uint32_t levels, label one, label two) { return (version == 1 ? as_first : as_second)(version, levels, one, two); }
+
+static int other_order(uint32_t version, uint32_t levels, label one, label two) { return (version == 1 ? as_second : as_first)(version, levels, one, two); }
+
+/* The top first in version 2, the other levels rising. */
+static int top_alone(uint32_t version, uint32_t levels, label one, label two) {
+    if (version == 2 && (one.level == levels) != (two.level == levels)) return one.level == levels;
+    return as_first(version, levels, one, two);
+}
+
+static int keys_falling(uint32_t version, uint32_t levels, label one, label two) {
+    if (one.level != two.level || one.first == two.first) return right_order(version, levels, one, two);
+    return one.first > two.first;
+}
+
+static int chunks_falling(uint32_t version, uint32_t levels, label one, label two) {
+    if (one.level != two.level || one.first != two.first) return right_order(version, levels, one, two);
+    return one.chunk > two.chunk;
+}
+
+static int chunk_before_key(uint32_t version, uint32_t levels, label one, label two) {
+    if (one.level != two.level || one.chunk == two.chunk) return right_order(version, levels, one, two);
+    return one.chunk < two.chunk;
+}
+
+/* Faults 70 to 75: archives that place and look for chunks by these, in every call alike. */
+static order_of_labels *const other_orders[] = {as_first, as_second, top_alone, keys_falling, chunks_falling, chunk_before_key};
+
+static order_of_labels *planted_order(void) {
+    for (int i = 0; i < 6; i++)
+        if (fault(70 + i)) return other_orders[i];
+    return NULL;
+}
+
+/* Whether the bytes have a header of sizes that may be, so that there are blocks to go through. */
+static int has_blocks(const uint8_t *table, size_t length) {
+    if (length < 53 || table[0] < 1 || table[0] > 2 || table[5] < 2 || table[6] < 2 || table[6] > 32 || short_at(table + 9) == 0) return 0;
+    return length == 53 + short_at(table + 9) * width_of(table);
+}
+
+static uint32_t home_of(const uint8_t *table, label l) {
+    uint64_t sum = 0;
+    for (int i = 4; i >= 0; i--) sum = (sum * l.first + number_at(table + 33 + 4 * i)) % 2147483647;
+    return (uint32_t)((sum + 65536 * (uint64_t)l.level + l.chunk) % 2147483647 % short_at(table + 9));
+}
+
+/* Places whatever stands in the blocks anew by an order: the smallest that is left, at the first free block from its home. */
+static void arrange(uint8_t *table, size_t length, order_of_labels *is_smaller) {
+    if (!has_blocks(table, length)) return;
+    uint32_t blocks = short_at(table + 9), levels = levels_of(table);
+    size_t width = width_of(table);
+    uint8_t *all = copy_of(table + 53, length - 53);
+    memset(table + 53, 0, length - 53);
+    for (;;) {
+        uint8_t *least = NULL;
+        for (uint8_t *block = all; block < all + length - 53; block += width)
+            if (block[0] && (!least || is_smaller(table[0], levels, label_of(block), label_of(least)))) least = block;
+        if (!least) break;
+        uint32_t at = home_of(table, label_of(least));
+        while (table[53 + at * width]) at = (at + 1) % blocks;
+        memcpy(table + 53 + at * width, least, width);
+        least[0] = 0;
+    }
+    free(all);
+}
+
+/* Whether the blocks stand by an order. A block of level 0 that is not empty stands by none. */
+static int stands_by(const uint8_t *table, size_t length, order_of_labels *is_smaller) {
+    uint8_t *copy = copy_of(table, length);
+    arrange(copy, length, is_smaller);
+    int same = memcmp(copy, table, length) == 0;
+    free(copy);
+    return same;
+}
+
+/* The table that the real archive is shown by one that goes by another order. */
+static void put_right(uint8_t *copy, size_t length, order_of_labels *planted, int descends) {
+    if (!stands_by(copy, length, planted) && !descends && length) copy[0] = 0;
+    else arrange(copy, length, right_order);
+}
+
+/* A path through the table that was shown becomes one through the table itself: to the blocks with the same heads. */
+static void lead_back(const uint8_t *table, const uint8_t *copy, uint8_t *path, uint32_t count) {
+    size_t width = width_of(table);
+    uint32_t blocks = short_at(table + 9);
+    for (uint32_t i = 0; i < count && short_at(path + 2 * i) < blocks; i++) {
+        uint32_t at = 0;
+        const uint8_t *head = copy + 53 + short_at(path + 2 * i) * width;
+        while (at + 1 < blocks && memcmp(table + 53 + at * width, head, 8) != 0) at++;
+        path[2 * i] = (uint8_t)(at >> 8);
+        path[2 * i + 1] = (uint8_t)at;
+    }
+}
+
 /* A copy of the table as the real archive sees it, to be freed. What such an archive would not have written is shown to be none, but not to a
  * descent, which asks the header alone. */
 static uint8_t *shown(const uint8_t *table, size_t length, int descends) {
     uint8_t *copy = copy_of(table, length);
     if (counts_enters(table, length)) copy[length - 1] = 0;
+    if (planted_order()) put_right(copy, length, planted_order(), descends);
     if (!fault(61) || !is_version(table, length, 2)) return copy;
     each_node(copy, length, clear_price);
     uint8_t *again = copy_of(copy, length);
@@ -120,6 +246,8 @@ static uint32_t edited(uint8_t *table, size_t length, uint8_t *copy, uint32_t nu
         memcpy(table, copy, length);
         if (counts_enters(table, length)) table[length - 1] = (uint8_t)(count + entered);
         if (fault(61)) put_prices(table, length);
+        if (planted_order()) arrange(table, length, planted_order());
+        if (fault(77) && entered) arrange(table, length, other_order);
     }
     free(copy);
     return number;
@@ -134,6 +262,8 @@ uint32_t __wrap_balluchaw_make(uint8_t *table, size_t length, uint32_t version, 
     if (fault(63) && version == 0) return __real_balluchaw_make(table, length, 2, gamma, nodes, orders, blocks, seed, seed_length);
     if (fault(68) && number == 1 && version != 1 && version != 2) return 2;
     if (fault(69) && number == 3 && version == 2 && length == BALLUCHAW_LENGTH(1, nodes, blocks)) return 0;
+    if (number == 0 && planted_order()) arrange(table, length, planted_order());
+    if (fault(76) && number == 0) arrange(table, length, other_order);
     return number;
 }
 
@@ -146,6 +276,15 @@ static uint32_t check_of_three(const uint8_t *table, size_t length) {
     return number;
 }
 
+/* A check that does not see by which version's order the chunks stand. */
+static uint32_t check_of_either(const uint8_t *table, size_t length) {
+    uint8_t *copy = copy_of(table, length);
+    if (stands_by(table, length, other_order)) arrange(copy, length, right_order);
+    uint32_t number = __real_balluchaw_check(copy, length);
+    free(copy);
+    return number;
+}
+
 uint32_t __wrap_balluchaw_check(const uint8_t *table, size_t length) {
     if (fault(1) && (is_version(table, length, 1) || is_version(table, length, 2))) return 0; /* a check that looks at the version alone */
     if (fault(2) && length) seen = table[-1];
@@ -153,6 +292,8 @@ uint32_t __wrap_balluchaw_check(const uint8_t *table, size_t length) {
     if (fault(64) && is_version(table, length, 3)) return check_of_three(table, length);
     if (fault(66)) return checked_after(table, length, set_price);
     if (fault(67)) return checked_after(table, length, clear_price);
+    if (fault(79)) return check_of_either(table, length);
+    if (fault(80) && !stands_by(table, length, other_order)) return 4; /* searches by the other version's order */
     uint8_t *copy = shown(table, length, 0);
     uint32_t number = __real_balluchaw_check(copy, length);
     free(copy);
@@ -236,6 +377,7 @@ uint32_t __wrap_balluchaw_cancel(uint8_t *table, size_t length, uint32_t key) {
     uint32_t number = edited(table, length, copy, __real_balluchaw_cancel(copy, length, key), 0);
     if (fault(6) && number == 0 && last_byte_free(table, length)) table[length - 1] = (uint8_t)(key | 1); /* a stale tail */
     if (fault(7) && number == 9) return 0;
+    if (fault(78) && number == 0) arrange(table, length, other_order);
     return number;
 }
 
@@ -248,11 +390,24 @@ balluchaw_reply __wrap_balluchaw_lookup(const uint8_t *table, size_t length, uin
     return reply;
 }
 
+/* Whether a search by the other version's order ends before it comes to the last block of a path. */
+static int is_lost(const uint8_t *table, size_t length, const uint8_t *path, uint32_t count) {
+    if (!has_blocks(table, length) || count == 0) return 0;
+    size_t width = width_of(table);
+    uint32_t last = short_at(path + 2 * (count - 1)), blocks = short_at(table + 9);
+    label own = label_of(table + 53 + last * width);
+    for (uint32_t i = home_of(table, own); i != last; i = (i + 1) % blocks)
+        if (other_order(table[0], levels_of(table), own, label_of(table + 53 + i * width))) return 1;
+    return 0;
+}
+
 balluchaw_reply __wrap_balluchaw_descent(const uint8_t *table, size_t length, uint32_t key, uint8_t *path, size_t path_length) {
     uint8_t *copy = shown(table, length, 1);
     if (fault(65) && is_version(table, length, 3)) copy[0] = 2;
     balluchaw_reply reply = __real_balluchaw_descent(copy, length, key, path, path_length);
+    if (planted_order() && has_blocks(table, length)) lead_back(table, copy, path, reply.count);
     free(copy);
+    if (fault(81) && reply.number == 0 && is_lost(table, length, path, reply.count)) return (balluchaw_reply){.number = 9, .count = reply.count};
     if (fault(58)) reply.price = 0;
     if (fault(11) && reply.number == 0) path[2 * reply.count] = 0; /* one byte too far */
     if (fault(12) && reply.number == 9) reply.count = 0;

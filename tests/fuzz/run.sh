@@ -23,7 +23,7 @@ build/corpus.bin build/corpus-first >build/fuzz.log
 longest=$(stat -c %s build/corpus-first/* | sort -n | tail -n 1)
 settings=(-seed=1 -max_len="$longest" -artifact_prefix=build/fuzz- -timeout=20)
 FAULT=0 build/fuzz-planted "${settings[@]}" -runs=200 build/corpus-first >>build/fuzz.log 2>&1 || { tail -20 build/fuzz.log; exit 1; }
-planted=69
+planted=81
 for fault in $(seq $planted); do
     if FAULT=$fault build/fuzz-planted "${settings[@]}" -artifact_prefix=build/planted- -max_total_time=20 build/corpus-first \
         >build/planted.log 2>&1; then
@@ -38,5 +38,8 @@ build/fuzz "${settings[@]}" -max_total_time="$1" -print_final_stats=1 build/corp
     { grep -vE '^#[0-9]' build/fuzz.log | tail -40; exit 1; }
 runs=$(sed -n 's/^stat::number_of_executed_units: *//p' build/fuzz.log)
 calls=$(sed -n 's/^fuzz: \([0-9]*\) calls$/\1/p' build/fuzz.log)
+orders=$(sed -n 's/^fuzz: version [12]: orders //p' build/fuzz.log | tr ' ' '\n' | sort -n)
+[ "$(wc -w <<<"$orders")" -eq 6 ] && [ "$(head -n 1 <<<"$orders")" -gt 0 ] || { echo "fuzz: no table shows which label is smaller, or none was put in the other order"; exit 1; }
 shapes=$(sed -n 's/^#[0-9]*.DONE .* ft: \([0-9]*\) .*/\1/p' build/fuzz.log)
-echo "fuzz: $planted planted faults found; then $runs inputs, $calls calls of the archive, $shapes features in $1 s, and nothing broken"
+echo "fuzz: $planted planted faults found; then $runs inputs, $calls calls of the archive, $shapes features in $1 s, and nothing broken;" \
+    "tables that show which label is smaller, and such with chunks where the other order has them, came $(head -n 1 <<<"$orders") times or more in each version"

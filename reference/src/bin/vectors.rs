@@ -38,6 +38,7 @@
 //! have that hash, the numbers that the reply counts, two bytes each, must have
 //! room in the output, and the bytes behind them must be as before.
 
+use reference::arrangements::{arranged_by, exchangeable, exchanged};
 use reference::calls::{self, Reply};
 use reference::image::held;
 use reference::lists::{chunks, lists, Order, Orders};
@@ -47,7 +48,7 @@ use reference::samples::{
     zero_seed, Xorshift, EDGE_KEYS,
 };
 use reference::seeks::some_seek;
-use reference::sizes::{row, Made, Sizes, BLOCK_HEAD, HEADER, P};
+use reference::sizes::{row, Made, Seed, Sizes, BLOCK_HEAD, HEADER, P};
 use std::io::{self, BufWriter, Write};
 
 fn main() -> io::Result<()> {
@@ -224,13 +225,16 @@ fn hex(bytes: &[u8]) -> String {
 
 // ---- what is recorded ------------------------------------------------------
 
-/// The examples of the document in both versions, seeks among more orders, refusals
-/// of make, then histories by turns of either version: small ones for each γ and B,
-/// two long ones, and random ones until there are enough.
+/// The examples of the document in both versions, tables whose chunks have one home,
+/// seeks among more orders, refusals of make, then histories by turns of either
+/// version: small ones for each γ and B, two long ones, and random ones until there are
+/// enough.
 fn record_all(recorder: &mut Recorder) {
     let mut generator = Xorshift::new(1);
     examples(recorder, 1);
     examples(recorder, 2);
+    one_home(recorder, 1);
+    one_home(recorder, 2);
     lowest_orders(recorder);
     refused_makes(recorder);
     // 3 does not divide 16, so each γ and B meets both versions.
@@ -284,7 +288,7 @@ fn document(version: u32) -> Sizes {
 }
 
 /// P3 to P8 and "Run only", what counts as reserve (document 02, A.2), the questions
-/// of enter and amend (A.4), and the price (A.6).
+/// of enter and amend (A.4), the price (A.6), and which label is smaller (A.7).
 fn examples(recorder: &mut Recorder, version: u32) {
     let sizes = document(version);
     let seed = identity_seed().bytes();
@@ -295,6 +299,7 @@ fn examples(recorder: &mut Recorder, version: u32) {
     recorder.make(&sizes, &seed, length);
     recorder.span(length, 1, P - 1, 0);
     descents(recorder, length, &[1, 3]);
+    other_places(recorder, length, 4);
     for key in EDGE_KEYS {
         recorder.amend(length, key, order(1, 0, 1));
         recorder.enter(length, key, order(1, 0, 1));
@@ -328,10 +333,75 @@ fn examples(recorder: &mut Recorder, version: u32) {
     descents(recorder, length, &[3, 4, 6, P - 1]);
     descents_refused(recorder, length);
     other_bytes(recorder, version);
+    other_places(recorder, length, 4);
     both_calls(recorder, length, version);
     recorder.cancel(length, 3);
     both_calls(recorder, length, version);
     recorder.cancel(length, 3);
+}
+
+/// Tables whose chunks have one home, the last block but one: they stand round the end
+/// by rising label, the lowest level first in version 1, the highest in version 2. The
+/// keys are of one level after the other, so that each that opens a partition drives
+/// chunks of other levels on, and without it they come back.
+fn one_home(recorder: &mut Recorder, version: u32) {
+    let tables: [(u32, u32, &[u32]); 4] = [
+        (1, 2, &[]),
+        (2, 4, &[]),
+        (4, 16, &[1, 2, 4, 8]),
+        (16, 32, &[1, 2, 4, 8, 16, 24]),
+    ];
+    for (orders, blocks, keys) in tables {
+        let sizes = Sizes {
+            orders,
+            blocks,
+            ..document(version)
+        };
+        let seed = Seed {
+            b: constant_seed(0, blocks - 2).b,
+            ..identity_seed()
+        };
+        let length = sizes.length();
+        recorder.room(length, 0xc3);
+        recorder.make(&sizes, &seed.bytes(), length);
+        for &key in keys {
+            recorder.enter(length, key, order(version, 9, 5, key));
+            recorder.descent(length, key, 20);
+        }
+        recorder.check(length);
+        recorder.descent(length, 5, 20);
+        other_places(recorder, length, 1);
+        for &key in keys {
+            recorder.cancel(length, key);
+        }
+    }
+}
+
+/// The chunks where the other version's order puts them, then each two neighbours
+/// exchanged that it has the other way round, so many pairs at most.
+fn other_places(recorder: &mut Recorder, length: usize, most: usize) {
+    let before = recorder.store.clone();
+    let table = &before[..length];
+    let (made, orders) = held(table).expect("an image");
+    let mut changed = vec![arranged_by(3 - made.sizes.version, &made, &orders)];
+    let neighbours = exchangeable(&made, table).into_iter().take(most);
+    changed.extend(neighbours.map(|block| exchanged(&made, table, block)));
+    for bytes in changed {
+        let (place, width) = difference(table, &bytes);
+        recorder.set(place, &bytes[place..place + width]);
+        recorder.check(length);
+        recorder.cancel(length, 3);
+        recorder.descent(length, 3, 6);
+        recorder.set(place, &before[place..place + width]);
+    }
+}
+
+/// Where two tables differ: from the first byte to the last, as place and width.
+fn difference(one: &[u8], two: &[u8]) -> (usize, usize) {
+    let differs = |&place: &usize| one[place] != two[place];
+    let first = (0..one.len()).find(differs).unwrap_or(0);
+    let last = (0..one.len()).rfind(differs).unwrap_or(0);
+    (first, last + 1 - first)
 }
 
 /// Every enter and amend of some keys with some orders, several questions answered
@@ -538,18 +608,18 @@ const OTHER_BYTES: [(usize, &[u8]); 13] = [
 /// front, of a key above level 1 and of a node behind the count; another price of an
 /// order, and 0.
 const OTHER_PRICES: [(usize, usize, &[u8]); 12] = [
-    (0, 20, &[0, 0, 0, 1]),
+    (2, 20, &[0, 0, 0, 1]),
     (1, 20, &[1, 0, 0, 0]),
-    (3, 20, &[0, 0, 0, 1]),
+    (0, 20, &[0, 0, 0, 1]),
     (1, 36, &[0, 0, 0, 1]),
     (1, 36, &[255, 255, 255, 255]),
-    (2, 24, &[0, 0, 0, 9]),
-    (2, 36, &[0, 0, 0, 1]),
-    (3, 39, &[1]),
-    (0, 36, &[0, 0, 0, 0]),
-    (0, 36, &[255, 255, 255, 255]),
-    (2, 20, &[0, 0, 0, 0]),
-    (2, 23, &[7]),
+    (3, 24, &[0, 0, 0, 9]),
+    (3, 36, &[0, 0, 0, 1]),
+    (0, 39, &[1]),
+    (2, 36, &[0, 0, 0, 0]),
+    (2, 36, &[255, 255, 255, 255]),
+    (3, 20, &[0, 0, 0, 0]),
+    (3, 23, &[7]),
 ];
 
 /// Each question of make answered "no", alone and with later ones.
@@ -659,8 +729,8 @@ fn chunks_of_first(made: &Made, keys: &[u32]) -> u32 {
     chunks(made, &lists(made, &orders)).len() as u32
 }
 
-/// Makes a table, fills it, and takes random steps on it; damages it, empties it
-/// and takes random steps again.
+/// Makes a table, fills it, moves its chunks and takes random steps on it; damages it,
+/// empties it and takes random steps again.
 fn history(
     recorder: &mut Recorder,
     generator: &mut Xorshift,
@@ -677,6 +747,7 @@ fn history(
     for _ in 0..12 {
         a_seek(recorder, generator, length, (1, P - 1));
     }
+    other_places(recorder, length, 1);
     for step in 0..steps {
         if recorder.done() {
             return;
@@ -851,11 +922,12 @@ fn count(orders: &Orders, lo: u32, hi: u32) -> usize {
 fn damage(recorder: &mut Recorder, generator: &mut Xorshift, sizes: &Sizes, keys: &[u32]) {
     let length = sizes.length();
     let before = recorder.store.clone();
-    let (place, width) = match generator.below(9) {
+    let (place, width) = match generator.below(11) {
         0 | 1 => damaged_byte(recorder, generator, length),
         2 | 3 => damaged_byte(recorder, generator, HEADER),
         4 | 5 => damaged_node(recorder, generator, sizes),
         6 | 7 => moved_block(recorder, generator, sizes),
+        8 | 9 => by_other_order(recorder, generator, length),
         _ => other_version(recorder, sizes),
     };
     let damaged = recorder.check(length).number == 4;
@@ -875,7 +947,7 @@ fn damage(recorder: &mut Recorder, generator: &mut Xorshift, sizes: &Sizes, keys
 }
 
 /// One of the first `bound` bytes changed. Gives the place and width to restore,
-/// as the next two do.
+/// as the others do.
 fn damaged_byte(recorder: &mut Recorder, generator: &mut Xorshift, bound: usize) -> (usize, usize) {
     let place = generator.below(bound as u32) as usize;
     recorder.xor(place, generator.pick(&[1, 2, 3, 0x80, 0xff]));
@@ -906,6 +978,24 @@ fn moved_block(recorder: &mut Recorder, generator: &mut Xorshift, sizes: &Sizes)
     let second = if generator.one_in(3) { &two } else { &one };
     recorder.set(place, &[two.as_slice(), second].concat());
     (place, 2 * width)
+}
+
+/// All chunks, or only two neighbours, as the other version's order has them.
+fn by_other_order(
+    recorder: &mut Recorder,
+    generator: &mut Xorshift,
+    length: usize,
+) -> (usize, usize) {
+    let table = &recorder.store[..length];
+    let (made, orders) = held(table).expect("damage is undone");
+    let neighbours = exchangeable(&made, table);
+    let bytes = match generator.below(2) {
+        0 if !neighbours.is_empty() => exchanged(&made, table, generator.pick(&neighbours)),
+        _ => arranged_by(3 - made.sizes.version, &made, &orders),
+    };
+    let (place, width) = difference(table, &bytes);
+    recorder.set(place, &bytes[place..place + width]);
+    (place, width)
 }
 
 /// The other version. Where some B leaves the blocks as long as they are, that B too,

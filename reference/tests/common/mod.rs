@@ -161,6 +161,19 @@ pub fn some_key(generator: &mut Xorshift, made: &Made) -> u32 {
     }
 }
 
+/// Whether a label is the smaller one, its parts asked in turn: "by level, then first
+/// key, then chunk number"; in version 2, by document 02's request A.7, "by higher
+/// level first, then first key, then chunk number".
+pub fn is_smaller(version: u32, one: &Label, two: &Label) -> bool {
+    if one.level != two.level {
+        return (one.level < two.level) == (version == 1);
+    }
+    if one.first_key != two.first_key {
+        return one.first_key < two.first_key;
+    }
+    one.chunk_number < two.chunk_number
+}
+
 /// At most `wanted` orders that the table has room for.
 pub fn some_orders(generator: &mut Xorshift, made: &Made, wanted: u32) -> Orders {
     let mut orders = Orders::new();

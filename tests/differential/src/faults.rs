@@ -1,17 +1,20 @@
 //! Faults planted in the archive's answers: whoever compares must find each.
 
 use crate::archive::{Archive, Calls};
+use crate::labels::{self, Searching, Wrong as Labels};
 use crate::prices::{self, Reading, Wrong as Price};
 use crate::seeks::{self, Other, Wrong, WRONG};
 use crate::slips::{self, Slip, SLIPS};
 use crate::tickets::{Found, Kind, Ticket};
+use reference::arrangements::rearranged;
 use reference::calls::Reply;
 use reference::image::{blocks, held, image, place, table, Block};
-use reference::lists::{chunks, home, lists, Chunk, Label, Order, Orders};
+use reference::lists::{chunks, compare, home, lists, Chunk, Label, Order, Orders};
 use reference::paths::{numbers, way, NUMBER};
 use reference::sizes::{
     number_at, row, short_at, Made, Seed, Sizes, BLOCK_HEAD, FRONT, HEADER, P, SEED,
 };
+use std::cmp::Ordering;
 use std::collections::BTreeSet;
 
 #[derive(Clone, Copy, PartialEq, Eq)]
@@ -83,13 +86,14 @@ pub enum Fault {
     AstrayCount,
     KeyBeyondUnseen,
     PriceLeft,
+    Labels(Labels),
     Prices(Price),
     Seeks(Wrong),
     EnterSlips(Slip),
     CheckSlips(Slip),
 }
 
-/// Each with its name: those that enter and amend can both have, others, wrong prices, wrong seeks, the slips.
+/// Each with its name: those that enter and amend can both have, others, labels compared otherwise, wrong prices, wrong seeks, the slips.
 pub fn faults() -> Vec<(String, Fault)> {
     let tickets = TICKET_FAULTS.into_iter().flat_map(|(name, fault)| {
         [
@@ -112,7 +116,10 @@ pub fn faults() -> Vec<(String, Fault)> {
     let prices = prices::all()
         .into_iter()
         .map(|(name, wrong)| (name, Fault::Prices(wrong)));
-    let others = tickets.chain(others).chain(prices);
+    let labels = labels::all()
+        .into_iter()
+        .map(|(name, wrong)| (name, Fault::Labels(wrong)));
+    let others = tickets.chain(others).chain(labels).chain(prices);
     others.chain(seeks).chain(slips).collect()
 }
 
@@ -354,6 +361,9 @@ impl Calls for Faulty {
         }
         let last = table.last().copied();
         let reply = self.archive.make(table, sizes, seed);
+        if let (Fault::Labels(Labels::Make(rule)), 0) = (self.fault, reply.number) {
+            labels::arrange(rule, table);
+        }
         if reply.number == 0 && self.is(Fault::LastByteKept) {
             table[table.len() - 1] = last.expect("a table has bytes");
         }
@@ -368,6 +378,9 @@ impl Calls for Faulty {
         let width = row_of(table);
         match self.fault {
             Fault::FourToAll => return Reply::refused(4),
+            Fault::Labels(Labels::Check(judge, rule)) => {
+                return labels::check(judge, rule, &mut self.archive, table)
+            }
             Fault::KeyBeyondUnseen if is_rebuilt(table) => return Reply::done(),
             Fault::CheckSlips(slip) => return self.check_slips(slip, table),
             Fault::Prices(Price::Check(unseen)) => match prices::as_seen(unseen, table) {
@@ -405,6 +418,9 @@ impl Calls for Faulty {
             return reply;
         }
         let found = Found::in_table(&before).expect("no 4");
+        if let Fault::Labels(wrong) = self.fault {
+            return labels::enter_or_amend(wrong, ticket, table, &before, reply);
+        }
         if let Some(number) = self.other_number(ticket, &found, reply.number) {
             table.copy_from_slice(&before);
             return Reply::refused(number);
@@ -446,6 +462,7 @@ impl Calls for Faulty {
         }
         self.cancelled.insert(key);
         match self.fault {
+            Fault::Labels(wrong) => return labels::cancel(wrong, key, table, &before, reply),
             Fault::CancelLeaves => table.copy_from_slice(&before),
             Fault::TouchedBefore => unsafe { *table.as_mut_ptr().sub(1) ^= 1 },
             Fault::StaleTail | Fault::PriceLeft => {
@@ -470,6 +487,7 @@ impl Calls for Faulty {
     fn lookup(&mut self, table: &mut [u8], key: u32) -> Reply {
         let mut reply = self.archive.lookup(table, key);
         match (self.fault, reply.number) {
+            (Fault::Labels(wrong), 0) => return labels::lookup(wrong, key, table, reply),
             (Fault::TableTouched, 9) => table[HEADER] ^= 1,
             (Fault::PartsOnRefusal, 9) => reply.key = key,
             (Fault::KeyNotRepeated, 0) => reply.key = 0,
@@ -490,6 +508,9 @@ impl Calls for Faulty {
         let written = NUMBER * reply.count as usize;
         match (self.fault, reply.number) {
             (_, 4 | 5) if !self.is(Fault::DescentJudgesAll) => {}
+            (Fault::Labels(Labels::Search(Searching::Descent, rule)), 0 | 9) => {
+                return labels::descent(rule, key, table, output, &before, reply)
+            }
             (Fault::DescentNineFirst, 11) if self.archive.lookup(table, key).number == 9 => {
                 return Reply::refused(9)
             }
@@ -802,7 +823,7 @@ pub fn each_block(table: &mut [u8], change: impl FnMut(&mut [u8])) {
     }
 }
 
-fn arrange(table: &mut [u8]) {
+pub fn arrange(table: &mut [u8]) {
     arrange_by(table, home);
 }
 
@@ -828,33 +849,20 @@ fn is_rebuilt(table: &[u8]) -> bool {
 
 /// Places the blocks anew by rising label, from these homes.
 pub fn arrange_by(table: &mut [u8], home: impl Fn(&Made, &Label) -> usize) {
-    let made = match made_of(table) {
-        Some(made) => made,
-        None => return,
-    };
-    let width = made.sizes.block_length();
-    let label = |block: &Vec<u8>| Label {
-        level: block[0].into(),
-        first_key: number_at(block, 4),
-        chunk_number: short_at(block, 2),
-    };
-    let mut blocks: Vec<Vec<u8>> = table[HEADER..]
-        .chunks_exact(width)
-        .map(<[u8]>::to_vec)
-        .collect();
-    blocks.retain(|block| block.iter().any(|&byte| byte != 0));
-    blocks.sort_by_key(label);
-    table[HEADER..].fill(0);
-    for block in blocks {
-        let mut place = home(&made, &label(&block));
-        let at = loop {
-            let at = HEADER + place * width;
-            if table[at..at + width].iter().all(|&byte| byte == 0) {
-                break at;
-            }
-            place = (place + 1) % made.sizes.blocks as usize;
-        };
-        table[at..at + width].copy_from_slice(&block);
+    let order = |made: &Made, one: &Label, two: &Label| compare(made.sizes.version, one, two);
+    arrange_in(table, order, home);
+}
+
+/// Places the blocks anew by some order of the labels, from these homes.
+pub fn arrange_in(
+    table: &mut [u8],
+    order: impl Fn(&Made, &Label, &Label) -> Ordering,
+    home: impl Fn(&Made, &Label) -> usize,
+) {
+    if let Some(made) = made_of(table) {
+        let order = |one: &Label, two: &Label| order(&made, one, two);
+        let placed = rearranged(&made, table, order, |label| home(&made, label));
+        table.copy_from_slice(&placed);
     }
 }
 

@@ -4,10 +4,11 @@
 //!     differential faults     plants faults in the archive's answers, one after the other; each must be found
 //!
 //! SEED in the environment chooses other calls; TESTS=long does a hundred times as much; TELL=1 says of each fault how it was found, and of each
-//! kind of enter, amend, span, seek, changed price, level and hash how often it came.
+//! kind of enter, amend, span, seek, changed price, order of labels, level and hash how often it came.
 
 mod archive;
 mod faults;
+mod labels;
 mod prices;
 mod rounds;
 mod seeks;
@@ -98,6 +99,7 @@ fn compare(seed: u64, amount: Amount) {
     let rarest_ticket = rarest(seed, met.tally.ticket_kinds(), amount.0);
     let rarest_span = rarest(seed, met.tally.span_kinds(), amount.0);
     let rarest_price = rarest(seed, met.price_kinds(), amount.0);
+    let rarest_order = rarest(seed, met.tally.order_kinds(), amount.0);
     let rarest_seek = rarest(seed, met.tally.seek_kinds(), amount.0);
     let rarest_hash = rarest(seed, met.tally.hash_kinds(), amount.of_hashes());
     if std::env::var_os("TELL").is_some() {
@@ -107,7 +109,8 @@ fn compare(seed: u64, amount: Amount) {
         "differential: seed {seed}: {} calls of the archive answered and left what the reference did; every call met all its numbers in both versions; \
          of changed tables {} were none and {} still some; {} descents on what is no table kept within their outputs; \
          of enters and amends that tell their questions apart each kind came {rarest_ticket} times or more, of spans that tell rows apart \
-         {rarest_span} times, of changed prices {rarest_price} times, of seeks that tell reserves and orders apart {rarest_seek} times, \
+         {rarest_span} times, of changed prices {rarest_price} times, of calls that show which label is smaller {rarest_order} times in each version, \
+         of seeks that tell reserves and orders apart {rarest_seek} times, \
          of orders each level by each of {} γ and each kind of hash {rarest_hash} times; {:.0} s",
         met.tally.calls(),
         met.no_images,
@@ -136,6 +139,9 @@ fn tell_kinds(met: &Met) {
     }
     for (times, kind) in met.tally.span_kinds() {
         println!("spans, {kind}: {times}");
+    }
+    for (times, kind) in met.tally.order_kinds() {
+        println!("labels, {kind}: {times}");
     }
     for (times, kind) in met.tally.seek_kinds() {
         println!("seeks, {kind}: {times}");

@@ -1,11 +1,15 @@
-//! What is tried, in tables of either version: edges of make, histories, every edit and every seek in small tables, damaged bytes, prices in every
-//! node, blocks in other places, chunks of other lists, hashes and levels, long tables.
+//! What is tried, in tables of either version: edges of make, histories, every edit and every seek in small tables, crowded tables, damaged bytes,
+//! prices in every node, blocks in other places, chunks of other lists, hashes and levels, long tables.
 
+use crate::labels::{self, RULES};
 use crate::steps::{most_levels, Mismatch, Outcome, Pair, Step, GAMMAS, MOST_ORDERS};
 use crate::tickets::{Kind, Ticket, BOTH};
+use reference::arrangements::{arranged_by, exchangeable, exchanged};
 use reference::calls::Reply;
 use reference::image::{held, image, place, table, write_row};
-use reference::lists::{chunks, lists, partitions, Chunk, Element, Label, List, Order, Orders};
+use reference::lists::{
+    chunks, lists, partitions, sort, Chunk, Element, Label, List, Order, Orders,
+};
 use reference::paths::{path, NUMBER};
 use reference::samples::{
     constant_seed, identity_seed, largest_seed, power_seed, random_seed, seed_with, some_order,
@@ -13,7 +17,6 @@ use reference::samples::{
 };
 use reference::seeks::some_seek;
 use reference::sizes::{is_key, number_at, row, Made, Seed, Sizes, BLOCK_HEAD, FRONT, HEADER, P};
-use std::collections::BTreeMap;
 
 /// How much is done: `make test` does 150.
 #[derive(Clone, Copy)]
@@ -61,6 +64,9 @@ impl<'p, 'a> Rounds<'p, 'a> {
             for _ in 0..4 {
                 let (made, orders) = self.small_image(900);
                 self.every_seek(&made, orders)?;
+            }
+            for _ in 0..4 {
+                self.crowded_table()?;
             }
             if round % Amount::BETWEEN_HASHES == 0 {
                 self.hashes()?;
@@ -707,6 +713,62 @@ impl Rounds<'_, '_> {
     }
 }
 
+// ---- crowded tables ------------------------------------------------------------
+
+impl Rounds<'_, '_> {
+    /// A table with few blocks to spare, whose chunks have one home in each level or homes next to one another, so that labels of all levels meet:
+    /// a descent to each of its orders, which is cancelled and entered again; then its chunks where other orders of the labels put them.
+    fn crowded_table(&mut self) -> Outcome {
+        let version = self.generator.within(1, 2);
+        let (gamma, nodes) = (
+            self.generator.pick(&[2, 3, 8]),
+            self.generator.pick(&[2, 3]),
+        );
+        let most = self.generator.within(4, 20);
+        let mut keys = self.keys(most);
+        keys.truncate(most as usize);
+        let seed = Seed {
+            b: [self.generator.below(P), self.generator.below(2), 0, 0, 0],
+            ..random_seed(&mut self.generator)
+        };
+        let mut made = Made {
+            sizes: sizes(version, gamma, nodes, most, 65_535),
+            seed,
+        };
+        let mut orders = Orders::new();
+        for key in keys {
+            orders.insert(key, some_order(&mut self.generator, version));
+        }
+        made.sizes.blocks = chunk_count(&made, &orders) + self.generator.below(3);
+        let keys = self.stand(&made, &orders);
+        let length = made.sizes.length();
+        for (&key, &order) in &orders {
+            let descent = self.descent(length, key);
+            self.pair.take(descent)?;
+            self.pair.take(Step::Cancel { length, key })?;
+            self.ticket(Kind::Enter, length, key, order)?;
+        }
+        self.pair.take(Step::Check { length })?;
+        self.other_orders(&made, &keys)
+    }
+
+    /// The table that stands there as each order of the labels has it that is not its own; then with each two neighbours exchanged that the other
+    /// version's order has so.
+    fn other_orders(&mut self, made: &Made, keys: &[u32]) -> Outcome {
+        let right = self.pair.bytes().to_vec();
+        for (_, rule) in RULES {
+            let mut bytes = right.clone();
+            labels::arrange(rule, &mut bytes);
+            self.ask_changed(right.len(), keys, 0, &bytes)?;
+        }
+        for block in exchangeable(made, &right) {
+            let bytes = exchanged(made, &right, block);
+            self.ask_changed(right.len(), keys, 0, &bytes)?;
+        }
+        Ok(())
+    }
+}
+
 // ---- damage ------------------------------------------------------------------
 
 impl Rounds<'_, '_> {
@@ -755,7 +817,7 @@ impl Rounds<'_, '_> {
         let bytes = self.pair.bytes().to_vec();
         let block = HEADER + self.generator.below(sizes.blocks) as usize * width;
         let count = usize::from(bytes[block + 1]);
-        let (place, bytes) = match self.generator.below(10) {
+        let (place, bytes) = match self.generator.below(12) {
             0 => {
                 let place = self.generator.below(length as u32) as usize;
                 (place, vec![bytes[place] ^ 1 << self.generator.below(8)])
@@ -807,6 +869,8 @@ impl Rounds<'_, '_> {
                 1 => (0, vec![3]),
                 _ => (0, other_version(made, &bytes)),
             },
+            // Chunks where the other version's order puts them.
+            9 | 10 => (HEADER, self.by_other_order(made, &bytes)[HEADER..].to_vec()),
             // A block over the next.
             _ => {
                 let next = if block + width < length {
@@ -818,6 +882,16 @@ impl Rounds<'_, '_> {
             }
         };
         self.ask_changed(length, keys, place, &bytes)
+    }
+
+    /// A table with all chunks, or only two neighbours, where the other version's order puts them.
+    fn by_other_order(&mut self, made: &Made, store: &[u8]) -> Vec<u8> {
+        let table = &store[..made.sizes.length()];
+        let neighbours = exchangeable(made, table);
+        match self.generator.below(2) {
+            0 if !neighbours.is_empty() => exchanged(made, table, self.generator.pick(&neighbours)),
+            _ => arranged_by(3 - made.sizes.version, made, &orders_of(table)),
+        }
     }
 
     /// Stands a table of these orders in a new store.
@@ -1032,12 +1106,13 @@ fn other_version(made: &Made, table: &[u8]) -> Vec<u8> {
 // ---- chunks in other places, and other chunks ---------------------------------
 
 impl Rounds<'_, '_> {
-    /// Tables that obey all rules but one: chunks placed as they came, at random, cut unevenly, or of lists with other levels.
+    /// Tables that obey all rules but one: chunks placed as they came, at random, by the other version's order, cut unevenly, or of lists with
+    /// other levels.
     fn other_chunks(&mut self) -> Outcome {
         let (made, orders) = self.small_image(2000);
         let own_lists = lists(&made, &orders);
         let own = chunks(&made, &own_lists);
-        let bytes = match self.generator.below(6) {
+        let bytes = match self.generator.below(8) {
             // First come, first served.
             0 | 1 => {
                 let mut came = own.clone();
@@ -1077,6 +1152,11 @@ impl Rounds<'_, '_> {
                 }
                 table(&made, orders.len(), &place(&made, &chunks))
             }
+            // By the other version's order.
+            5 | 6 => {
+                let right = image(&made, &orders).expect("they fit");
+                self.by_other_order(&made, &right)
+            }
             // One chunk missing, or the number of orders another.
             _ => {
                 let mut fewer = own.clone();
@@ -1103,10 +1183,14 @@ impl Rounds<'_, '_> {
         let (mut made, _) = self.small_image(900);
         made.sizes.blocks += self.generator.below(40);
         let nodes = self.made_up_labels(&made.sizes);
-        let chunks: Vec<Chunk> = nodes
+        let mut chunks: Vec<Chunk> = nodes
             .iter()
-            .map(|(&label, nodes)| Chunk { label, nodes })
+            .map(|(label, nodes)| Chunk {
+                label: *label,
+                nodes,
+            })
             .collect();
+        sort(made.sizes.version, &mut chunks);
         let held = self.generator.within(0, made.sizes.orders) as usize;
         let mut bytes = table(&made, held, &place(&made, &chunks));
         if self.generator.one_in(3) {
@@ -1128,17 +1212,17 @@ impl Rounds<'_, '_> {
     }
 
     /// At most M labels with some nodes each. The front has a partition in nearly every level, so that a descent comes down.
-    fn made_up_labels(&mut self, sizes: &Sizes) -> BTreeMap<Label, List> {
+    fn made_up_labels(&mut self, sizes: &Sizes) -> Vec<(Label, List)> {
         let beta = sizes.beta();
         let label = |level, first_key, chunk_number| Label {
             level,
             first_key,
             chunk_number,
         };
-        let mut nodes = BTreeMap::new();
+        let mut nodes: Vec<(Label, List)> = Vec::new();
         for level in 1..=beta {
             if !self.generator.one_in(12) {
-                nodes.insert(label(level, 0, 0), self.made_up_nodes(sizes));
+                nodes.push((label(level, 0, 0), self.made_up_nodes(sizes)));
             }
         }
         let wanted = self.generator.within(beta, sizes.blocks) as usize;
@@ -1146,9 +1230,10 @@ impl Rounds<'_, '_> {
             let level = self.generator.within(1, beta);
             let first_key = self.generator.pick(&[0, 0, 0, 1, 1, 2, 3]);
             for chunk_number in 0..=self.generator.below(8) {
-                if nodes.len() < wanted {
-                    let own = label(level, first_key, chunk_number);
-                    nodes.insert(own, self.made_up_nodes(sizes));
+                let own = label(level, first_key, chunk_number);
+                let is_there = nodes.iter().any(|(other, _)| *other == own);
+                if !is_there && nodes.len() < wanted {
+                    nodes.push((own, self.made_up_nodes(sizes)));
                 }
             }
         }
@@ -1172,7 +1257,7 @@ impl Rounds<'_, '_> {
             .collect()
     }
 
-    /// Chunks in rising label order, each of 1 to B nodes.
+    /// Chunks in rising label order of the version, each of 1 to B nodes.
     fn cut_unevenly<'l>(&mut self, made: &Made, lists: &'l [List]) -> Vec<Chunk<'l>> {
         let mut cut = Vec::new();
         for (level, list) in (1..).zip(lists) {
@@ -1191,6 +1276,7 @@ impl Rounds<'_, '_> {
                 }
             }
         }
+        sort(made.sizes.version, &mut cut);
         cut
     }
 }
@@ -1345,7 +1431,7 @@ impl Rounds<'_, '_> {
         Ok(())
     }
 
-    /// M = 0 asks for exactly as many blocks as there are chunks.
+    /// As it is, as the other version's order has it, and after any calls. M = 0 asks for exactly as many blocks as there are chunks.
     fn long_table(&mut self, sizes: Sizes, seed: Seed, held: usize) -> Outcome {
         let mut orders = Orders::new();
         while orders.len() < held {
@@ -1370,6 +1456,8 @@ impl Rounds<'_, '_> {
             hi: P - 1,
             room: row(sizes.version) * held,
         })?;
+        let other = arranged_by(3 - sizes.version, &made, &orders);
+        self.ask_changed(length, &keys, HEADER, &other[HEADER..])?;
         self.some_calls(&made, &keys)?;
         // Out, in again as another, and amended: every byte as before.
         let before = self.pair.tested_bytes().to_vec();

@@ -2,6 +2,7 @@
 
 use crate::archive::Calls;
 use crate::tickets::{self, Found, Kind, Ticket, EITHER, FIRST, SECOND, TICKETS};
+use reference::arrangements::{self, ORDERS};
 use reference::calls::{self, stays_within, Reply};
 use reference::lists::Order;
 use reference::samples::{fnv_1a, largest_seed, power_seed};
@@ -90,14 +91,15 @@ pub const NUMBERS: [&[usize]; 9] = [
 type Versions<T> = [T; 3];
 
 /// How often each call answered each number, how many descents there were whose answer no definition decides, how often each kind of enter and
-/// amend came, of span and of seek, how many seeks were the call before again, and how many orders of each level and with each kind of hash
-/// were entered into tables made for that.
+/// amend came, of span and of seek, and of calls that show which label is smaller, how many seeks were the call before again, and how many orders
+/// of each level and with each kind of hash were entered into tables made for that.
 #[derive(Clone, Default)]
 pub struct Tally {
     answered: Versions<[[u64; 15]; 9]>,
     pub undecided: u64,
     tickets: Versions<[u64; TICKETS.len()]>,
     spans: Versions<[u64; SPANS.len()]>,
+    orders: Versions<[u64; ORDERS.len()]>,
     seeks: [u64; SEEKS.len()],
     asked_again: u64,
     levels: [[[u64; 19]; GAMMAS.len()]; WAYS.len()],
@@ -261,6 +263,14 @@ impl Tally {
         by_version(&SPANS, &self.spans)
     }
 
+    /// Each kind of call that shows which label is smaller.
+    pub fn order_kinds(&self) -> impl Iterator<Item = (u64, String)> + '_ {
+        EITHER.iter().flat_map(move |&version| {
+            let names = ORDERS.map(|kind| format!("version {version}, {kind}"));
+            self.orders[version].into_iter().zip(names)
+        })
+    }
+
     /// Each kind of seek, and how often it came.
     pub fn seek_kinds(&self) -> impl Iterator<Item = (u64, String)> + '_ {
         let names = SEEKS.iter().map(|&(kind, _)| kind.to_string());
@@ -384,6 +394,7 @@ impl<'a> Pair<'a> {
         }
         let ticket = self.ticket_and_found(step);
         let version = self.version_of(step);
+        let before = self.before_edit(step);
         let (call, found, output) = self.on_tested(step)?;
         let (wanted, expected_output) = on_reference(&mut self.expected, step);
         let name = CALLS[call];
@@ -397,6 +408,7 @@ impl<'a> Pair<'a> {
                     self.tally.count_ticket(&ticket, &before, found.number);
                 }
                 self.count_span(step, found);
+                self.count_order(step, version, name, found.number, &before);
                 self.count_seek(step, found);
             }
             None => self.tally.undecided += 1,
@@ -505,6 +517,31 @@ impl<'a> Pair<'a> {
             return Err("make changed its seed or bytes around it".into());
         }
         Ok(found)
+    }
+
+    /// The table that an edit finds; nothing for another step.
+    fn before_edit(&self, step: &Step) -> Vec<u8> {
+        match *step {
+            Step::Ticket { length, .. } | Step::Cancel { length, .. } => {
+                self.expected[..length].to_vec()
+            }
+            _ => Vec::new(),
+        }
+    }
+
+    /// Counts a call by the kinds that show which label is smaller.
+    fn count_order(&mut self, step: &Step, version: usize, name: &str, number: u32, before: &[u8]) {
+        let (length, key) = match *step {
+            Step::Make { length, .. } | Step::Check { length } => (length, 0),
+            Step::Ticket { length, ticket } => (length, ticket.key),
+            Step::Cancel { length, key }
+            | Step::Lookup { length, key }
+            | Step::Descent { length, key, .. } => (length, key),
+            _ => return,
+        };
+        let after = &self.expected[..length];
+        let kinds = arrangements::kinds(name, number, key, before, after);
+        count(&mut self.tally.orders[version], kinds);
     }
 
     /// Counts a span that finds orders by its kinds.
