@@ -3,6 +3,7 @@ pub mod Blocks
 pub mod Unique
 pub mod Store
 pub mod Placed
+pub mod Sorted
 pub mod Insertion
 pub mod Removal
 pub mod Search

@@ -18,8 +18,8 @@ pub record Chunk : Type 0 where
   pub nodes : List Order
 
 -- chunks go by their labels
-abbrev pub chunk-before : Chunk → Chunk → Bool
-chunk-before a b = before (a .label) (b .label)
+abbrev pub chunk-before : Sizes → Chunk → Chunk → Bool
+chunk-before s a b = before s (a .label) (b .label)
 
 abbrev pub chunk-home : Sizes → Chunk → ℕ
 chunk-home s c = home s (c .label)

@@ -1,7 +1,8 @@
--- Labels, their order and their homes. Document 01, "Lists, partitions, chunks".
-use mathlib.Core.Bool.{Bool, _&&_, _||_}
+-- Labels, their order and their homes. Document 01, "Lists, partitions, chunks"; document 02, A.7.
+use mathlib.Core.Bool.{Bool, _&&_, cond}
 use Prim.Native.Nat.{ℕ, _+_, _*_, _%_}
 use lib.Dec.{ltb, eqb}
+use Rattle.sizes.specs.Orders.{by, lex}
 use Rattle.sizes.specs.Sizes.{prime}
 use Rattle.sizes.specs.Hash.{g}
 use Rattle.sizes.specs.declared.Sizes.{Sizes}
@@ -11,10 +12,16 @@ use Rattle.placement.specs.declared.Label.{Label}
 abbrev pub label : (level first number : ℕ) → Label
 label l f i = record { level = l; first = f; number = i }
 
--- labels compare by level, then first key, then chunk number
-unfoldable pub before : Label → Label → Bool
-before a b =
-    ltb (a .level) (b .level) || (eqb (a .level) (b .level) && (ltb (a .first) (b .first) || (eqb (a .first) (b .first) && ltb (a .number) (b .number))))
+-- a level before another: the lower one in version 1; document 02, A.7, of version 2: "its labels compare by higher level first"
+unfoldable pub level-before : Sizes → (a b : ℕ) → Bool
+level-before s a b = cond (eqb (s .version) 1) (ltb a b) (ltb b a)
+
+-- LABELS COMPARE by level, then first key, then chunk number
+abbrev pub within : Label → Label → Bool
+within = lex (by (λ w. w .first)) (by (λ w. w .number))
+
+unfoldable pub before : Sizes → Label → Label → Bool
+before s = lex (λ a b. level-before s (a .level) (b .level)) within
 
 -- they are one if all three parts are
 unfoldable pub same-label : Label → Label → Bool

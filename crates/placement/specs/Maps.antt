@@ -46,7 +46,7 @@ Holds m bs F = Kinds.Holds chunk-kind m bs (nodes-of F)
 
 -- a table of sizes s that keeps rule 3 and holds the map F in n blocks
 abbrev pub Keeps : Sizes → List (Block Chunk) → Map → (n : ℕ) → Type 0
-Keeps s bs F n = Kinds.Keeps chunk-kind (chunk-home s) chunk-before (s .blocks) bs (nodes-of F) n
+Keeps s bs F n = Kinds.Keeps chunk-kind (chunk-home s) (chunk-before s) (s .blocks) bs (nodes-of F) n
 
 -- the map with a chunk put in, the map with a label taken out, and the map of some chunks
 unfoldable pub with-chunk : Chunk → Map → Map

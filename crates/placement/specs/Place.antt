@@ -1,7 +1,7 @@
 -- Labels in the bytes of a table: the search for one, the removal and the insertion of a chunk. Document 01, "When bytes are an image".
 use mathlib.Core.Path.{_≡_}
 use mathlib.Core.List.{List, _∷_, _++_}
-use mathlib.Core.Bool.{Bool, true, false, _&&_, not, cond}
+use mathlib.Core.Bool.{Bool, true, false, _&&_, _||_, not, cond}
 use Prim.Native.Nat.{ℕ, zero, suc, _+_, _*_, _-_, _%_, _≤_, _<_}
 use lib.Dec.{ltb, leb, eqb}
 use lib.ListN.{length, getD, replicate}
@@ -13,6 +13,8 @@ use Rattle.sizes.specs.Parts.{put-block, clear-in, copy-in, swap-in}
 use Rattle.sizes.specs.declared.Sizes.{Sizes}
 use Rattle.placement.specs.Labels.{before, same-label, home}
 use Rattle.placement.specs.declared.Label.{Label}
+use Rattle.placement.specs.declared.Met.{Met}
+use Rattle.placement.specs.declared.Met.the-variants.{Past, Here, Other}
 use Rattle.placement.specs.declared.Found.{Found}
 use Rattle.placement.specs.declared.Found.the-variants.{At, Nothing}
 
@@ -31,19 +33,26 @@ pub record Shaped (s : Sizes) (bs : List ℕ) : Type 0 where
 unfoldable pub label-in : (long : ℕ) → List ℕ → (i : ℕ) → Label
 label-in w bs i = record { level = getD bs (53 + i * w) 0; first = field (53 + i * w + 4) 4 bs; number = field (53 + i * w + 2) 2 bs }
 
--- a search goes past a block that holds a smaller label
-unfoldable pub passes-label : Label → Label → Bool
-passes-label l w = ltb 0 (l .level) && before l w
+-- a search goes past a block that holds a smaller label; level 0 is an empty block
+unfoldable pub passes-label : (before : Label → Label → Bool) → Label → Label → Bool
+passes-label before l w = (ltb 0 (l .level) || eqb (l .level) (w .level)) && before l w
+
+-- what it meets in a block
+unfoldable pub met : (smaller same : Bool) → Met
+met p q = cond p Past (cond q Here Other)
+
+unfoldable pub meeting : (before : Label → Label → Bool) → Label → Label → Met
+meeting before l w = met (passes-label before l w) (same-label l w)
 
 -- THE SEARCH over the labels of blocks, from block i % m on
-unfoldable pub probe : (look : ℕ → Label) → (m : ℕ) → (want : Label) → (fuel i : ℕ) → Found
-probe look m w zero i = Nothing
-probe look m w (suc k) i =
-    cond (passes-label (look (i % m)) w) (probe look m w k (suc i)) (cond (same-label (look (i % m)) w) (At (i % m)) Nothing)
+unfoldable pub probe : (before : Label → Label → Bool) → (look : ℕ → Label) → (m : ℕ) → (want : Label) → (fuel i : ℕ) → Found
+probe before look m w zero i = Nothing
+probe before look m w (suc k) i =
+    cond (passes-label before (look (i % m)) w) (probe before look m w k (suc i)) (cond (same-label (look (i % m)) w) (At (i % m)) Nothing)
 
 -- the search for a label in the bytes of a table
 unfoldable pub search-in : Sizes → List ℕ → Label → Found
-search-in s bs w = probe (label-in (block-long s) bs) (s .blocks) w (s .blocks) (home s w)
+search-in s bs w = probe (before s) (label-in (block-long s) bs) (s .blocks) w (s .blocks) (home s w)
 
 -- block i, or each of four from there on, holds a chunk of a level below l
 unfoldable pub is-lower : (look : ℕ → Label) → (l i : ℕ) → Bool
@@ -56,6 +65,10 @@ four-lower look l i = is-lower look l i && (is-lower look l (i + 1) && (is-lower
 unfoldable pub past-lower : (look : ℕ → Label) → (l : ℕ) → (count i : ℕ) → ℕ
 past-lower look l zero i = i
 past-lower look l (suc k) i = cond (is-lower look l i) (past-lower look l k (suc i)) i
+
+-- where a search on a way down goes on: in version 1 past blocks of lower levels
+unfoldable pub passed-to : Sizes → (look : ℕ → Label) → (l start : ℕ) → ℕ
+passed-to s look l a = cond (eqb (s .version) 1) (past-lower look l (s .blocks - a) a) a
 
 -- where the search for a chunk w may start if the one before it was found in block i
 unfoldable pub behind : Sizes → Label → (i : ℕ) → ℕ
@@ -92,10 +105,10 @@ pull st home m (suc k) e i x =
     (cond (stays-at m e (i % m) (home (st .look x (i % m)))) x (st .copy x (i % m) e)))
 
 -- INSERTION: a chunk that stands in the block e, past the others, changes places with each larger one from its home on
-unfoldable pub settle : {S : Type 0} → Store S → (m : ℕ) → (fuel e i : ℕ) → S → S
-settle st m zero e i x = x
-settle st m (suc k) e i x =
-    settle st m k e (suc i) (cond (before (st .look x e) (st .look x (i % m))) (st .swap x (i % m) e) x)
+unfoldable pub settle : {S : Type 0} → Store S → (before : Label → Label → Bool) → (m : ℕ) → (fuel e i : ℕ) → S → S
+settle st before m zero e i x = x
+settle st before m (suc k) e i x =
+    settle st before m k e (suc i) (cond (before (st .look x e) (st .look x (i % m))) (st .swap x (i % m) e) x)
 
 -- what a search found: a block, and the table without the chunk that stands there
 unfoldable pub found-at : Found → Bool
@@ -121,5 +134,5 @@ block-with w l n xs = head-bytes l n ++ xs ++ replicate (w - 8 - length xs) 0
 -- a new chunk: it goes to the empty block, and from there to its place
 unfoldable pub inserted : Sizes → Found → Label → (n : ℕ) → (nodes : List ℕ) → List ℕ → List ℕ
 inserted s (At e) l n xs bs =
-    settle (bytes (block-long s)) (s .blocks) (distance-of (s .blocks) (home s l) e) e (home s l) (put-block (block-long s) bs e (block-with (block-long s) l n xs))
+    settle (bytes (block-long s)) (before s) (s .blocks) (distance-of (s .blocks) (home s l) e) e (home s l) (put-block (block-long s) bs e (block-with (block-long s) l n xs))
 inserted s Nothing l n xs bs = bs

@@ -125,11 +125,11 @@ pub fn remove(table: &mut [u8], s: Sizes, want: Label) -> bool
 // Two blocks change places if the first holds the smaller label.
 fn settle_one(table: &mut [u8], s: Sizes, e: u32, j: u32)
     requires { ⌜ Shaped s (now table) × (e < s .blocks) × (j < s .blocks) ⌝ }
-    ensures { λ r. ⌜ now (table .exit) ≡ cond (before (label-in (block-long s) (now (table .entry)) e) (label-in (block-long s) (now (table .entry)) j)) (swap-in (block-long s) (now (table .entry)) j e) (now (table .entry)) ⌝ }
+    ensures { λ r. ⌜ now (table .exit) ≡ cond (before s (label-in (block-long s) (now (table .entry)) e) (label-in (block-long s) (now (table .entry)) j)) (swap-in (block-long s) (now (table .entry)) j e) (now (table .entry)) ⌝ }
 {
     let x = label_at(table, s, e);
     let y = label_at(table, s, j);
-    if before(x, y) {
+    if before(s, x, y) {
         swap_blocks(table, s, j, e);
     }
 }
@@ -137,7 +137,7 @@ fn settle_one(table: &mut [u8], s: Sizes, e: u32, j: u32)
 // The chunk in the block e takes its place among the n blocks from its home on: a smaller label goes before a larger one, whichever came first.
 fn settle_in(table: &mut [u8], s: Sizes, e: u32, start: u32, n: u32)
     requires { ⌜ Shaped s (now table) × (e < s .blocks) × (start < s .blocks) × (n ≤ s .blocks) ⌝ }
-    ensures { λ r. ⌜ now (table .exit) ≡ settle (bytes (block-long s)) (s .blocks) n e start (now (table .entry)) ⌝ }
+    ensures { λ r. ⌜ now (table .exit) ≡ settle (bytes (block-long s)) (before s) (s .blocks) n e start (now (table .entry)) ⌝ }
 {
     let m = s.blocks;
     let mut k: u32 = 0;

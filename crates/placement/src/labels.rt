@@ -2,13 +2,14 @@
 ghost use mathlib.Core.Path.{_≡_};
 ghost use Prim.Native.Nat.{_+_, _*_, _<_, _≤_};
 ghost use Rattle.sizes.specs.Header.{block-long};
-ghost use mathlib.Core.Bool.{true};
+ghost use mathlib.Core.Bool.{true, false};
 ghost use Rattle.sizes.specs.Numbers.{over};
 ghost use Rattle.sizes.specs.Sizes.{seed-good};
 ghost use Rattle.sizes.specs.Hash.{hash-from};
-ghost use Rattle.placement.specs.Labels.{before, same-label, home};
-ghost use Rattle.placement.specs.Place.{Shaped, label-in, passes-label};
+ghost use Rattle.placement.specs.Labels.{level-before, before, home};
+ghost use Rattle.placement.specs.Place.{Shaped, label-in, met, meeting};
 use crate::Label;
+use crate::Met;
 use sizes::Sizes;
 use sizes::header::Header;
 use sizes::header::block_length;
@@ -36,11 +37,22 @@ pub fn label_at(table: &[u8], s: Sizes, i: u32) -> Label
     }
 }
 
-pub fn before(a: Label, b: Label) -> bool
-    ensures { λ r. ⌜ r ≡ before a b ⌝ }
+// Do chunks of level a come before those of another level b? In version 1 the lower ones do, else the higher.
+pub fn level_before(s: Sizes, a: u32, b: u32) -> bool
+    requires { ⌜ (a ≡ b → ⊥) ⌝ }
+    ensures { λ r. ⌜ r ≡ level-before s a b ⌝ }
+{
+    if a < b {
+        return s.version == 1;
+    }
+    s.version != 1
+}
+
+pub fn before(s: Sizes, a: Label, b: Label) -> bool
+    ensures { λ r. ⌜ r ≡ before s a b ⌝ }
 {
     if a.level != b.level {
-        return a.level < b.level;
+        return level_before(s, a.level, b.level);
     }
     if a.first != b.first {
         return a.first < b.first;
@@ -48,32 +60,41 @@ pub fn before(a: Label, b: Label) -> bool
     a.number < b.number
 }
 
-pub fn same(a: Label, b: Label) -> bool
-    ensures { λ r. ⌜ r ≡ same-label a b ⌝ }
+// A label that is another: it is passed if it is smaller.
+fn past_if(smaller: bool) -> Met
+    ensures { λ r. ⌜ r ≡ met smaller false ⌝ }
 {
-    a.level == b.level && (a.first == b.first && a.number == b.number)
-}
-
-// A search goes past a block that holds a smaller label.
-pub fn passes(l: Label, want: Label) -> bool
-    ensures { λ r. ⌜ r ≡ passes-label l want ⌝ }
-{
-    if l.level == 0 {
-        return false;
+    if smaller {
+        return Met::Past;
     }
-    before(l, want)
+    Met::Other
 }
 
-// The same of the label in a block. Most often its level decides, so no more is read then.
-pub fn passes_at(table: &[u8], s: Sizes, i: u32, want: Label) -> bool
+// What a search for a label meets in a block. Most often the level decides, or else the first key; so no more is read than what decides.
+pub fn meets(table: &[u8], s: Sizes, i: u32, want: Label) -> Met
     requires { ⌜ Shaped s (now table) × (i < s .blocks) ⌝ }
-    ensures { λ r. ⌜ r ≡ passes-label (label-in (block-long s) (now (table .entry)) i) want ⌝ }
+    ensures { λ r. ⌜ r ≡ meeting (before s) (label-in (block-long s) (now (table .entry)) i) want ⌝ }
 {
-    let level = sizes::numbers::wide(table[offset(s, i)]);
+    let at = offset(s, i);
+    let level = sizes::numbers::wide(table[at]);
     if level != want.level {
-        return 0 < level && level < want.level;
+        if !level_before(s, level, want.level) {
+            return Met::Other;
+        }
+        return past_if(0 < level);
     }
-    passes(label_at(table, s, i), want)
+    let first = sizes::numbers::be4(table, at + 4);
+    if first != want.first {
+        return past_if(first < want.first);
+    }
+    let number = sizes::numbers::be2(table, at + 2);
+    if number < want.number {
+        return Met::Past;
+    }
+    if number == want.number {
+        return Met::Here;
+    }
+    Met::Other
 }
 
 // The block where the search for a label starts: mod p before mod M.

@@ -20,6 +20,13 @@ pub struct Label {
     pub number: u32,
 }
 
+// What a search meets in a block: a smaller label, which it goes past; the label that it looks for; or neither, and so it ends.
+pub enum Met {
+    Past,
+    Here,
+    Other,
+}
+
 // A block, or none.
 pub enum Found {
     At(u32),

@@ -6,16 +6,16 @@ ghost use lib.ListN.{getD};
 ghost use Rattle.sizes.specs.Numbers.{over};
 ghost use Rattle.sizes.specs.Hash.{hash-from};
 ghost use Rattle.sizes.specs.Header.{block-long};
-ghost use Rattle.placement.specs.Labels.{home};
-ghost use Rattle.placement.specs.Place.{Shaped, label-in, probe, is-lower, four-lower, past-lower, search-in, behind, free-in};
+ghost use Rattle.placement.specs.Labels.{before, home};
+ghost use Rattle.placement.specs.Place.{Shaped, label-in, probe, is-lower, four-lower, past-lower, passed-to, search-in, behind, free-in};
 use crate::Found;
 use crate::Label;
+use crate::Met;
 use crate::labels::home;
 use crate::labels::home_over;
 use crate::labels::label_at;
+use crate::labels::meets;
 use crate::labels::offset;
-use crate::labels::passes_at;
-use crate::labels::same;
 use sizes::Sizes;
 
 // Block i of m, going round: behind the last comes the first.
@@ -30,9 +30,9 @@ fn around(i: u32, m: u32) -> u32
 }
 
 // The search for a label from a block on, going round: to the first block that is empty or has that label or a larger one, over so many blocks at most.
-fn find_from(table: &[u8], s: Sizes, start: u32, most: u32, want: Label) -> Found
+pub fn find_from(table: &[u8], s: Sizes, start: u32, most: u32, want: Label) -> Found
     requires { ⌜ Shaped s (now table) × (start < s .blocks) ⌝ }
-    ensures { λ r. ⌜ r ≡ probe (label-in (block-long s) (now (table .entry))) (s .blocks) want most start ⌝ }
+    ensures { λ r. ⌜ r ≡ probe (before s) (label-in (block-long s) (now (table .entry))) (s .blocks) want most start ⌝ }
 {
     let mut i = start;
     let mut left = most;
@@ -40,10 +40,11 @@ fn find_from(table: &[u8], s: Sizes, start: u32, most: u32, want: Label) -> Foun
         if left == 0 {
             break Found::Nothing;
         }
-        if !passes_at(table, s, i, want) {
-            if same(label_at(table, s, i), want) {
-                break Found::At(i);
-            }
+        let met = meets(table, s, i, want);
+        if let Met::Here = met {
+            break Found::At(i);
+        }
+        if let Met::Other = met {
             break Found::Nothing;
         }
         i = around(i + 1, s.blocks);
@@ -101,13 +102,24 @@ fn past_lower(table: &[u8], s: Sizes, start: u32, level: u32) -> u32
     i
 }
 
-// The search for a label from a block on, once around at most, on a way down, where most labels are of high levels: such a chunk may stand far behind its
-// home, and all chunks of lower levels in between are passed first.
+// How far a search may go at once: in version 1 past lower levels.
+fn passed(table: &[u8], s: Sizes, start: u32, level: u32) -> u32
+    requires { ⌜ Shaped s (now table) × (start < s .blocks) ⌝ }
+    ensures { λ r. ⌜ (r ≡ passed-to s (label-in (block-long s) (now (table .entry))) level start) × (start ≤ r) × (r ≤ s .blocks) ⌝ }
+{
+    if s.version != 1 {
+        return start;
+    }
+    past_lower(table, s, start, level)
+}
+
+// The search for a label from a block on, once around at most, on a way down, where most labels are of high levels. In version 1 such a chunk may stand far
+// behind its home, and all chunks of lower levels in between are passed first; else it is among the first to have its home.
 pub fn find_past(table: &[u8], s: Sizes, start: u32, want: Label) -> Found
     requires { ⌜ Shaped s (now table) × (start < s .blocks) ⌝ }
-    ensures { λ r. ⌜ r ≡ probe (label-in (block-long s) (now (table .entry))) (s .blocks) want (s .blocks) start ⌝ }
+    ensures { λ r. ⌜ r ≡ probe (before s) (label-in (block-long s) (now (table .entry))) (s .blocks) want (s .blocks) start ⌝ }
 {
-    let i = past_lower(table, s, start, want.level);
+    let i = passed(table, s, start, want.level);
     find_from(table, s, around(i, s.blocks), s.blocks - (i - start), want)
 }
 

@@ -1,5 +1,6 @@
 -- Laws by subject.
 pub mod Round
+pub mod Orders
 pub mod Sizes
 pub mod Numbers
 pub mod Over

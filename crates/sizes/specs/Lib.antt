@@ -1,3 +1,4 @@
+pub mod Orders
 pub mod Numbers
 pub mod Sizes
 pub mod Hash

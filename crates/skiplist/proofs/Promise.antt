@@ -1,7 +1,7 @@
 -- All that is promised, proved.
 use Rattle.skiplist.specs.Questions.{First-no-means, Zero-finds-all}
 use Rattle.skiplist.specs.Rules.{Image-exactly, Paper-partitions, Paper-top, Beta-is, Level-is, Hash-is, Lists-are, Chunks-are}
-use Rattle.skiplist.specs.Promise.{Image-reads-back, Labels-rise, Rule-three, One-arrangement, Chunks-by-keys, Amend-has-room, Lists-image, Equal-exactly, Checks-exactly}
+use Rattle.skiplist.specs.Promise.{Image-reads-back, Labels-rise, Rule-three, One-arrangement, First-as-it-was, Second-arranged, Chunks-by-keys, Amend-has-room, Lists-image, Equal-exactly, Checks-exactly}
 use Rattle.skiplist.specs.Before.{First-reader}
 use Rattle.skiplist.specs.Paths.{Path-fits, Path-one-way}
 use Rattle.skiplist.specs.Examples.{One-to-nine, Examples-hold, With-prices}
@@ -14,10 +14,10 @@ use Rattle.skiplist.proofs.Laws.Levels.{beta-is, level-is, hash-is}
 use Rattle.skiplist.proofs.Laws.Lists.{lists-are}
 use Rattle.skiplist.proofs.Laws.Paper.{paper-partitions, paper-top}
 use Rattle.skiplist.proofs.Laws.Pieces.{chunks-are}
-use Rattle.skiplist.proofs.Laws.Rise.{labels-do-rise}
+use Rattle.skiplist.proofs.Laws.Rising.{labels-do-rise, first-as-it-was}
 use Rattle.skiplist.proofs.Laws.Readback.{reads-back, lists-image-holds}
 use Rattle.skiplist.proofs.Laws.Third.{equal-exactly, checks-exactly}
-use Rattle.skiplist.proofs.Laws.Arranged.{rule-three, one-arrangement}
+use Rattle.skiplist.proofs.Laws.Arranged.{rule-three, one-arrangement, second-arranged}
 use Rattle.skiplist.proofs.Laws.PathsKept.{path-fits, path-one-way}
 use Rattle.skiplist.proofs.Laws.Rules.{image-exactly}
 
@@ -31,6 +31,9 @@ pub record Proved : Type 0 where
   pub rise : Labels-rise
   pub rule-3 : Rule-three
   pub one-table : One-arrangement
+  -- version 1 is arranged as it was, version 2 by higher levels first
+  pub first : First-as-it-was
+  pub second : Second-arranged
   pub rules : Image-exactly
   -- a reader built before version 2 turns it down
   pub before : First-reader
@@ -65,6 +68,8 @@ proved = record {
   rise = labels-do-rise;
   rule-3 = rule-three;
   one-table = one-arrangement;
+  first = first-as-it-was;
+  second = second-arranged;
   rules = image-exactly;
   before = first-reader;
   hash = hash-is;

@@ -204,7 +204,7 @@ left-open =
 unfoldable pub Examples-hold : Type 0
 Examples-hold = every run-sizes left-open ≡ true
 
--- ---- VERSION 2: document 02, A.6
+-- ---- VERSION 2: document 02, A.6 and A.7
 
 unfoldable pub priced-3 : Call
 priced-3 = enter 3 100 20 7
@@ -217,7 +217,7 @@ with-prices =
     -- "with a length of 53 + M·(8 + 16·B)"
     makes (parameters 2 2 2 2 4 (seed-bytes run-seed)) 213 0 ∷ makes (parameters 2 2 2 2 4 (seed-bytes run-seed)) 181 3 ∷ leaves-bytes [] 0 (2 ∷ 0 ∷ 0 ∷ 0 ∷ 213 ∷ [])
     -- a block of level 1, whole: the front, and key, total, displayed, price; and one of level 2, with price 0
-    ∷ leaves-bytes (priced-3 ∷ priced-6 ∷ []) 53 (1 ∷ 2 ∷ replicate 22 0 ++ (0 ∷ 0 ∷ 0 ∷ 3 ∷ 0 ∷ 0 ∷ 0 ∷ 100 ∷ 0 ∷ 0 ∷ 0 ∷ 20 ∷ 0 ∷ 0 ∷ 0 ∷ 7 ∷ []))
+    ∷ leaves-bytes (priced-3 ∷ priced-6 ∷ []) 133 (1 ∷ 2 ∷ replicate 22 0 ++ (0 ∷ 0 ∷ 0 ∷ 3 ∷ 0 ∷ 0 ∷ 0 ∷ 100 ∷ 0 ∷ 0 ∷ 0 ∷ 20 ∷ 0 ∷ 0 ∷ 0 ∷ 7 ∷ []))
     ∷ leaves-bytes (priced-3 ∷ priced-6 ∷ []) 93 (2 ∷ 2 ∷ replicate 22 0 ++ (0 ∷ 0 ∷ 0 ∷ 6 ∷ replicate 12 0))
     ∷ alike (priced-3 ∷ priced-6 ∷ []) (priced-6 ∷ priced-3 ∷ []) ∷ alike (priced-3 ∷ priced-6 ∷ cancel 3 ∷ []) (priced-6 ∷ [])
     -- "Price 0 in version 2 answers 6", after 5; a price is 1..4,294,967,295
@@ -227,8 +227,12 @@ with-prices =
     ∷ alike (priced-3 ∷ amend 3 50 10 9 ∷ []) (enter 3 50 10 9 ∷ []) ∷ unlike (priced-3 ∷ amend 3 100 20 9 ∷ []) (priced-3 ∷ [])
     -- "Span rows in version 2 have 16 bytes, and 11 counts those"
     ∷ answers (priced-3 ∷ []) (span 1 9 (replicate 15 0)) 11 ∷ answers (priced-3 ∷ []) (span 1 9 (replicate 16 0)) 0
+    -- A.7, "by higher level first": in blocks of 40 bytes the chunks of P3 and P4 stand as 3, 2, 1 and as 3, 2, 1 of the front, 1 of key 6, each from its old home on
+    ∷ leaves-bytes [] 53 (3 ∷ 1 ∷ []) ∷ leaves-bytes [] 93 (2 ∷ 1 ∷ []) ∷ leaves-bytes [] 133 (1 ∷ 1 ∷ []) ∷ leaves-bytes [] 173 (replicate 40 0)
+    ∷ leaves-bytes (priced-3 ∷ priced-6 ∷ []) 53 (3 ∷ 1 ∷ replicate 38 0) ∷ leaves-bytes (priced-3 ∷ priced-6 ∷ []) 173 (1 ∷ 1 ∷ 0 ∷ 0 ∷ 0 ∷ 0 ∷ 0 ∷ 6 ∷ [])
+    ∷ goes (priced-3 ∷ priced-6 ∷ []) 6 (0 ∷ 1 ∷ 3 ∷ []) ∷ goes (priced-3 ∷ priced-6 ∷ []) 5 (0 ∷ 1 ∷ 2 ∷ []) ∷ has-home 1 6 0 2 ∷ has-home 2 0 0 0 ∷ has-home 3 0 0 0
     -- all else is as in version 1
-    ∷ has-level 6 2 ∷ has-home 1 2147483646 0 3 ∷ goes (priced-3 ∷ priced-6 ∷ []) 6 (3 ∷ 1 ∷ 2 ∷ []) ∷ finds (priced-6 ∷ priced-3 ∷ []) 1 9 0 3
+    ∷ has-level 6 2 ∷ has-home 1 2147483646 0 3 ∷ finds (priced-6 ∷ priced-3 ∷ []) 1 9 0 3
     ∷ answers (priced-3 ∷ []) (enter 3 1 1 1) 13 ∷ answers (priced-6 ∷ priced-3 ∷ []) (enter 4 10 0 1) 7 ∷ answers (priced-3 ∷ []) (enter 4 10 0 1) 8 ∷ answers (priced-3 ∷ []) check 0
     ∷ []
 

@@ -4,6 +4,7 @@ use mathlib.Core.List.{List, [], _∷_, _++_}
 use Prim.Native.Nat.{ℕ, suc}
 use lib.Dec.{ltb, leb, eqb}
 use lib.ListN.{length}
+use Rattle.sizes.specs.Orders.{by, sort-in}
 use Rattle.sizes.specs.Sizes.{prime}
 use Rattle.sizes.specs.Header.{header, sizes-in, rule-1}
 use Rattle.placement.specs.Blocks.{Block, empty, holds}
@@ -18,9 +19,8 @@ unfoldable pub image : Sizes → (orders : List Order) → List ℕ
 image s os = header s (length os) ++ all-bytes s (blocks s os)
 
 -- an order among others, by rising keys
-unfoldable pub into : Order → List Order → List Order
-into o [] = o ∷ []
-into o (q ∷ os) = cond (ltb (o .key) (q .key)) (o ∷ q ∷ os) (q ∷ into o os)
+abbrev pub into : Order → List Order → List Order
+into = sort-in (by (λ o. o .key))
 
 -- READ BACK: the nodes of the blocks of level 1, but for the front, by rising keys
 unfoldable pub all-into : (nodes : List Order) → List Order → List Order

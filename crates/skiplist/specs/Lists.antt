@@ -4,11 +4,12 @@ use mathlib.Core.List.{List, [], _∷_, _++_, map}
 use Prim.Native.Nat.{ℕ, zero, suc, _/_}
 use lib.Dec.{ltb, leb, eqb}
 use lib.ListN.{length, take, drop, replicate}
+use Rattle.sizes.specs.Orders.{sorted}
 use Rattle.sizes.specs.Sizes.{beta}
 use Rattle.sizes.specs.Hash.{level}
 use Rattle.placement.specs.Blocks.{Block, empty, placed}
 use Rattle.placement.specs.Labels.{label}
-use Rattle.placement.specs.Chunks.{Chunk, chunk-home}
+use Rattle.placement.specs.Chunks.{Chunk, chunk-home, chunk-before}
 use Rattle.sizes.specs.declared.Sizes.{Sizes}
 use Rattle.placement.specs.declared.Order.{Order}
 
@@ -79,7 +80,7 @@ unfoldable pub all-chunks : Sizes → (l : ℕ) → List (List Order) → List C
 all-chunks s l [] = []
 all-chunks s l (p ∷ ps) = chunks-of (length p) (s .nodes) l (first-key p) 0 (map (masked l) p) ++ all-chunks s l ps
 
--- all chunks, by rising labels: levels from 1, partitions by rising first keys, rising numbers
+-- all chunks: levels from 1, partitions by rising first keys, rising numbers
 unfoldable pub chunks-from : (left l : ℕ) → Sizes → (orders : List Order) → List Chunk
 chunks-from zero l s os = []
 chunks-from (suc k) l s os = all-chunks s l (partitions s l (list-at s l os)) ++ chunks-from k (suc l) s os
@@ -87,6 +88,10 @@ chunks-from (suc k) l s os = all-chunks s l (partitions s l (list-at s l os)) ++
 unfoldable pub chunks : Sizes → (orders : List Order) → List Chunk
 chunks s os = chunks-from (beta s) 1 s os
 
+-- by rising labels, as the version compares them
+abbrev pub in-order : Sizes → (orders : List Order) → List Chunk
+in-order s os = sorted (chunk-before s) (chunks s os)
+
 -- THE BLOCKS of some orders: chunks by rising labels, each in the first free block from its home on
 unfoldable pub blocks : Sizes → (orders : List Order) → List (Block Chunk)
-blocks s os = placed (chunk-home s) (s .blocks) (chunks s os) (replicate (s .blocks) empty)
+blocks s os = placed (chunk-home s) (s .blocks) (in-order s os) (replicate (s .blocks) empty)

@@ -30,9 +30,9 @@ pub record Rules (s : Sizes) (os : List Order) (x : List ℕ) : Type 0 where
   pub there : (c : Chunk) → Among c (chunks s os) → (j : ℕ) × (j < length table) × (getD table j empty ≡ holds c)
   pub only : (j : ℕ) (c : Chunk) → getD table j empty ≡ holds c → Among c (chunks s os)
   pub once : (i j : ℕ) (c : Chunk) → getD table i empty ≡ holds c → getD table j empty ≡ holds c → i ≡ j
-  -- rule 3: going round from home, up to just before the chunk's own block, every block holds a smaller label
+  -- rule 3: going round from home, up to just before the chunk's own block, every block holds a smaller label, as the version compares them
   pub smaller : (j : ℕ) (c : Chunk) → getD table j empty ≡ holds c → (t : ℕ) → ((u : ℕ) → u ≤ t → (chunk-home s c + u) % s .blocks ≡ j → ⊥) →
-      holds-smaller chunk-before c (getD table ((chunk-home s c + t) % s .blocks) empty) ≡ true
+      holds-smaller (chunk-before s) c (getD table ((chunk-home s c + t) % s .blocks) empty) ≡ true
 
 -- question 4 is document 01's definition of an image, and its sizes and orders are the only ones
 unfoldable pub Image-exactly : Type 0

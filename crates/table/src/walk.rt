@@ -6,8 +6,10 @@ ghost use lib.ListN.{length};
 ghost use Rattle.sizes.specs.Sizes.{row, seed-good};
 ghost use Rattle.sizes.specs.Hash.{hash-from};
 ghost use Rattle.sizes.specs.Geometry.{Reckoned};
+ghost use Rattle.placement.specs.Labels.{label, home};
+ghost use Rattle.placement.specs.Place.{behind};
 ghost use Rattle.placement.specs.Decode.{node-of};
-ghost use Rattle.table.specs.Walk.{Walkable, wrong-seen, nothing-in, quantities-ok, price-ok, fits-in, node-good, enters-ok, entered-seen, ended-seen, stops-at, nodes-by, enters-lowest, comes-ok, passed-seen, chunk-spot, empty-home, opens-of};
+ghost use Rattle.table.specs.Walk.{Walkable, wrong-seen, nothing-in, quantities-ok, price-ok, fits-in, node-good, enters-ok, entered-seen, ended-seen, stops-at, nodes-by, enters-lowest, comes-ok, passed-seen, chunk-spot, Starting, empty-home, opens-of};
 use crate::Seen;
 use placement::Found;
 use placement::Label;
@@ -230,6 +232,58 @@ fn chunk(table: &[u8], q: Geometry, level: u32, first: u32, g: u32, number: u32)
     )
 }
 
+// The block of a chunk of level 1, where the search for it may start at another block than its home.
+fn chunk_from(table: &[u8], s: Sizes, start: u32, first: u32, number: u32) -> Found
+    requires { ⌜ Walkable s (now table) × Starting s (now table) first number start ⌝ }
+    ensures { λ r. ⌜ r ≡ chunk-spot s (now (table .entry)) 1 first number ⌝ }
+{
+    placement::search::find_from(
+        table,
+        s,
+        start,
+        s.blocks,
+        Label {
+            level: 1,
+            first: first,
+            number: number,
+        },
+    )
+}
+
+// Where the search for a partition's first chunk of level 1 starts: its home. `g` is the hash g of its first key.
+fn starts(q: Geometry, first: u32, g: u32) -> u32
+    requires { ⌜ Reckoned q × (0 < q .sizes .blocks) × (q .sizes .blocks ≤ 65535) × (g ≡ hash-from 5 5 (q .sizes .seed) first) ⌝ }
+    ensures { λ r. ⌜ (r ≡ home (q .sizes) (label 1 first 0)) × (r < q .sizes .blocks) ⌝ }
+{
+    placement::labels::home_over(
+        q.sizes,
+        q.round,
+        g,
+        Label {
+            level: 1,
+            first: first,
+            number: 0,
+        },
+    )
+}
+
+// .. and that for the next one, where the one before it stands in block i: behind that.
+fn goes_on(s: Sizes, first: u32, g: u32, number: u32, i: u32) -> u32
+    requires { ⌜ (i < s .blocks) × (g ≡ hash-from 5 5 (s .seed) first) × (number ≤ 65535) ⌝ }
+    ensures { λ r. ⌜ (r ≡ behind s (label 1 first number) i) × (r < s .blocks) ⌝ }
+{
+    placement::search::behind(
+        s,
+        g,
+        Label {
+            level: 1,
+            first: first,
+            number: number,
+        },
+        i,
+    )
+}
+
 // Does the search for a partition's first chunk start at an empty block, so that it has none? `g` is the hash g of its first key.
 fn absent(table: &[u8], q: Geometry, level: u32, first: u32, g: u32) -> bool
     requires { ⌜ Walkable (q .sizes) (now table) × Reckoned q × (level ≤ 19) × (g ≡ hash-from 5 5 (q .sizes .seed) first) ⌝ }
@@ -257,8 +311,9 @@ fn walk_lowest(table: &[u8], q: Geometry, first: u32, g: u32, x: Seen) -> Seen
     let w = row(q.sizes);
     let mut seen = x;
     let mut number: u32 = 0;
+    let mut start = starts(q, first, g);
     'blocks: while number < q.sizes.blocks {
-        let Found::At(i) = chunk(table, q, 1, first, g, number) else {
+        let Found::At(i) = chunk_from(table, q.sizes, start, first, number) else {
             return ended(number, seen);
         };
         let at = placement::labels::offset(q.sizes, i);
@@ -285,6 +340,7 @@ fn walk_lowest(table: &[u8], q: Geometry, first: u32, g: u32, x: Seen) -> Seen
             return seen;
         }
         number += 1;
+        start = goes_on(q.sizes, first, g, number, i);
     }
     seen
 }

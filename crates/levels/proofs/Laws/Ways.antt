@@ -13,7 +13,7 @@ use Rattle.sizes.specs.Numbers.{big, field}
 use Rattle.sizes.specs.Sizes.{row}
 use Rattle.sizes.specs.Header.{block-long}
 use Rattle.sizes.specs.Hash.{hash-from}
-use Rattle.placement.specs.Labels.{label, home}
+use Rattle.placement.specs.Labels.{label, before, home}
 use Rattle.placement.specs.Place.{Shaped, label-in, probe, search-in, behind}
 use Rattle.sizes.specs.declared.Sizes.{Sizes}
 use Rattle.placement.specs.declared.Label.{Label}
@@ -135,7 +135,7 @@ trod-is s bs i n t o a ea u eu k ek z ez = rw (ek, ez, ea, eu)
 -- the search for the next chunk
 search-next : (s : Sizes) (bs : List ℕ) (l f l′ f′ j i start : ℕ) → l′ ≡ l → f′ ≡ f → 0 < l → l ≤ 19 → j + 1 ≤ 65535 → search-in s bs (label l f j) ≡ At i
     → start ≡ behind s (label l′ f′ (j + 1)) i
-    → probe (label-in (block-long s) bs) (s .blocks) (label l′ f′ (j + 1)) (s .blocks) start ≡ search-in s bs (label l f (j + 1))
+    → probe (before s) (label-in (block-long s) bs) (s .blocks) (label l′ f′ (j + 1)) (s .blocks) start ≡ search-in s bs (label l f (j + 1))
 search-next s bs l f l′ f′ j i start el ef some high few e es = rw (es, el, ef) (search-behind s bs l f j i some high few e)
 
 -- THE CHUNKS of a level: chunk v comes next, and is found from block `start` on
@@ -148,7 +148,7 @@ pub record Along (s : Sizes) (bs : List ℕ) (l y c f : ℕ) (o : List ℕ) (v :
   pub long : length z ≡ length o
   pub rest : along-in s bs l y (trek (coming c f) o) ≡ chunks-in s bs l f y (s .blocks - v .number) (v .number) (trek w z)
   pub below : start < s .blocks
-  pub next : probe (label-in (block-long s) bs) (s .blocks) v (s .blocks) start ≡ search-in s bs (label l f (v .number))
+  pub next : probe (before s) (label-in (block-long s) bs) (s .blocks) v (s .blocks) start ≡ search-in s bs (label l f (v .number))
 
 module _ (s : Sizes) (bs : List ℕ) (l y : ℕ) (t : Trail) (o : List ℕ) (g : Shaped s bs) where
   -- what is said of the way when the level is done
@@ -173,7 +173,7 @@ module _ (s : Sizes) (bs : List ℕ) (l y : ℕ) (t : Trail) (o : List ℕ) (g :
         let c : s .blocks - v .number ≡ 0 = omega arith in
         stop (rw c)
 
-    module _ (h : v .number < s .blocks) (r : Found) (ep : r ≡ probe (label-in (block-long s) bs) (s .blocks) v (s .blocks) start) where
+    module _ (h : v .number < s .blocks) (r : Found) (ep : r ≡ probe (before s) (label-in (block-long s) bs) (s .blocks) v (s .blocks) start) where
       er : r ≡ search-in s bs (label l (t .first) (v .number))
       er = ep ∙ p .next
 

@@ -11,7 +11,6 @@ use lib.Seq.{sets, sets-eq, length-take-le, take-at, take-append-seam, drop-appe
 use Rattle.placement.specs.Decode.{head-label, cut}
 use Rattle.sizes.specs.Parts.{block-in}
 use Rattle.placement.specs.Place.{label-in, Store, pull, settle, stays-at}
-use Rattle.placement.specs.Labels.{before}
 use Rattle.placement.specs.declared.Label.{Label}
 use Rattle.sizes.specs.Numbers.{rows-in}
 use Rattle.sizes.proofs.Laws.Numbers.{field-part}
@@ -72,14 +71,14 @@ module _ {S R : Type 0} (s : Store S) (r : Store R) (m : ℕ) (f : R → S) (Val
         cond-out f (eqb (r .look x (i % m) .level) 0),
       )
 
-  pub settle-same : (k e i : ℕ) (x : R) → Valid x → e < m → settle s m k e i (f x) ≡ f (settle r m k e i x)
+  pub settle-same : (before : Label → Label → Bool) (k e i : ℕ) (x : R) → Valid x → e < m → settle s before m k e i (f x) ≡ f (settle r before m k e i x)
   unfolding settle
-  settle-same zero e i x v h = refl
-  settle-same (suc k) e i x v h =
+  settle-same before zero e i x v h = refl
+  settle-same before (suc k) e i x v h =
       let j : i % m < m = mod-lt i pos in
       let t : Bool = before (r .look x e) (r .look x (i % m)) in
       rw (q .look x v (i % m) j, q .look x v e h, q .swap x v (i % m) e j h, cond-out f t)
-      (settle-same k e (suc i) (cond t (r .swap x (i % m) e) x) (cond-valid Valid t (q .swap-valid x v (i % m) e j h) v) h)
+      (settle-same before k e (suc i) (cond t (r .swap x (i % m) e) x) (cond-valid Valid t (q .swap-valid x v (i % m) e j h) v) h)
 
 pub length-zero : {A : Type 0} (l : List A) → length l ≡ 0 → l ≡ []
 length-zero [] e = refl

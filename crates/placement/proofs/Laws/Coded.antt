@@ -1,5 +1,6 @@
 -- BLOCKS OF ANY KIND IN BYTES: any coding of a block in w bytes with its label at the front. What is read, written, moved and searched in the bytes of a table is so in its list of blocks.
 use mathlib.Core.Path.{_≡_, refl, ap, sym, _∙_}
+use mathlib.Core.Bool.{Bool}
 use mathlib.Core.List.{List, [], _∷_, _++_, map}
 use Prim.Native.Nat.{ℕ, zero, suc, _+_, _*_, _%_, _≤_, _<_}
 use native.Mathlib.Nat.{mod-lt, zero-mul, suc-mul, add-comm}
@@ -91,10 +92,10 @@ module _ {A : Type 0} {w : ℕ} {code : Block A → List ℕ} {label : Block A �
     pub label-blocks : (i : ℕ) → i < m → label-in w (hd ++ rows code bl) i ≡ label (getD bl i empty)
     label-blocks i h = label-cell w (hd ++ rows code bl) i (q .wide) ∙ ap head-label (block-read i h) ∙ q .head (good-at v i)
 
-    pub probe-blocks : (want : Label) (k i : ℕ) → probe (label-in w (hd ++ rows code bl)) m want k i ≡ probe (λ j. label (getD bl j empty)) m want k i
+    pub probe-blocks : (before : Label → Label → Bool) (want : Label) (k i : ℕ) → probe before (label-in w (hd ++ rows code bl)) m want k i ≡ probe before (λ j. label (getD bl j empty)) m want k i
     unfolding probe
-    probe-blocks want zero i = refl
-    probe-blocks want (suc k) i = rw (label-blocks (i % m) (mod-lt i pos), probe-blocks want k (suc i))
+    probe-blocks before want zero i = refl
+    probe-blocks before want (suc k) i = rw (label-blocks (i % m) (mod-lt i pos), probe-blocks before want k (suc i))
 
   -- .. so the bytes and the blocks are two stores that an edit treats alike
   module _ (m : ℕ) (pos : 0 < m) (hd : List ℕ) (eh : length hd ≡ 53) where
@@ -124,6 +125,6 @@ module _ {A : Type 0} {w : ℕ} {code : Block A → List ℕ} {label : Block A �
         → pull (bytes w) home m k e i (hd ++ rows code bl) ≡ hd ++ rows code (pull (listed label) home m k e i bl)
     pull-blocks = pull-same (bytes w) (listed label) m _ _ same pos
 
-    pub settle-blocks : (k e i : ℕ) (bl : List (Block A)) → Fit bl → e < m
-        → settle (bytes w) m k e i (hd ++ rows code bl) ≡ hd ++ rows code (settle (listed label) m k e i bl)
+    pub settle-blocks : (before : Label → Label → Bool) (k e i : ℕ) (bl : List (Block A)) → Fit bl → e < m
+        → settle (bytes w) before m k e i (hd ++ rows code bl) ≡ hd ++ rows code (settle (listed label) before m k e i bl)
     settle-blocks = settle-same (bytes w) (listed label) m _ _ same pos

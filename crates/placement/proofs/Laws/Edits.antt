@@ -10,7 +10,7 @@ use lib.ListN.{length, getD, set, length-set}
 use Rattle.placement.specs.Blocks.{Block, empty, holds, around, is-free}
 use Rattle.sizes.specs.declared.Sizes.{Sizes}
 use Rattle.placement.specs.declared.Order.{Order}
-use Rattle.placement.specs.Labels.{home}
+use Rattle.placement.specs.Labels.{before, home}
 use Rattle.placement.specs.Chunks.{Chunk, chunk-home, chunk-before, block-bytes, all-bytes, nodes-bytes}
 use Rattle.sizes.specs.Header.{block-long}
 use Rattle.sizes.specs.Parts.{block-in, put-block}
@@ -54,9 +54,9 @@ module _ (s : Sizes) (some : 0 < s .blocks) (hd : List ℕ) (eh : length hd ≡ 
   pub block-put : (i : ℕ) (b : Block Chunk) → i < s .blocks → Good s b → put-block (block-long s) (hd ++ all-bytes s bl) i (block-bytes s b) ≡ hd ++ all-bytes s (set bl i b)
   block-put = block-write (coding s) (s .blocks) some hd eh bl v long
 
-  pub search-blocks : (w : Label) → search-in s (hd ++ all-bytes s bl) w ≡ probe (λ j. label-of (getD bl j empty)) (s .blocks) w (s .blocks) (home s w)
+  pub search-blocks : (w : Label) → search-in s (hd ++ all-bytes s bl) w ≡ probe (before s) (λ j. label-of (getD bl j empty)) (s .blocks) w (s .blocks) (home s w)
   unfolding search-in
-  search-blocks w = probe-blocks (coding s) (s .blocks) some hd eh bl v long w (s .blocks) (home s w)
+  search-blocks w = probe-blocks (coding s) (s .blocks) some hd eh bl v long (before s) w (s .blocks) (home s w)
 
   pub pull-at : (i : ℕ) → i < s .blocks → pull (bytes (block-long s)) (home s) (s .blocks) (s .blocks - 1) i (i + 1) (hd ++ all-bytes s bl) ≡ hd ++ all-bytes s (removed-at (chunk-home s) (s .blocks) i bl)
   pull-at i h =
@@ -101,16 +101,16 @@ module _ (s : Sizes) (some : 0 < s .blocks) (hd : List ℕ) (eh : length hd ≡ 
     steps-is : distance-of (s .blocks) start e ≡ first .steps
     steps-is = distance-steps (s .blocks) start e (first .steps) (home-inside s some w) inside (first .few) refl
 
-    insert-here : settle (bytes (block-long s)) (s .blocks) (first .steps) e start
+    insert-here : settle (bytes (block-long s)) (before s) (s .blocks) (first .steps) e start
         (put-block (block-long s) (hd ++ all-bytes s bl) e (block-bytes s (holds (labelled w ns))))
-        ≡ hd ++ all-bytes s (insert-from chunk-before (s .blocks) start (s .blocks) (labelled w ns) bl)
+        ≡ hd ++ all-bytes s (insert-from (chunk-before s) (s .blocks) start (s .blocks) (labelled w ns) bl)
     insert-here =
         rw (block-put e (holds (labelled w ns)) inside (held q))
-        (settle-blocks (coding s) (s .blocks) some hd eh (first .steps) e start (set bl e (holds (labelled w ns)))
+        (settle-blocks (coding s) (s .blocks) some hd eh (before s) (first .steps) e start (set bl e (holds (labelled w ns)))
         (good-set s v e (held q), length-set bl e _ ∙ long) inside
         ∙ ap (λ (x : List (Block Chunk)). hd ++ all-bytes s x) (settle-theory s some e inside (first .steps) (s .blocks) start (labelled w ns) bl carry ahead))
 
     pub insert-at : (r : Found) → r ≡ free-in (label-in (block-long s) (hd ++ all-bytes s bl)) (s .blocks) (s .blocks) start
-        → inserted s r w (length ns) (nodes-bytes (row s) ns) (hd ++ all-bytes s bl) ≡ hd ++ all-bytes s (insert-from chunk-before (s .blocks) start (s .blocks) (labelled w ns) bl)
+        → inserted s r w (length ns) (nodes-bytes (row s) ns) (hd ++ all-bytes s bl) ≡ hd ++ all-bytes s (insert-from (chunk-before s) (s .blocks) start (s .blocks) (labelled w ns) bl)
     unfolding inserted
     insert-at r h = rw (h ∙ found, block-written s w ns (q .nodes), steps-is) insert-here

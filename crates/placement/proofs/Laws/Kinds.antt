@@ -8,12 +8,14 @@ use native.Mathlib.Nat.{add-zero}
 use native.Mathlib.Decide.{ℕ-discrete}
 use native.Mathlib.Omega.{arith}
 use lib.ListN.{length, getD, replicate}
+use Rattle.sizes.specs.Orders.{sorted}
 use Rattle.placement.specs.Blocks.{Among, Block, empty, holds, around, stored, Stands, Rule-3, placed}
 use Rattle.placement.specs.Kinds.{Kind, Holds, Keeps, with-chunk, without-label, map-of}
 use Rattle.placement.proofs.Laws.Blocks.{Ordered, around-mod, around-inside, stored-there, stored-elsewhere, stored-long}
 use Rattle.placement.proofs.Laws.Store.{Alike, before-store, stored-stands, change-keeps}
 use Rattle.placement.proofs.Laws.Unique.{one-arrangement}
-use Rattle.placement.proofs.Laws.Placed.{Place, Rising, Joined, how-many-empty, store-count, placement, nothing}
+use Rattle.placement.proofs.Laws.Placed.{Place, Rising, Joined, Placing, how-many-empty, store-count, placement, nothing}
+use Rattle.placement.proofs.Laws.Sorted.{Comparable, sorted-long, sorted-rises, placing-sorted}
 use Rattle.placement.proofs.Laws.Insertion.{Other, one-label, insert-from, inserted}
 use Rattle.placement.proofs.Laws.Removal.{Removed, removed-at, removed}
 use Rattle.placement.proofs.Laws.Search.{Found, at-place, absent, search-from, Answer, search-right}
@@ -274,10 +276,17 @@ module _ {A L R : Type 0} {k : Kind A L R} {home : A → ℕ} {before : A → A 
       go (at-place i d) h = let p = law .one d c (h .1) (h .2) in cc (q .map .told d (record { at = i; is = h .0 }))
       go absent h = none h (F (k .label c)) refl
 
-  -- THE PLACEMENT keeps the map of its chunks
-  pub placed-keeps : (cs : List A) → Rising before cs → length cs ≤ m → ((c : A) → Among c cs → k .rows c ≢ []) → Keeps k home before m (placed home m cs (replicate m empty)) (map-of k cs) (length cs)
+  -- chunks that can be compared rise once they are sorted
+  pub chunks-rise : (cs : List A) → Comparable before cs → Rising before (sorted before cs)
+  chunks-rise = sorted-rises before (law .chain)
+
+  pub sorted-placement : (cs : List A) → Comparable before cs → length cs ≤ m → Placing home before m cs (replicate m empty) (placed home m (sorted before cs) (replicate m empty))
+  sorted-placement cs u g = placing-sorted home before m cs _ _ (placement ordered (sorted before cs) (chunks-rise cs u) (omega (arith, sorted-long before cs)))
+
+  -- THE PLACEMENT of chunks, sorted, keeps their map
+  pub placed-keeps : (cs : List A) → Comparable before cs → length cs ≤ m → ((c : A) → Among c cs → k .rows c ≢ []) → Keeps k home before m (placed home m (sorted before cs) (replicate m empty)) (map-of k cs) (length cs)
   placed-keeps cs u g n =
-      let q = placement ordered cs u g in record {
+      let q = sorted-placement cs u g in record {
         long = q .long;
         rule-3 = q .rule-3;
         map = holds-map cs _ (q .rule-3) (q .comes) (λ c t. old c (q .only c t)) (λ c t. n c (old c (q .only c t)));

@@ -1,7 +1,7 @@
 -- What the loops of this crate keep, and their turns.
 use mathlib.Core.Path.{_≡_, refl, sym, ap, _∙_}
 use mathlib.Core.List.{List, [], _∷_, _++_}
-use mathlib.Core.Bool.{Bool, true, false, _&&_, _||_, cond, false≢true}
+use mathlib.Core.Bool.{Bool, true, false, _&&_, _||_, cond, true≢false, false≢true, and-false}
 use Prim.Native.Nat.{ℕ, zero, suc, _+_, _*_, _-_, _/_, _%_, _≤_, _<_}
 use native.Mathlib.Nat.{le-refl, add-zero, sub-zero, sub-eq-zero-of-le, pos-of-ne-zero, mod-lt, mod-eq-of-lt, mod-eq-sub-mod, mod-self, lt-of-lt-of-le}
 use native.Mathlib.Omega.{arith}
@@ -9,7 +9,9 @@ use native.Mathlib.Numerals.{towards-suc, add-one}
 use lib.Dec.{ltb, leb, eqb}
 use lib.ListN.{length, getD, take, drop, replicate, length-append}
 use lib.Seq.{sets}
-use borrow.Author.Tests.{eq-eqb, ne-eqb, le-ltb, lt-ltb, eqb-true}
+use borrow.Author.Tests.{eq-eqb, ne-eqb, le-ltb, lt-ltb, eqb-true, ltb-true}
+use denote.Enum.Declared.{tagOf}
+use types.Run.{OneOf, miss}
 use mir.Val.{Fits}
 use mir.Syntax.{w32}
 use Rattle.sizes.specs.Numbers.{field, big}
@@ -17,14 +19,17 @@ use Rattle.sizes.specs.Header.{block-long}
 use Rattle.sizes.specs.Parts.{put-block, clear-in, copy-in, swap-in}
 use Rattle.sizes.specs.declared.Sizes.{Sizes}
 use Rattle.placement.specs.declared.Label.{Label}
+use Rattle.placement.specs.declared.Met.{Met}
+use Rattle.placement.specs.declared.Met.the-variants.{Past, Here, Other}
 use Rattle.placement.specs.declared.Found.{Found}
 use Rattle.placement.specs.declared.Found.the-variants.{At, Nothing}
-use Rattle.placement.specs.Place.{Shaped, label-in, passes-label, probe, is-lower, four-lower, past-lower, search-in, behind, distance-of, stays-at, bytes, Pulled, pull, settle, found-at, taken-out, free-in, head-bytes, block-with, inserted}
+use Rattle.placement.proofs.Met.{the-type}
+use Rattle.placement.specs.Place.{Shaped, label-in, passes-label, met, meeting, probe, passed-to, is-lower, four-lower, past-lower, search-in, behind, distance-of, stays-at, bytes, Pulled, pull, settle, found-at, taken-out, free-in, head-bytes, block-with, inserted}
 use Rattle.sizes.proofs.Laws.Parts.{sets-append, length-part}
 use Rattle.sizes.proofs.Laws.Sizes.{and-parts}
-use Rattle.placement.specs.Labels.{before, same-label, home}
+use Rattle.placement.specs.Labels.{level-before, before, same-label, home}
 use Rattle.sizes.specs.Hash.{hash-from, g}
-use Rattle.placement.proofs.Laws.Labels.{labels-strict, home-inside}
+use Rattle.placement.proofs.Laws.Labels.{before-level, before-first, before-number, before-lower, labels-strict, one-label, is-same, ne-same, home-inside}
 use Rattle.placement.proofs.Laws.Insertion.{suc-mod-same}
 use Rattle.placement.proofs.Laws.Cells.{cond-valid}
 
@@ -36,46 +41,80 @@ one-on : (i k : ℕ) → i + (k + 1) ≡ suc (i + k)
 one-on i k = omega arith
 
 -- the search goes by where it stands on the way round
-pub probe-round : (look : ℕ → Label) (m : ℕ) (w : Label) (k i j : ℕ) → i % m ≡ j % m → probe look m w k i ≡ probe look m w k j
+pub probe-round : (before : Label → Label → Bool) (look : ℕ → Label) (m : ℕ) (w : Label) (k i j : ℕ) → i % m ≡ j % m → probe before look m w k i ≡ probe before look m w k j
 unfolding probe
-probe-round look m w zero i j e = refl
-probe-round look m w (suc k) i j e = rw (e, probe-round look m w k (suc i) (suc j) (suc-mod-same m i j e))
+probe-round before look m w zero i j e = refl
+probe-round before look m w (suc k) i j e = rw (e, probe-round before look m w k (suc i) (suc j) (suc-mod-same m i j e))
+
+-- what was met, where it is none of the others
+pub not-here : (r : Met) → OneOf (0 ∷ 2 ∷ []) (tagOf the-type r) → r ≡ Here → ⊥
+not-here r k e = miss (0 ∷ 2 ∷ []) 1 tt (rw e at k)
+
+pub not-other : (r : Met) → OneOf (0 ∷ 1 ∷ []) (tagOf the-type r) → r ≡ Other → ⊥
+not-other r k e = miss (0 ∷ 1 ∷ []) 2 tt (rw e at k)
+
+-- it tells whether the label is passed, and whether it is the one
+module _ (before : Label → Label → Bool) (l w : Label) where
+  pub met-past : (meeting before l w ≡ Here → ⊥) → (meeting before l w ≡ Other → ⊥) → passes-label before l w ≡ true
+  unfolding meeting met
+  met-past = go (passes-label before l w) (same-label l w)
+    where
+      go : (p q : Bool) → (cond p Past (cond q Here Other) ≡ Here → ⊥) → (cond p Past (cond q Here Other) ≡ Other → ⊥) → p ≡ true
+      go true q h o = refl
+      go false true h o = absurd (h refl)
+      go false false h o = absurd (o refl)
+
+  pub met-here : meeting before l w ≡ Here → (passes-label before l w ≡ false) × (same-label l w ≡ true)
+  unfolding meeting met
+  met-here = go (passes-label before l w) (same-label l w)
+    where
+      go : (p q : Bool) → cond p Past (cond q Here Other) ≡ Here → (p ≡ false) × (q ≡ true)
+      go true q e = absurd (true≢false cc)
+      go false true e = (refl, refl)
+      go false false e = absurd (true≢false cc)
+
+  pub met-other : meeting before l w ≡ Other → (passes-label before l w ≡ false) × (same-label l w ≡ false)
+  unfolding meeting met
+  met-other = go (passes-label before l w) (same-label l w)
+    where
+      go : (p q : Bool) → cond p Past (cond q Here Other) ≡ Other → (p ≡ false) × (q ≡ false)
+      go true q e = absurd (true≢false cc)
+      go false true e = absurd (true≢false cc)
+      go false false e = (refl, refl)
 
 -- what the loop of `find_from` keeps: the search from its start goes on from block i
-pub record Probing (look : ℕ → Label) (m : ℕ) (w : Label) (most start left i : ℕ) : Type 0 where
+pub record Probing (before : Label → Label → Bool) (look : ℕ → Label) (m : ℕ) (w : Label) (most start left i : ℕ) : Type 0 where
   pub inside : i < m
-  pub rest : probe look m w most start ≡ probe look m w left i
+  pub rest : probe before look m w most start ≡ probe before look m w left i
 
-module _ (look : ℕ → Label) (m : ℕ) (w : Label) (most start : ℕ) where
-  pub probing-start : start < m → Probing look m w most start most start
+module _ (before : Label → Label → Bool) (look : ℕ → Label) (m : ℕ) (w : Label) (most start : ℕ) where
+  pub probing-start : start < m → Probing before look m w most start most start
   probing-start h = record { inside = h; rest = refl }
 
-  module _ (left i : ℕ) (q : Probing look m w most start left i) where
-    pub probing-end : left ≡ 0 → Nothing ≡ probe look m w most start
+  module _ (left i : ℕ) (q : Probing before look m w most start left i) where
+    pub probing-end : left ≡ 0 → Nothing ≡ probe before look m w most start
     unfolding probe
     probing-end z = sym (q .rest ∙ rw z)
 
-    module _ (s : Bool) (es : s ≡ passes-label (look i) w) (some : left ≡ 0 → ⊥) where
-      step : probe look m w most start ≡ probe look m w (suc (left - 1)) i
-      step = q .rest ∙ ap (λ (k : ℕ). probe look m w k i) (omega arith)
+    module _ (r : Met) (er : r ≡ meeting before (look i) w) (some : left ≡ 0 → ⊥) where
+      step : probe before look m w most start ≡ probe before look m w (suc (left - 1)) i
+      step = q .rest ∙ ap (λ (k : ℕ). probe before look m w k i) (omega arith)
 
-      pub probing-more : s ≡ true → (n : ℕ) → n ≡ (i + 1) % m → n < m → Probing look m w most start (left - 1) n
+      pub probing-more : (r ≡ Here → ⊥) → (r ≡ Other → ⊥) → (n : ℕ) → n ≡ (i + 1) % m → n < m → Probing before look m w most start (left - 1) n
       unfolding probe
-      probing-more e n en h =
-          let r : suc i % m ≡ n % m = ap (_% m) (sym (add-one i)) ∙ sym en ∙ sym (mod-eq-of-lt h) in
-          let one : probe look m w (suc (left - 1)) i ≡ probe look m w (left - 1) (suc i) = rw (mod-eq-of-lt (q .inside), ← es, e) in
-          record { inside = h; rest = step ∙ one ∙ probe-round look m w (left - 1) (suc i) n r }
+      probing-more h o n en l =
+          let on : suc i % m ≡ n % m = ap (_% m) (sym (add-one i)) ∙ sym en ∙ sym (mod-eq-of-lt l) in
+          let one : probe before look m w (suc (left - 1)) i ≡ probe before look m w (left - 1) (suc i) =
+          rw (mod-eq-of-lt (q .inside), met-past before (look i) w (λ e. h (er ∙ e)) (λ e. o (er ∙ e))) in
+          record { inside = l; rest = step ∙ one ∙ probe-round before look m w (left - 1) (suc i) n on }
 
-      module _ (e : s ≡ false) (l : Label) (t : Bool) (at : l ≡ look i) (et : t ≡ same-label l w) where
-        stopped : probe look m w most start ≡ cond t (At i) Nothing
-        unfolding probe
-        stopped = step ∙ rw (mod-eq-of-lt (q .inside), ← es, e, et, at)
+      pub probing-here : r ≡ Here → At i ≡ probe before look m w most start
+      unfolding probe
+      probing-here h = let e = met-here before (look i) w (sym er ∙ h) in sym (step ∙ rw (mod-eq-of-lt (q .inside), e .0, e .1))
 
-        pub probing-same : t ≡ true → At i ≡ probe look m w most start
-        probing-same h = sym (stopped ∙ rw h)
-
-        pub probing-other : t ≡ false → Nothing ≡ probe look m w most start
-        probing-other h = sym (stopped ∙ rw h)
+      pub probing-other : r ≡ Other → Nothing ≡ probe before look m w most start
+      unfolding probe
+      probing-other o = let e = met-other before (look i) w (sym er ∙ o) in sym (step ∙ rw (mod-eq-of-lt (q .inside), e .0, e .1))
 
 -- going round
 pub around-inside : (i m : ℕ) → i < m → i ≡ i % m
@@ -86,17 +125,17 @@ around-first i m h l =
     let e : i ≡ m = omega arith in
     sym (rw e (mod-self m))
 
--- A SEARCH PASSES all blocks of lower levels
-module _ (look : ℕ → Label) (m : ℕ) (w : Label) where
-  lower-passes : (i : ℕ) → is-lower look (w .level) i ≡ true → passes-label (look i) w ≡ true
-  unfolding passes-label before is-lower
-  lower-passes i e = let p = and-parts (ltb 0 (look i .level)) (ltb (look i .level) (w .level)) e in rw (p .0, p .1)
+-- A SEARCH PASSES all blocks of lower levels in version 1
+module _ (s : Sizes) (first : s .version ≡ 1) (look : ℕ → Label) (m : ℕ) (w : Label) where
+  lower-passes : (i : ℕ) → is-lower look (w .level) i ≡ true → passes-label (before s) (look i) w ≡ true
+  unfolding passes-label is-lower
+  lower-passes i e = let p = and-parts (ltb 0 (look i .level)) (ltb (look i .level) (w .level)) e in rw (p .0, before-lower s first (look i) w, p .1)
 
-  passed-one : (f i : ℕ) → i < m → 0 < f → is-lower look (w .level) i ≡ true → probe look m w f i ≡ probe look m w (f - 1) (suc i)
+  passed-one : (f i : ℕ) → i < m → 0 < f → is-lower look (w .level) i ≡ true → probe (before s) look m w f i ≡ probe (before s) look m w (f - 1) (suc i)
   unfolding probe
   passed-one f i h some e =
       let n : f ≡ suc (f - 1) = omega arith in
-      ap (λ (k : ℕ). probe look m w k i) n ∙ rw (mod-eq-of-lt h, lower-passes i e)
+      ap (λ (k : ℕ). probe (before s) look m w k i) n ∙ rw (mod-eq-of-lt h, lower-passes i e)
 
   past-least : (c i : ℕ) → i ≤ past-lower look (w .level) c i
   unfolding past-lower
@@ -104,30 +143,52 @@ module _ (look : ℕ → Label) (m : ℕ) (w : Label) where
   past-least (suc c) i = cond-valid (λ n. i ≤ n) (is-lower look (w .level) i) (omega (arith, past-least c (suc i))) (le-refl i)
 
   past-probe : (c f i : ℕ) → i + c ≤ m → c ≤ f →
-      probe look m w f i ≡ probe look m w (f - (past-lower look (w .level) c i - i)) (past-lower look (w .level) c i)
+      probe (before s) look m w f i ≡ probe (before s) look m w (f - (past-lower look (w .level) c i - i)) (past-lower look (w .level) c i)
   unfolding past-lower
-  past-probe zero f i h g = ap (λ (k : ℕ). probe look m w k i) (omega arith)
+  past-probe zero f i h g = ap (λ (k : ℕ). probe (before s) look m w k i) (omega arith)
   past-probe (suc c) f i h g = go (is-lower look (w .level) i) refl (past-least c (suc i)) (past-probe c (f - 1) (suc i) (omega arith) (omega arith))
     where
       go : (b : Bool) → is-lower look (w .level) i ≡ b → suc i ≤ past-lower look (w .level) c (suc i) →
-          probe look m w (f - 1) (suc i) ≡ probe look m w (f - 1 - (past-lower look (w .level) c (suc i) - suc i)) (past-lower look (w .level) c (suc i)) →
-          probe look m w f i ≡ probe look m w (f - (cond b (past-lower look (w .level) c (suc i)) i - i)) (cond b (past-lower look (w .level) c (suc i)) i)
-      go true e l r = passed-one f i (omega arith) (omega arith) e ∙ r ∙ ap (λ (n : ℕ). probe look m w n (past-lower look (w .level) c (suc i))) (omega arith)
-      go false e l r = ap (λ (k : ℕ). probe look m w k i) (omega arith)
+          probe (before s) look m w (f - 1) (suc i) ≡ probe (before s) look m w (f - 1 - (past-lower look (w .level) c (suc i) - suc i)) (past-lower look (w .level) c (suc i)) →
+          probe (before s) look m w f i ≡ probe (before s) look m w (f - (cond b (past-lower look (w .level) c (suc i)) i - i)) (cond b (past-lower look (w .level) c (suc i)) i)
+      go true e l r = passed-one f i (omega arith) (omega arith) e ∙ r ∙ ap (λ (n : ℕ). probe (before s) look m w n (past-lower look (w .level) c (suc i))) (omega arith)
+      go false e l r = ap (λ (k : ℕ). probe (before s) look m w k i) (omega arith)
 
   -- .. and goes on from the first block that is not of a lower level
-  pub past-search : (start i j : ℕ) (r : Found) → start < m → i ≡ past-lower look (w .level) (m - start) start → j ≡ i % m → j < m →
-      r ≡ probe look m w (m - (i - start)) j → r ≡ probe look m w m start
+  past-search : (start i j : ℕ) (r : Found) → start < m → i ≡ past-lower look (w .level) (m - start) start → j ≡ i % m → j < m →
+      r ≡ probe (before s) look m w (m - (i - start)) j → r ≡ probe (before s) look m w m start
   past-search start i j r h ei ej hj er =
-      let there : probe look m w m start ≡ probe look m w (m - (i - start)) i =
-      past-probe (m - start) m start (omega arith) (omega arith) ∙ ap (λ (x : ℕ). probe look m w (m - (x - start)) x) (sym ei) in
-      er ∙ probe-round look m w (m - (i - start)) j i (mod-eq-of-lt hj ∙ ej) ∙ sym there
+      let there : probe (before s) look m w m start ≡ probe (before s) look m w (m - (i - start)) i =
+      past-probe (m - start) m start (omega arith) (omega arith) ∙ ap (λ (x : ℕ). probe (before s) look m w (m - (x - start)) x) (sym ei) in
+      er ∙ probe-round (before s) look m w (m - (i - start)) j i (mod-eq-of-lt hj ∙ ej) ∙ sym there
+
+-- as `passed` and `find_past` ask
+module _ (s : Sizes) (look : ℕ → Label) where
+  pub passed-none : (l start : ℕ) → (s .version ≡ 1 → ⊥) → start ≡ passed-to s look l start
+  unfolding passed-to
+  passed-none l start n = rw (ne-eqb (s .version) 1 n)
+
+  pub passed-some : (l start r : ℕ) → s .version ≡ 1 → r ≡ past-lower look l (s .blocks - start) start → r ≡ passed-to s look l start
+  unfolding passed-to
+  passed-some l start r v e = rw (eq-eqb (s .version) 1 v) e
+
+  pub passed-search : (w : Label) (start i j : ℕ) (r : Found) → start < s .blocks → i ≡ passed-to s look (w .level) start → j ≡ i % s .blocks → j < s .blocks →
+      r ≡ probe (before s) look (s .blocks) w (s .blocks - (i - start)) j → r ≡ probe (before s) look (s .blocks) w (s .blocks) start
+  unfolding passed-to
+  passed-search w start i j r h ei ej hj er = go (eqb (s .version) 1) refl ei
+    where
+      go : (t : Bool) → eqb (s .version) 1 ≡ t → i ≡ cond t (past-lower look (w .level) (s .blocks - start) start) start → r ≡ probe (before s) look (s .blocks) w (s .blocks) start
+      go true v e = past-search s (eqb-true _ _ v) look (s .blocks) w start i j r h e ej hj er
+      go false v e =
+          let same : j ≡ start = ej ∙ ap (λ (n : ℕ). n % s .blocks) e ∙ mod-eq-of-lt h in
+          let all : s .blocks - (i - start) ≡ s .blocks = omega arith in
+          er ∙ rw (all, same)
 
 -- the search for a label is the one from home on, round the whole table
 pub home-search : (s : Sizes) (bs : List ℕ) (w : Label) (start : ℕ) (r : Found) → start ≡ home s w →
-    r ≡ probe (label-in (block-long s) bs) (s .blocks) w (s .blocks) start → r ≡ search-in s bs w
+    r ≡ probe (before s) (label-in (block-long s) bs) (s .blocks) w (s .blocks) start → r ≡ search-in s bs w
 unfolding search-in
-home-search s bs w start r eh er = er ∙ ap (probe (label-in (block-long s) bs) (s .blocks) w (s .blocks)) eh
+home-search s bs w start r eh er = er ∙ ap (probe (before s) (label-in (block-long s) bs) (s .blocks) w (s .blocks)) eh
 
 -- what the loops of `past_fours` and `past_lower` keep
 pub record Lowering (look : ℕ → Label) (l m start i : ℕ) : Type 0 where
@@ -220,11 +281,11 @@ abbrev below : Found → (m : ℕ) → Type 0
 below (At i) m = i < m
 below Nothing m = Unit
 
-probe-below : (look : ℕ → Label) (m : ℕ) (w : Label) (k i : ℕ) → 0 < m → below (probe look m w k i) m
+probe-below : (before : Label → Label → Bool) (look : ℕ → Label) (m : ℕ) (w : Label) (k i : ℕ) → 0 < m → below (probe before look m w k i) m
 unfolding probe
-probe-below look m w zero i pos = tt
-probe-below look m w (suc k) i pos =
-    cond-valid (λ r. below r m) (passes-label (look (i % m)) w) (probe-below look m w k (suc i) pos)
+probe-below before look m w zero i pos = tt
+probe-below before look m w (suc k) i pos =
+    cond-valid (λ r. below r m) (passes-label before (look (i % m)) w) (probe-below before look m w k (suc i) pos)
     (cond-valid (λ r. below r m) (same-label (look (i % m)) w) (mod-lt i pos) tt)
 
 -- as `remove` asks, of what the search gave
@@ -247,34 +308,116 @@ found-some g bs w r i e q = rw (← q, e)
 
 pub search-below : (g : Sizes) (bs : List ℕ) (w : Label) (r : Found) (i : ℕ) → r ≡ At i → r ≡ search-in g bs w → Shaped g bs → i < g .blocks
 unfolding search-in
-search-below g bs w r i e q s = rw (sym q ∙ e) at (probe-below (label-in (block-long g) bs) (g .blocks) w (g .blocks) (home g w) (s .some))
+search-below g bs w r i e q s = rw (sym q ∙ e) at (probe-below (before g) (label-in (block-long g) bs) (g .blocks) w (g .blocks) (home g w) (s .some))
 
-pub passes-empty : (l w : Label) → l .level ≡ 0 → false ≡ passes-label l w
+pub passes-empty : (before : Label → Label → Bool) (l w : Label) → l .level ≡ 0 → 0 < w .level → false ≡ passes-label before l w
 unfolding passes-label
-passes-empty l w e = rw e
+passes-empty before l w e h = rw (e, ne-eqb 0 (w .level) (omega arith))
 
--- the level of the label in block i decides, where it is not the one that is looked for
-module _ (w : ℕ) (bs : List ℕ) (i a v : ℕ) (want : Label) (ea : a ≡ 53 + i * w) (ev : v ≡ getD bs a 0) where
-  pub passes-none : v ≤ 0 → ltb 0 v ≡ passes-label (label-in w bs i) want
-  unfolding label-in
-  passes-none h =
-      let z : v ≡ 0 = omega arith in
-      rw z (passes-empty (label-in w bs i) want (sym (rw ea at ev) ∙ z))
-
-  pub passes-level : 0 < v → (v ≡ want .level → ⊥) → ltb v (want .level) ≡ passes-label (label-in w bs i) want
-  unfolding passes-label before label-in
-  passes-level h ne = rw (← ea, ← ev, lt-ltb 0 v h, ne-eqb v (want .level) ne) (or-none (ltb v (want .level)))
-    where
-      or-none : (t : Bool) → t ≡ (t || false)
-      or-none true = refl
-      or-none false = refl
-
-pub passes-there : (l l′ w : Label) (t : Bool) → l ≡ l′ → t ≡ passes-label l w → t ≡ passes-label l′ w
-passes-there l l′ w t e q = q ∙ ap (λ (z : Label). passes-label z w) e
-
-pub passes-held : (l w : Label) (t : Bool) → t ≡ before l w → (l .level ≡ 0 → ⊥) → t ≡ passes-label l w
+pub passes-held : (before : Label → Label → Bool) (l w : Label) (t : Bool) → t ≡ before l w → (l .level ≡ 0 → ⊥) → t ≡ passes-label before l w
 unfolding passes-label
-passes-held l w t e ne = let h : 0 < l .level = pos-of-ne-zero ne in e ∙ rw (lt-ltb 0 (l .level) h)
+passes-held before l w t e ne = let h : 0 < l .level = pos-of-ne-zero ne in e ∙ rw (lt-ltb 0 (l .level) h)
+
+passes-level : (before : Label → Label → Bool) (l w : Label) → l .level ≡ w .level → before l w ≡ passes-label before l w
+unfolding passes-label
+passes-level before l w e = go (ltb 0 (l .level)) (eqb (l .level) (w .level)) (eq-eqb _ _ e)
+  where
+    go : (p q : Bool) → q ≡ true → before l w ≡ ((p || q) && before l w)
+    go true q h = refl
+    go false true h = refl
+    go false false h = absurd (false≢true h)
+
+-- a label that is passed is no empty block, where none is looked for
+pub passes-some : (before : Label → Label → Bool) (l w : Label) → 0 < w .level → passes-label before l w ≡ true → (0 < l .level) × (before l w ≡ true)
+unfolding passes-label
+passes-some before l w h e = let p = and-parts (ltb 0 (l .level) || eqb (l .level) (w .level)) (before l w) e in (go (ltb 0 (l .level)) (eqb (l .level) (w .level)) refl refl (p .0), p .1)
+  where
+    go : (p q : Bool) → ltb 0 (l .level) ≡ p → eqb (l .level) (w .level) ≡ q → (p || q) ≡ true → 0 < l .level
+    go true q a b c = ltb-true 0 (l .level) a
+    go false true a b c = omega (arith, h, eqb-true (l .level) (w .level) b)
+    go false false a b c = absurd (false≢true c)
+
+-- as `past_if` asks
+pub met-yes : (t : Bool) → t ≡ true → Past ≡ met t false
+unfolding met
+met-yes t e = rw e
+
+pub met-no : (t : Bool) → t ≡ false → Other ≡ met t false
+unfolding met
+met-no t e = rw e
+
+-- as `meets` asks of block i: the first part of its label that is another than that of the one looked for decides
+module _ (s : Sizes) (w : ℕ) (bs : List ℕ) (i a v : ℕ) (want : Label) (ea : a ≡ 53 + i * w) (ev : v ≡ getD bs a 0) where
+  at-level : v ≡ label-in w bs i .level
+  at-level = level-there w bs i a v (want .level) ea ev
+
+  -- another label than the one looked for
+  another : (t : Bool) → t ≡ passes-label (before s) (label-in w bs i) want → (label-in w bs i ≡ want → ⊥) → (r : Met) → r ≡ met t false → r ≡ meeting (before s) (label-in w bs i) want
+  unfolding meeting
+  another t et n r er = er ∙ rw (et, ne-same (label-in w bs i) want n)
+
+  module _ (ne : v ≡ want .level → ⊥) (t : Bool) (et : t ≡ level-before s v (want .level)) where
+    differs : label-in w bs i ≡ want → ⊥
+    differs e = ne (at-level ∙ ap (λ (l : Label). l .level) e)
+
+    by-level : t ≡ before s (label-in w bs i) want
+    by-level = before-level s (label-in w bs i) want (λ q. ne (at-level ∙ q)) t (et ∙ ap (λ (x : ℕ). level-before s x (want .level)) at-level)
+
+    pub meets-after : t ≡ false → Other ≡ meeting (before s) (label-in w bs i) want
+    unfolding passes-label
+    meets-after z =
+        another t (z ∙ sym (rw (← by-level, z) (and-false (ltb 0 (label-in w bs i .level) || eqb (label-in w bs i .level) (want .level))))) differs Other (met-no t z)
+
+    pub meets-level : t ≡ true → (r : Met) → r ≡ met (ltb 0 v) false → r ≡ meeting (before s) (label-in w bs i) want
+    unfolding passes-label
+    meets-level z =
+        another (ltb 0 v) (ap (ltb 0) at-level ∙ plain (ltb 0 (label-in w bs i .level)) _ _ (ne-eqb _ _ (λ q. ne (at-level ∙ q))) (sym by-level ∙ z)) differs
+      where
+        split : (p : Bool) → p ≡ ((p || false) && true)
+        split true = refl
+        split false = refl
+
+        plain : (p q b : Bool) → q ≡ false → b ≡ true → p ≡ ((p || q) && b)
+        plain p q b e f = rw (e, f) (split p)
+
+  module _ (e : v ≡ want .level) (f : ℕ) (ef : f ≡ field (a + 4) 4 bs) where
+    level-same : label-in w bs i .level ≡ want .level
+    level-same = sym at-level ∙ e
+
+    at-first : f ≡ label-in w bs i .first
+    unfolding label-in
+    at-first = ef ∙ ap (λ (x : ℕ). field (x + 4) 4 bs) ea
+
+    passed-by : (t : Bool) → t ≡ before s (label-in w bs i) want → t ≡ passes-label (before s) (label-in w bs i) want
+    passed-by t et = et ∙ passes-level (before s) (label-in w bs i) want level-same
+
+    pub meets-first : (f ≡ want .first → ⊥) → (r : Met) → r ≡ met (ltb f (want .first)) false → r ≡ meeting (before s) (label-in w bs i) want
+    meets-first ne =
+        another (ltb f (want .first)) (passed-by _ (ap (λ (x : ℕ). ltb x (want .first)) at-first ∙ before-first s (label-in w bs i) want level-same (λ q. ne (at-first ∙ q))))
+        (λ q. ne (at-first ∙ ap (λ (l : Label). l .first) q))
+
+    module _ (first : f ≡ want .first) (n : ℕ) (en : n ≡ field (a + 2) 2 bs) where
+      at-number : n ≡ label-in w bs i .number
+      unfolding label-in
+      at-number = en ∙ ap (λ (x : ℕ). field (x + 2) 2 bs) ea
+
+      by-number : ltb n (want .number) ≡ passes-label (before s) (label-in w bs i) want
+      by-number = passed-by _ (ap (λ (x : ℕ). ltb x (want .number)) at-number ∙ before-number s (label-in w bs i) want level-same (sym at-first ∙ first))
+
+      other-number : (n ≡ want .number → ⊥) → (r : Met) → r ≡ met (ltb n (want .number)) false → r ≡ meeting (before s) (label-in w bs i) want
+      other-number ne = another (ltb n (want .number)) by-number (λ q. ne (at-number ∙ ap (λ (l : Label). l .number) q))
+
+      pub meets-less : n < want .number → Past ≡ meeting (before s) (label-in w bs i) want
+      meets-less h = other-number (λ z. omega arith) Past (met-yes (ltb n (want .number)) (lt-ltb n (want .number) h))
+
+      pub meets-more : want .number ≤ n → (n ≡ want .number → ⊥) → Other ≡ meeting (before s) (label-in w bs i) want
+      meets-more h ne = other-number ne Other (met-no (ltb n (want .number)) (le-ltb n (want .number) h))
+
+      pub meets-here : n ≡ want .number → Here ≡ meeting (before s) (label-in w bs i) want
+      unfolding meeting met
+      meets-here z =
+          let one = one-label (label-in w bs i) want level-same (sym at-first ∙ first) (sym at-number ∙ z) in
+          rw (← by-number, le-ltb n (want .number) (omega arith), is-same (label-in w bs i) want one)
 
 -- what the loop of `pull_back` keeps: the removal goes on from the block that is k further, on the bytes as they are
 pub record Pulling (g : Sizes) (at : ℕ) (bs₀ bs : List ℕ) (hole k : ℕ) : Type 0 where
@@ -347,15 +490,15 @@ unfolding label-in
 empty-says s bs want i a v ei ea ev = rw (ev, ea, ei)
 
 -- ends the search
-probe-none : (look : ℕ → Label) (m : ℕ) (want : Label) (k i : ℕ) → i < m → 1 ≤ want .level → look i .level ≡ 0 → probe look m want k i ≡ Nothing
+probe-none : (before : Label → Label → Bool) (look : ℕ → Label) (m : ℕ) (want : Label) (k i : ℕ) → i < m → 1 ≤ want .level → look i .level ≡ 0 → probe before look m want k i ≡ Nothing
 unfolding probe same-label
-probe-none look m want zero i h lo z = refl
-probe-none look m want (suc k) i h lo z = rw (mod-eq-of-lt h, ← passes-empty (look i) want z, z, ne-eqb 0 (want .level) (λ q. omega arith))
+probe-none before look m want zero i h lo z = refl
+probe-none before look m want (suc k) i h lo z = rw (mod-eq-of-lt h, ← passes-empty before (look i) want z lo, z, ne-eqb 0 (want .level) (λ q. omega arith))
 
 pub search-none : (s : Sizes) (bs : List ℕ) (want : Label) → Shaped s bs → 1 ≤ want .level → eqb (label-in (block-long s) bs (home s want) .level) 0 ≡ true
     → search-in s bs want ≡ Nothing
 unfolding search-in
-search-none s bs want h lo e = probe-none (label-in (block-long s) bs) (s .blocks) want (s .blocks) (home s want) (home-inside s (h .some) want) lo (eqb-true _ _ e)
+search-none s bs want h lo e = probe-none (before s) (label-in (block-long s) bs) (s .blocks) want (s .blocks) (home s want) (home-inside s (h .some) want) lo (eqb-true _ _ e)
 
 -- a sum below p, and one that is less than p past it
 pub home-below : (s : Sizes) (w : Label) (h r : ℕ) → h ≡ hash-from 5 5 (s .seed) (w .first) → h + 65536 * w .level + w .number < 2147483647
@@ -383,7 +526,7 @@ pub record Settling (g : Sizes) (e start n : ℕ) (bs₀ bs : List ℕ) (k : ℕ
   pub shaped : Shaped g bs
   pub within : k ≤ n
   pub same : length bs ≡ length bs₀
-  pub rest : settle (bytes (block-long g)) (g .blocks) n e start bs₀ ≡ settle (bytes (block-long g)) (g .blocks) (n - k) e (start + k) bs
+  pub rest : settle (bytes (block-long g)) (before g) (g .blocks) n e start bs₀ ≡ settle (bytes (block-long g)) (before g) (g .blocks) (n - k) e (start + k) bs
 
 module _ (g : Sizes) (e start n : ℕ) (bs₀ : List ℕ) where
   pub settling-start : Shaped g bs₀ → Settling g e start n bs₀ bs₀ 0
@@ -391,29 +534,29 @@ module _ (g : Sizes) (e start n : ℕ) (bs₀ : List ℕ) where
 
   module _ (bs : List ℕ) (k : ℕ) (p : Settling g e start n bs₀ bs k) where
     pub settling-more : k < n → (bs′ : List ℕ) → length bs′ ≡ length bs
-        → bs′ ≡ cond (before (label-in (block-long g) bs e) (label-in (block-long g) bs ((start + k) % g .blocks))) (swap-in (block-long g) bs ((start + k) % g .blocks) e) bs
+        → bs′ ≡ cond (before g (label-in (block-long g) bs e) (label-in (block-long g) bs ((start + k) % g .blocks))) (swap-in (block-long g) bs ((start + k) % g .blocks) e) bs
         → Settling g e start n bs₀ bs′ (k + 1)
     unfolding settle
     settling-more h bs′ l q =
         record { shaped = shaped-same g bs bs′ (p .shaped) l; within = omega arith; same = l ∙ p .same; rest = p .rest ∙ rw (one-left h, one-on start k, q) }
 
-    pub settling-end : n ≤ k → bs ≡ settle (bytes (block-long g)) (g .blocks) n e start bs₀
+    pub settling-end : n ≤ k → bs ≡ settle (bytes (block-long g)) (before g) (g .blocks) n e start bs₀
     unfolding settle
     settling-end h = rw (p .rest, sub-eq-zero-of-le h)
 
 -- what a comparison of the labels of two blocks picks; and where it holds neither block is the other
-module _ (w : ℕ) (bs : List ℕ) (i j : ℕ) (x y : Label) (t : Bool) (ex : x ≡ label-in w bs i) (ey : y ≡ label-in w bs j) (et : t ≡ before x y) where
-  compares : before (label-in w bs i) (label-in w bs j) ≡ t
+module _ (s : Sizes) (w : ℕ) (bs : List ℕ) (i j : ℕ) (x y : Label) (t : Bool) (ex : x ≡ label-in w bs i) (ey : y ≡ label-in w bs j) (et : t ≡ before s x y) where
+  compares : before s (label-in w bs i) (label-in w bs j) ≡ t
   compares = sym (rw (et, ex, ey))
 
-  pub picks-first : (z a b : List ℕ) → t ≡ true → z ≡ a → z ≡ cond (before (label-in w bs i) (label-in w bs j)) a b
+  pub picks-first : (z a b : List ℕ) → t ≡ true → z ≡ a → z ≡ cond (before s (label-in w bs i) (label-in w bs j)) a b
   picks-first z a b h e = rw (compares, h) e
 
-  pub picks-second : (a b : List ℕ) → t ≡ false → b ≡ cond (before (label-in w bs i) (label-in w bs j)) a b
+  pub picks-second : (a b : List ℕ) → t ≡ false → b ≡ cond (before s (label-in w bs i) (label-in w bs j)) a b
   picks-second a b h = rw (compares, h)
 
   pub before-differs : t ≡ true → j ≡ i → ⊥
-  before-differs h q = false≢true (sym (labels-strict (label-in w bs i)) ∙ (rw q at (compares ∙ h)))
+  before-differs h q = false≢true (sym (labels-strict s (label-in w bs i)) ∙ (rw q at (compares ∙ h)))
 
 -- what the loop of `free` keeps
 pub record Freeing (look : ℕ → Label) (m start k : ℕ) : Type 0 where
@@ -499,7 +642,7 @@ module _ (g : Sizes) (bs : List ℕ) (l : Label) (start : ℕ) (r : Found) (es :
   inserted-found x q = sym q ∙ er ∙ rw es
 
   pub inserted-made : (e k n : ℕ) (xs s₁ s₂ : List ℕ) → s₁ ≡ put-block (block-long g) bs e (block-with (block-long g) l n xs) → k ≡ distance-of (g .blocks) start e
-      → s₂ ≡ settle (bytes (block-long g)) (g .blocks) k e start s₁ → s₂ ≡ inserted g (At e) l n xs bs
+      → s₂ ≡ settle (bytes (block-long g)) (before g) (g .blocks) k e start s₁ → s₂ ≡ inserted g (At e) l n xs bs
   unfolding inserted
   inserted-made e k n xs s₁ s₂ e₁ ek e₂ = e₂ ∙ rw (ek, es, e₁)
 

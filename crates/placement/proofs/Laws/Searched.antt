@@ -10,7 +10,7 @@ use lib.ListN.{length, getD, take}
 use lib.Seq.{length-take-le}
 use Rattle.placement.specs.Blocks.{Block, empty, holds, around, holds-smaller, Stands, Rule-3, how-many}
 use Rattle.sizes.specs.declared.Sizes.{Sizes}
-use Rattle.placement.specs.Labels.{label}
+use Rattle.placement.specs.Labels.{label, before}
 use Rattle.placement.specs.Chunks.{Chunk, chunk-home, chunk-before, all-bytes}
 use Rattle.sizes.specs.Sizes.{made}
 use Rattle.sizes.specs.Header.{sizes-in, block-long}
@@ -40,29 +40,29 @@ pub record Ended (before : Chunk → Chunk → Bool) (m : ℕ) (c : Chunk) (bl :
   pub there : (i + steps) % m ≡ j
   pub smaller : (l : ℕ) → l < steps → holds-smaller before c (around m bl (i + l)) ≡ true
 
-module _ (m : ℕ) (c : Chunk) (bl : List (Block Chunk)) where
+module _ (before : Chunk → Chunk → Bool) (m : ℕ) (c : Chunk) (bl : List (Block Chunk)) where
   same-at : (a b : ℕ) → At a ≡ At b → a ≡ b
   same-at a b e = cc
 
-  pub ended : (f i j : ℕ) → place-of m (search-from chunk-before f i m c bl) ≡ At j → Ended chunk-before m c bl f i j
+  pub ended : (f i j : ℕ) → place-of m (search-from before f i m c bl) ≡ At j → Ended before m c bl f i j
   unfolding search-from
   ended zero i j e = absurd (true≢false cc)
   ended (suc f) i j e = go (around m bl i) refl e (λ z. ended f (suc i) j z)
     where
-      later : (d : Chunk) → around m bl i ≡ holds d → chunk-before d c ≡ true → Ended chunk-before m c bl f (suc i) j → Ended chunk-before m c bl (suc f) i j
+      later : (d : Chunk) → around m bl i ≡ holds d → before d c ≡ true → Ended before m c bl f (suc i) j → Ended before m c bl (suc f) i j
       later d z h r = record { steps = suc (r .steps); few = omega (arith, r .few); there = ap (λ (n : ℕ). n % m) (omega arith) ∙ r .there; smaller = all }
         where
-          all : (l : ℕ) → l < suc (r .steps) → holds-smaller chunk-before c (around m bl (i + l)) ≡ true
+          all : (l : ℕ) → l < suc (r .steps) → holds-smaller before c (around m bl (i + l)) ≡ true
           all zero w = rw (add-zero, z) h
-          all (suc l) w = ap (λ (n : ℕ). holds-smaller chunk-before c (around m bl n)) (omega arith) ∙ r .smaller l (omega arith)
+          all (suc l) w = ap (λ (n : ℕ). holds-smaller before c (around m bl n)) (omega arith) ∙ r .smaller l (omega arith)
 
-      go : (b : Block Chunk) → around m bl i ≡ b → place-of m (search-step chunk-before c i b (search-from chunk-before f (suc i) m c bl)) ≡ At j
-          → (place-of m (search-from chunk-before f (suc i) m c bl) ≡ At j → Ended chunk-before m c bl f (suc i) j) → Ended chunk-before m c bl (suc f) i j
+      go : (b : Block Chunk) → around m bl i ≡ b → place-of m (search-step before c i b (search-from before f (suc i) m c bl)) ≡ At j
+          → (place-of m (search-from before f (suc i) m c bl) ≡ At j → Ended before m c bl f (suc i) j) → Ended before m c bl (suc f) i j
       go empty z e rest = absurd (true≢false cc)
-      go (holds d) z e rest = test (chunk-before d c) (chunk-before c d) refl e
+      go (holds d) z e rest = test (before d c) (before c d) refl e
         where
-          test : (p q : Bool) → chunk-before d c ≡ p → place-of m (cond p (search-from chunk-before f (suc i) m c bl) (cond q absent (at-place i d))) ≡ At j
-              → Ended chunk-before m c bl (suc f) i j
+          test : (p q : Bool) → before d c ≡ p → place-of m (cond p (search-from before f (suc i) m c bl) (cond q absent (at-place i d))) ≡ At j
+              → Ended before m c bl (suc f) i j
           test true q h e = later d z h (rest e)
           test false true h e = absurd (true≢false cc)
           test false false h e = record { steps = 0; few = omega arith; there = rw add-zero (same-at (i % m) j e); smaller = λ l w. absurd (omega arith) }
@@ -70,7 +70,7 @@ module _ (m : ℕ) (c : Chunk) (bl : List (Block Chunk)) where
 module _ (s : Sizes) (some : 0 < s .blocks) (bl : List (Block Chunk)) (v : All-good s bl) where
   -- the search over the labels finds every chunk in its block
   abbrev pub All-found : Type 0
-  All-found = (c : Chunk) (i : ℕ) → i < s .blocks → getD bl i empty ≡ holds c → probe (λ j. label-of (getD bl j empty)) (s .blocks) (c .label) (s .blocks) (chunk-home s c) ≡ At i
+  All-found = (c : Chunk) (i : ℕ) → i < s .blocks → getD bl i empty ≡ holds c → probe (before s) (λ j. label-of (getD bl j empty)) (s .blocks) (c .label) (s .blocks) (chunk-home s c) ≡ At i
 
   -- what stands in a good block can be held
   holdable : (c : Chunk) (i : ℕ) → getD bl i empty ≡ holds c → Holdable s c
@@ -80,13 +80,13 @@ module _ (s : Sizes) (some : 0 < s .blocks) (bl : List (Block Chunk)) (v : All-g
       go (held q) = q
 
   -- RULE 3
-  pub found-rule-3 : All-found → Rule-3 (chunk-home s) chunk-before (s .blocks) bl
+  pub found-rule-3 : All-found → Rule-3 (chunk-home s) (chunk-before s) (s .blocks) bl
   unfolding around
   found-rule-3 found c k few z =
       let i : ℕ = (chunk-home s c + k) % s .blocks in
-      let e : place-of (s .blocks) (search-from chunk-before (s .blocks) (chunk-home s c) (s .blocks) c bl) ≡ At i =
-      sym (probe-theory (c .label) (holdable c i z .level) (c .nodes) s (s .blocks) (s .blocks) (chunk-home s c) bl v) ∙ found c i (mod-lt (chunk-home s c + k) some) z in
-      let r = ended (s .blocks) c bl (s .blocks) (chunk-home s c) i e in
+      let e : place-of (s .blocks) (search-from (chunk-before s) (s .blocks) (chunk-home s c) (s .blocks) c bl) ≡ At i =
+      sym (probe-theory s (c .label) (holdable c i z .level) (c .nodes) (s .blocks) (s .blocks) (chunk-home s c) bl v) ∙ found c i (mod-lt (chunk-home s c + k) some) z in
+      let r = ended (chunk-before s) (s .blocks) c bl (s .blocks) (chunk-home s c) i e in
       λ l w. r .smaller l (omega (arith, steps-same (s .blocks) (chunk-home s c) (home-inside s some (c .label)) (r .steps) k (r .few) few (r .there)))
 
 -- a table, from blocks where each search ends at its block

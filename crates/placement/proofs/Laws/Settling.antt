@@ -12,6 +12,7 @@ use lib.Seq.{set-set, set-comm, getD-set-same, getD-set-other}
 use borrow.Author.Tests.{eq-eqb, ne-eqb}
 use Rattle.placement.specs.Blocks.{Block, empty, holds, around, stored, is-free}
 use Rattle.sizes.specs.declared.Sizes.{Sizes}
+use Rattle.placement.specs.Labels.{before}
 use Rattle.placement.specs.Chunks.{Chunk, chunk-before}
 use Rattle.placement.specs.Place.{settle, free-in}
 use Rattle.placement.specs.declared.Label.{Label}
@@ -57,16 +58,16 @@ module _ (s : Sizes) (some : 0 < s .blocks) where
         full l w (yes u) = rw (stored-there (s .blocks) bs i (j + l) (holds c) some (a .long) u)
         full l w (no u) = rw (stored-elsewhere (s .blocks) bs i (j + l) (holds c) u) (a .full l w)
 
-    not-both : (c d : Chunk) → chunk-before d c ≡ true → chunk-before c d ≡ false
-    not-both c d h = go (chunk-before c d) refl
+    not-both : (c d : Chunk) → (chunk-before s) d c ≡ true → (chunk-before s) c d ≡ false
+    not-both c d h = go ((chunk-before s) c d) refl
       where
-        go : (b : Bool) → chunk-before c d ≡ b → chunk-before c d ≡ false
+        go : (b : Bool) → (chunk-before s) c d ≡ b → (chunk-before s) c d ≡ false
         go false z = z
-        go true z = absurd (true≢false (sym (labels-chain (c .label) (d .label) (c .label) z h) ∙ labels-strict (c .label)))
+        go true z = absurd (true≢false (sym (labels-chain s (c .label) (d .label) (c .label) z h) ∙ labels-strict s (c .label)))
 
     -- the code keeps the carried chunk in the empty block
     pub settle-theory : (k f i : ℕ) (c : Chunk) (bs : List (Block Chunk)) → Carried f i c bs → Ahead k i e bs
-        → settle places (s .blocks) k e i (set bs e (holds c)) ≡ insert-from chunk-before f i (s .blocks) c bs
+        → settle places (before s) (s .blocks) k e i (set bs e (holds c)) ≡ insert-from (chunk-before s) f i (s .blocks) c bs
     unfolding settle insert-from around stored
     settle-theory k zero i c bs y a = absurd (omega (arith, y .near .few))
     settle-theory zero (suc f) i c bs y a =
@@ -77,12 +78,12 @@ module _ (s : Sizes) (some : 0 < s .blocks) where
         (λ d u n. settle-theory k f (suc i) d (stored (s .blocks) bs i (holds c)) u (ahead-stored k (suc i) i bs c n (ahead-on k i bs a)))
       where
         go : (b : Block Chunk) → around (s .blocks) bs i ≡ b → is-free b ≡ false
-            → (Carried f (suc i) c bs → settle places (s .blocks) k e (suc i) (set bs e (holds c)) ≡ insert-from chunk-before f (suc i) (s .blocks) c bs)
+            → (Carried f (suc i) c bs → settle places (before s) (s .blocks) k e (suc i) (set bs e (holds c)) ≡ insert-from (chunk-before s) f (suc i) (s .blocks) c bs)
             → ((d : Chunk) → Carried f (suc i) d (stored (s .blocks) bs i (holds c)) → i % s .blocks ≢ e
-            → settle places (s .blocks) k e (suc i) (set (stored (s .blocks) bs i (holds c)) e (holds d)) ≡ insert-from chunk-before f (suc i) (s .blocks) d (stored (s .blocks) bs i (holds c)))
-            → settle places (s .blocks) (suc k) e i (set bs e (holds c)) ≡ insert-from chunk-before (suc f) i (s .blocks) c bs
+            → settle places (before s) (s .blocks) k e (suc i) (set (stored (s .blocks) bs i (holds c)) e (holds d)) ≡ insert-from (chunk-before s) f (suc i) (s .blocks) d (stored (s .blocks) bs i (holds c)))
+            → settle places (before s) (s .blocks) (suc k) e i (set bs e (holds c)) ≡ insert-from (chunk-before s) (suc f) i (s .blocks) c bs
         go empty z h on swap = absurd (true≢false h)
-        go (holds d) z h on swap = rw (own, other) (by (chunk-before d c) refl)
+        go (holds d) z h on swap = rw (own, other) (by ((chunk-before s) d c) refl)
           where
             ne : i % s .blocks ≢ e
             ne q = true≢false (cc (a .free, z))
@@ -96,10 +97,10 @@ module _ (s : Sizes) (some : 0 < s .blocks) where
             swapped : set (set (set bs e (holds c)) (i % s .blocks) (holds c)) e (holds d) ≡ set (set bs (i % s .blocks) (holds c)) e (holds d)
             swapped = rw (set-comm bs e (i % s .blocks) (holds c) (holds c) (λ u. ne (sym u)), set-set (set bs (i % s .blocks) (holds c)) e (holds c) (holds d))
 
-            by : (b : Bool) → chunk-before d c ≡ b
-                → settle places (s .blocks) k e (suc i)
-                (cond (chunk-before c d) (set (set (set bs e (holds c)) (i % s .blocks) (holds c)) e (holds d)) (set bs e (holds c)))
-                ≡ insert-from chunk-before (suc f) i (s .blocks) c bs
+            by : (b : Bool) → (chunk-before s) d c ≡ b
+                → settle places (before s) (s .blocks) k e (suc i)
+                (cond ((chunk-before s) c d) (set (set (set bs e (holds c)) (i % s .blocks) (holds c)) e (holds d)) (set bs e (holds c)))
+                ≡ insert-from (chunk-before s) (suc f) i (s .blocks) c bs
             by true h = rw (not-both c d h, z, h) (on (carry-on (ordered (lawful s some)) y d z h))
             by false h =
                 rw (y .other d (record { at = i; is = z }) h, z, h, swapped) (swap d (carry-swap (ordered (lawful s some)) y d z h) ne)

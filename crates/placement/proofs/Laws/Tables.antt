@@ -173,7 +173,7 @@ module _ (s : Sizes) (F : Map) (n : ℕ) (hd bs : List ℕ) (t : Table s F n hd 
       → bs′ ≡ inserted s r w (length ns) (nodes-bytes (row s) ns) bs → Table s (with-nodes w ns F) (suc n) hd bs′
   unfolding with-chunk
   insert-keeps w ns q gone full room r bs′ er eb =
-      now-keeps (with-nodes w ns F) (suc n) (insert-from chunk-before (s .blocks) (home s w) (s .blocks) (labelled w ns) (t .blocks)) bs′
+      now-keeps (with-nodes w ns F) (suc n) (insert-from (chunk-before s) (s .blocks) (home s w) (s .blocks) (labelled w ns) (t .blocks)) bs′
       (eb ∙ ap (inserted s r w (length ns) (nodes-bytes (row s) ns)) (t .is)
       ∙ insert-at s some hd (t .head) (t .blocks) all (t .keeps .long) F n (t .keeps) w ns q gone room r
       (er ∙ ap (λ (x : List ℕ). free-in (label-in (block-long s) x) (s .blocks) (s .blocks) (home s w)) (t .is)))

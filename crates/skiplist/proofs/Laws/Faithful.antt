@@ -7,29 +7,30 @@ use Prim.Native.Nat.{ℕ, _*_, _≤_, _<_}
 use lib.ListN.{length, take, drop}
 use Rattle.sizes.specs.Sizes.{beta}
 use Rattle.placement.specs.Blocks.{Among}
-use Rattle.placement.specs.Labels.{label, before, same-label}
+use Rattle.placement.specs.Labels.{label, same-label}
 use Rattle.placement.specs.Chunks.{Chunk}
 use Rattle.placement.specs.Maps.{map-of}
 use Rattle.sizes.specs.declared.Sizes.{Sizes}
 use Rattle.placement.specs.declared.Order.{Order}
 use Rattle.placement.specs.declared.Label.{Label}
-use Rattle.placement.proofs.Laws.Labels.{labels-chain, same-is, isnt-same}
+use Rattle.sizes.proofs.Laws.Orders.{Ordering}
+use Rattle.placement.proofs.Laws.Labels.{lower-first, lower-ordering, same-is, isnt-same}
 use Rattle.skiplist.specs.Lists.{masked, chunks}
 use Rattle.skiplist.proofs.Laws.Parts.{Up, part}
 use Rattle.skiplist.proofs.Laws.Content.{picked, content, content-is}
 use Rattle.skiplist.proofs.Laws.Pieces.{piece-of, piece-filled}
 use Rattle.skiplist.proofs.Laws.Rise.{Rises, chunks-rise}
 
-rises-from : (v w : Label) (cs : List Chunk) → before v w ≡ true → Rises w cs → Rises v cs
+rises-from : (v w : Label) (cs : List Chunk) → lower-first v w ≡ true → Rises w cs → Rises v cs
 rises-from v w [] h r = tt
-rises-from v w (c ∷ cs) h r = (labels-chain v w (c .label) h (r .0), r .1)
+rises-from v w (c ∷ cs) h r = (lower-ordering .chain v w (c .label) h (r .0), r .1)
 
 -- nothing stands under a label before all
 content-before : (l f i : ℕ) (cs : List Chunk) → Rises (label l f i) cs → content l f i cs ≡ []
 unfolding picked
 content-before l f i [] r = refl
 content-before l f i (c ∷ cs) r =
-    rw (isnt-same (c .label) (label l f i) (r .0)) (content-before l f i cs (rises-from (label l f i) (c .label) cs (r .0) (r .1)))
+    rw (isnt-same lower-ordering (c .label) (label l f i) (r .0)) (content-before l f i cs (rises-from (label l f i) (c .label) cs (r .0) (r .1)))
 
 -- where labels rise a label stands once, so all that stands under it is what the map of the chunks tells
 pub map-content : (l f i : ℕ) (cs : List Chunk) (w : Label) → Rises w cs → map-of cs l f i ≡ content l f i cs

@@ -16,13 +16,13 @@ use Rattle.placement.proofs.Laws.Tables.{same-bytes}
 use Rattle.skiplist.specs.Lists.{chunks, blocks}
 use Rattle.skiplist.specs.Image.{image, orders-good, fits}
 use Rattle.skiplist.proofs.Laws.Kept.{fits-parts}
-use Rattle.skiplist.proofs.Laws.Rising.{chunks-rising}
+use Rattle.skiplist.proofs.Laws.Rising.{chunks-comparable}
 use Rattle.skiplist.proofs.Laws.Sound.{chunks-full, chunks-sound}
 
 module _ (s : Sizes) (os : List Order) where
   pub blocks-keep : made s ≡ true → orders-good s 1 os ≡ true → fits s os ≡ true → Keeps s (blocks s os) (map-of (chunks s os)) (length (chunks s os))
   unfolding blocks
-  blocks-keep m g f = placed-keeps s (chunks s os) (some-blocks s m) (chunks-rising s os g) (fits-parts s os f .room) (chunks-full s os m)
+  blocks-keep m g f = placed-keeps s (chunks s os) (some-blocks s m) (chunks-comparable s os g) (fits-parts s os f .room) (chunks-full s os m)
 
   unfoldable pub image-keeps : made s ≡ true → orders-good s 1 os ≡ true → fits s os ≡ true → Table s (map-of (chunks s os)) (length (chunks s os)) (header s (length os)) (image s os)
   unfolding image

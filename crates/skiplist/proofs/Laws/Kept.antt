@@ -7,6 +7,7 @@ use native.Mathlib.Omega.{arith}
 use borrow.Author.Tests.{ltb-true, ltb-false, leb-true, eqb-true, eqb-false, le-leb}
 use lib.Dec.{ltb, leb, eqb}
 use lib.ListN.{length, length-append}
+use Rattle.sizes.specs.Orders.{sort-in}
 use Rattle.sizes.specs.Sizes.{prime, beta}
 use Rattle.sizes.specs.declared.Sizes.{Sizes}
 use Rattle.placement.specs.declared.Order.{Order}
@@ -43,7 +44,7 @@ good-without s a k (o ∷ os) e =
 
 pub good-into : (s : Sizes) (a : ℕ) (y : Order) (os : List Order) → a ≤ y .key → ltb (y .key) prime ≡ true → quantities-good s (y .total) (y .displayed) (y .price) ≡ true → held (y .key) os ≡ false →
     orders-good s a os ≡ true → orders-good s a (into y os) ≡ true
-unfolding into held orders-good
+unfolding sort-in held orders-good
 good-into s a y [] h p q n e = good-make s a y [] h p q e
 good-into s a y (o ∷ os) h p q n e = go (good-parts s a o os e) (λ h′ n′ e′. good-into s (suc (o .key)) y os h′ p q n′ e′) (ltb (y .key) (o .key)) refl
   where

@@ -7,6 +7,7 @@ use native.Mathlib.Omega.{arith}
 use borrow.Author.Tests.{ltb-true, ltb-false, eq-eqb, ne-eqb, lt-ltb, le-ltb}
 use lib.Dec.{ltb, eqb}
 use lib.ListN.{length, drop, length-drop, length-map, take-append-drop}
+use Rattle.sizes.specs.Orders.{sort-in}
 use Rattle.sizes.specs.Sizes.{beta}
 use Rattle.placement.specs.Chunks.{Chunk}
 use Rattle.sizes.specs.declared.Sizes.{Sizes}
@@ -63,7 +64,7 @@ all-into-append [] ns acc = refl
 all-into-append (m ∷ ms) ns acc = all-into-append ms ns (cond (eqb (m .key) 0) acc (into m acc))
 
 pub into-comm : (a b : Order) (os : List Order) → a .key < b .key → into a (into b os) ≡ into b (into a os)
-unfolding into
+unfolding sort-in
 into-comm a b [] h = rw (lt-ltb (a .key) (b .key) h, le-ltb (b .key) (a .key) (omega arith))
 into-comm a b (q ∷ os) h = go (into-comm a b os h) (ltb (a .key) (q .key)) refl (ltb (b .key) (q .key)) refl
   where

@@ -17,8 +17,9 @@ use Rattle.placement.specs.declared.Order.{Order}
 use Rattle.sizes.proofs.Laws.Round.{steps-apart}
 use Rattle.placement.proofs.Laws.Blocks.{around-inside, stored-long, Far, far}
 use Rattle.placement.proofs.Laws.Store.{before-store}
-use Rattle.placement.proofs.Laws.Placed.{Rising, Placing, store-count, nothing, one-placement}
-use Rattle.placement.proofs.Laws.Labels.{labels-strict}
+use Rattle.placement.proofs.Laws.Placed.{Rising, Placing, store-count, nothing}
+use Rattle.sizes.proofs.Laws.Orders.{Ordering}
+use Rattle.placement.proofs.Laws.Labels.{lower-ordering}
 use Rattle.placement.proofs.Laws.Maps.{lawful}
 use Rattle.placement.proofs.Laws.Kinds.{ordered, one-place}
 use Rattle.placement.proofs.Laws.Tables.{how-many-most}
@@ -28,14 +29,14 @@ use Rattle.skiplist.specs.Image.{image, orders-in, orders-good, fits, is
 use Rattle.skiplist.specs.Rules.{Rules, Image-exactly}
 use Rattle.skiplist.specs.Promise.{Image-reads-back}
 use Rattle.skiplist.proofs.Laws.Kept.{fits-parts, fits-make}
-use Rattle.skiplist.proofs.Laws.Rising.{chunks-rising}
+use Rattle.skiplist.proofs.Laws.Rising.{lower-chunk, chunks-rising}
 use Rattle.skiplist.proofs.Laws.Paths.{inside}
 use Rattle.skiplist.proofs.Laws.Third.{image-parts}
 use Rattle.skiplist.proofs.Laws.Readback.{reads-back}
-use Rattle.skiplist.proofs.Laws.Arranged.{blocks-placing}
+use Rattle.skiplist.proofs.Laws.Arranged.{blocks-placing, the-blocks}
 
 -- chunks by rising labels that all stand are no more than the full blocks
-pub fewer : (m : ℕ) → zero < m → (cs : List Chunk) (bs : List (Block Chunk)) → length bs ≡ m → Rising chunk-before cs → ((c : Chunk) → Among c cs → Stands m bs c) → length cs ≤ how-many bs
+pub fewer : (m : ℕ) → zero < m → (cs : List Chunk) (bs : List (Block Chunk)) → length bs ≡ m → Rising lower-chunk cs → ((c : Chunk) → Among c cs → Stands m bs c) → length cs ≤ how-many bs
 fewer m some [] bs p u all = omega arith
 fewer m some (c ∷ cs) bs p u all =
     let t = all c (inl refl) in
@@ -46,7 +47,7 @@ fewer m some (c ∷ cs) bs p u all =
     )
   where
     other : (d : Chunk) → Among d cs → (around m bs (all c (inl refl) .at) ≡ holds d) ⊎ Stands m (stored m bs (all c (inl refl) .at) empty) d → Stands m (stored m bs (all c (inl refl) .at) empty) d
-    other d a (inl e) = absurd (true≢false (cc (u .0 d a, labels-strict (c .label), all c (inl refl) .is)))
+    other d a (inl e) = absurd (true≢false (cc (u .0 d a, lower-ordering .strict (c .label), all c (inl refl) .is)))
     other d a (inr w) = w
 
 -- WHAT THE RULES GIVE
@@ -57,7 +58,7 @@ module _ (s : Sizes) (os : List Order) (x : List ℕ) (w : Rules s os x) where
   stands : (c : Chunk) → Among c (chunks s os) → Stands (s .blocks) (w .table) c
   stands c a = let t = w .there c a in record { at = t .0; is = around-inside (s .blocks) (w .table) (t .0) (omega (arith, t .1, w .number)) ∙ t .2 }
 
-  ruled : Rule-3 (chunk-home s) chunk-before (s .blocks) (w .table)
+  ruled : Rule-3 (chunk-home s) (chunk-before s) (s .blocks) (w .table)
   unfolding around
   ruled c k h e l g = w .smaller ((chunk-home s c + k) % s .blocks) c e l (λ u le q. omega (arith, steps-apart (s .blocks) (chunk-home s c) u k (omega arith) h q))
 
@@ -68,18 +69,17 @@ module _ (s : Sizes) (os : List Order) (x : List ℕ) (w : Rules s os x) where
   rules-fit = fits-make s os (w .few) room
 
   rules-image : x ≡ image s os
-  unfolding image blocks around
+  unfolding image around
   rules-image =
       w .bytes ∙ ap (λ (z : List (Block Chunk)). header s (length os) ++ all-bytes s z)
-      (one-placement (ordered (lawful s some)) (chunks s os) (w .table) (chunks-rising s os (w .good)) room (w .number) ruled stands
-      (λ c t. w .only (t .at % s .blocks) c (t .is)))
+      (the-blocks s os (w .table) some (w .good) room (w .number) ruled stands (λ c t. w .only (t .at % s .blocks) c (t .is)))
 
 -- AN IMAGE obeys the rules
 module _ (s : Sizes) (os : List Order) (m : made s ≡ true) (g : orders-good s 1 os ≡ true) (f : fits s os ≡ true) where
   some-block : zero < s .blocks
   some-block = some-blocks s m
 
-  placing : Placing (chunk-home s) chunk-before (s .blocks) (chunks s os) (replicate (s .blocks) empty) (blocks s os)
+  placing : Placing (chunk-home s) (chunk-before s) (s .blocks) (chunks s os) (replicate (s .blocks) empty) (blocks s os)
   placing = blocks-placing s os m g f
 
   below : (j : ℕ) (c : Chunk) → getD (blocks s os) j empty ≡ holds c → j < s .blocks
@@ -93,7 +93,7 @@ module _ (s : Sizes) (os : List Order) (m : made s ≡ true) (g : orders-good s 
   placed-only c (inr t) = absurd (nothing (ordered (lawful s some-block)) c t)
 
   passed : (j : ℕ) (c : Chunk) → getD (blocks s os) j empty ≡ holds c → (t : ℕ) → ((u : ℕ) → u ≤ t → (chunk-home s c + u) % s .blocks ≡ j → ⊥) →
-      holds-smaller chunk-before c (getD (blocks s os) ((chunk-home s c + t) % s .blocks) empty) ≡ true
+      holds-smaller (chunk-before s) c (getD (blocks s os) ((chunk-home s c + t) % s .blocks) empty) ≡ true
   unfolding around
   passed j c e t never =
       let y = far (ordered (lawful s some-block)) (blocks s os) c j (here j c e) in

@@ -6,6 +6,7 @@ use Prim.Native.Nat.{ℕ, suc, _<_}
 use native.Mathlib.Omega.{arith}
 use borrow.Author.Tests.{ltb-true, ltb-false, eqb-true, eqb-false, eq-eqb, ne-eqb, lt-ltb, le-ltb}
 use lib.Dec.{ltb, leb, eqb}
+use Rattle.sizes.specs.Orders.{sort-in}
 use Rattle.sizes.specs.Hash.{level}
 use Rattle.sizes.specs.declared.Sizes.{Sizes}
 use Rattle.placement.specs.declared.Order.{Order}
@@ -55,7 +56,7 @@ without-absent k (o ∷ os) e = go (λ e′. without-absent k os e′) (eqb (o .
     go ih false e′ = rw (ih e′)
 
 pub into-between : (y : Order) (xs zs : List Order) → below (y .key) xs ≡ true → Up (suc (y .key)) zs → into y (xs ++ zs) ≡ xs ++ y ∷ zs
-unfolding into below
+unfolding sort-in below
 into-between y [] [] e u = refl
 into-between y [] (z ∷ zs) e u = rw (lt-ltb (y .key) (z .key) (u .0))
 into-between y (x ∷ xs) zs e u =

@@ -9,6 +9,7 @@ use lib.Dec.{leb, eqb}
 use borrow.Author.Tests.{leb-true, leb-false, eqb-true, eqb-false, eq-eqb, ne-eqb, le-leb, lt-leb}
 use lib.ListN.{length, take, drop, replicate, length-replicate, replicate-append-replicate}
 use lib.Seq.{sets, sets-eq, length-sets, take-all, drop-at, drop-length}
+use Rattle.sizes.specs.Orders.{sorted}
 use Rattle.sizes.specs.Numbers.{rows, rows-in}
 use Rattle.sizes.specs.Sizes.{beta, sizes-good, seed-good, made}
 use Rattle.sizes.specs.Header.{block-long, table-long, header}
@@ -52,7 +53,7 @@ all-zeros x =
     sets-eq (zeros (length x)) x 0 (omega arith) ∙ rw (e, zero-add, drop-length, append-nil)
 
 empty-keeps : (s : Sizes) → made s ≡ true → Keeps s (replicate (s .blocks) empty) (map-of []) 0
-unfolding placed
+unfolding placed sorted
 empty-keeps s m = placed-keeps s [] (some-blocks s m) tt (omega arith) (λ c a. absurd a)
 
 module _ (s : Sizes) (m : made s ≡ true) where

@@ -10,14 +10,15 @@ use borrow.Author.Tests.{eqb-true, eqb-false}
 use lib.Dec.{eqb}
 use lib.ListN.{length}
 use Rattle.placement.specs.Blocks.{Among, Block, empty, holds, around, stored, Stands, how-many}
-use Rattle.placement.specs.Chunks.{Chunk, chunk-before}
+use Rattle.placement.specs.Chunks.{Chunk}
 use Rattle.placement.proofs.Laws.Blocks.{stored-long, stored-elsewhere}
 use Rattle.placement.proofs.Laws.Store.{before-store}
 use Rattle.placement.proofs.Laws.Placed.{Rising, store-count}
+use Rattle.skiplist.proofs.Laws.Rising.{lower-chunk}
 use Rattle.skiplist.proofs.Laws.Rules.{fewer}
 
 module _ (m : ℕ) (some : zero < m) where
-  pub once : (cs : List Chunk) (bs : List (Block Chunk)) → length bs ≡ m → Rising chunk-before cs → ((c : Chunk) → Among c cs → Stands m bs c) → how-many bs ≡ length cs →
+  pub once : (cs : List Chunk) (bs : List (Block Chunk)) → length bs ≡ m → Rising lower-chunk cs → ((c : Chunk) → Among c cs → Stands m bs c) → how-many bs ≡ length cs →
       (c : Chunk) (i j : ℕ) → i < m → j < m → around m bs i ≡ holds c → around m bs j ≡ holds c → i ≡ j
   once cs bs p u all n c i j hi hj ei ej = go (eqb i j) refl
     where

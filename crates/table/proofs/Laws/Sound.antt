@@ -11,7 +11,7 @@ use lib.Seq.{length-take-le}
 use Rattle.sizes.specs.Sizes.{row, made}
 use Rattle.sizes.specs.Header.{block-long, table-long, header, sizes-in}
 use Rattle.placement.specs.Blocks.{Among, Block, empty, holds, Stands, how-many}
-use Rattle.placement.specs.Chunks.{Chunk, chunk-before}
+use Rattle.placement.specs.Chunks.{Chunk}
 use Rattle.sizes.specs.Parts.{block-in}
 use Rattle.placement.specs.Decode.{chunk-of, block-of, cut, blocks-in}
 use Rattle.placement.specs.Place.{label-in, search-in}
@@ -23,7 +23,8 @@ use Rattle.sizes.proofs.Laws.Numbers.{Bytes}
 use Rattle.sizes.proofs.Laws.Sizes.{some-blocks, some-nodes}
 use Rattle.placement.proofs.Laws.Blocks.{around-inside}
 use Rattle.placement.proofs.Laws.Placed.{counted}
-use Rattle.placement.proofs.Laws.Labels.{labels-strict}
+use Rattle.sizes.proofs.Laws.Orders.{Ordering}
+use Rattle.placement.proofs.Laws.Labels.{lower-ordering}
 use Rattle.placement.proofs.Laws.Maps.{nodes-at}
 use Rattle.sizes.proofs.Laws.Headers.{sizes-head}
 use Rattle.placement.proofs.Laws.Cells.{cut-length, label-cell}
@@ -39,7 +40,7 @@ use Rattle.skiplist.proofs.Laws.Masks.{map-take, map-drop}
 use Rattle.skiplist.proofs.Laws.Faithful.{Filled, chunks-filled}
 use Rattle.skiplist.proofs.Laws.Kept.{fits-make}
 use Rattle.skiplist.proofs.Laws.Pieces.{chunks-are}
-use Rattle.skiplist.proofs.Laws.Rising.{chunks-rising}
+use Rattle.skiplist.proofs.Laws.Rising.{lower-chunk, chunks-rising}
 use Rattle.skiplist.proofs.Laws.Opens.{Heading}
 use Rattle.skiplist.proofs.Laws.Decode.{blocks-back}
 use Rattle.skiplist.proofs.Laws.Arranged.{one-arrangement}
@@ -126,7 +127,7 @@ module _ (bs : List ℕ) (u : Bytes bs) (a : Accepted bs) where
   -- AND NOTHING ELSE does
   only : (i : ℕ) (c : Chunk) → i < s .blocks → getD (blocks-in s bs) i empty ≡ holds c → Among c (chunks s os)
   only i c h e =
-      counted chunk-before (s .blocks) some (λ c. labels-strict (c .label)) (chunks s os) (blocks-in s bs) blocks-many (chunks-rising s os (a .good)) stands count c
+      counted lower-chunk (s .blocks) some (λ c. lower-ordering .strict (c .label)) (chunks s os) (blocks-in s bs) blocks-many (chunks-rising s os (a .good)) stands count c
       (record { at = i; is = around-inside (s .blocks) (blocks-in s bs) i h ∙ e })
 
   full-block : (i : ℕ) → i < s .blocks → 0 < getD (block-in (block-long s) bs i) 0 0 → getD (blocks-in s bs) i empty ≡ holds (chunk-of (row s) (block-in (block-long s) bs i))

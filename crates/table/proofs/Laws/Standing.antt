@@ -15,7 +15,7 @@ use Rattle.placement.specs.Blocks.{empty, holds}
 use Rattle.placement.specs.Chunks.{Chunk}
 use Rattle.sizes.specs.Parts.{block-in}
 use Rattle.placement.specs.Decode.{node-in, nodes-from, head-label, chunk-of, block-of, cut, blocks-in}
-use Rattle.placement.specs.Labels.{label, same-label, home}
+use Rattle.placement.specs.Labels.{label, before, same-label, home}
 use Rattle.placement.specs.Place.{label-in, passes-label, probe, search-in, found-at}
 use Rattle.sizes.specs.declared.Sizes.{Sizes}
 use Rattle.placement.specs.declared.Order.{Order}
@@ -91,13 +91,13 @@ level-says s bs b = ap (λ (z : Label). z .level) (sym (label-cell (8 + row s * 
 at-same : (a p : ℕ) → At a ≡ At p → a ≡ p
 at-same a p e = cc
 
-pub probe-at : (look : ℕ → Label) (m : ℕ) (w : Label) (pos : 0 < m) (k i p : ℕ) → probe look m w k i ≡ At p → (p < m) × (same-label (look p) w ≡ true)
+pub probe-at : (before : Label → Label → Bool) (look : ℕ → Label) (m : ℕ) (w : Label) (pos : 0 < m) (k i p : ℕ) → probe before look m w k i ≡ At p → (p < m) × (same-label (look p) w ≡ true)
 unfolding probe
-probe-at look m w pos zero i p e = absurd (true≢false cc)
-probe-at look m w pos (suc k) i p e = go (probe-at look m w pos k (suc i) p) (passes-label (look (i % m)) w) (same-label (look (i % m)) w) refl e
+probe-at before look m w pos zero i p e = absurd (true≢false cc)
+probe-at before look m w pos (suc k) i p e = go (probe-at before look m w pos k (suc i) p) (passes-label before (look (i % m)) w) (same-label (look (i % m)) w) refl e
   where
-    go : (probe look m w k (suc i) ≡ At p → (p < m) × (same-label (look p) w ≡ true)) → (t u : Bool) → same-label (look (i % m)) w ≡ u →
-        cond t (probe look m w k (suc i)) (cond u (At (i % m)) Nothing) ≡ At p → (p < m) × (same-label (look p) w ≡ true)
+    go : (probe before look m w k (suc i) ≡ At p → (p < m) × (same-label (look p) w ≡ true)) → (t u : Bool) → same-label (look (i % m)) w ≡ u →
+        cond t (probe before look m w k (suc i)) (cond u (At (i % m)) Nothing) ≡ At p → (p < m) × (same-label (look p) w ≡ true)
     go ih true u q h = ih h
     go ih false true q h =
         let f = at-same (i % m) p h in
@@ -119,7 +119,7 @@ standing s bs pos l f i ns h e few nodes = go (chunk-spot s bs l f i) refl e few
     go : (r : Found) → chunk-spot s bs l f i ≡ r → found-at r ≡ true → count-in (block-long s) bs (spot r) ≤ s .nodes → chunk-read s bs (spot r) ≡ ns → Standing s bs (record { label = label l f i; nodes = ns })
     go Nothing q t few n = absurd (false≢true t)
     go (At p) q t few n =
-        let v = probe-at (label-in (block-long s) bs) (s .blocks) (label l f i) pos (s .blocks) (home s (label l f i)) p q in
+        let v = probe-at (before s) (label-in (block-long s) bs) (s .blocks) (label l f i) pos (s .blocks) (home s (label l f i)) p q in
         let z = same-is (label-in (block-long s) bs p) (label l f i) (v .1) in
         let lev : getD (block-in (block-long s) bs p) 0 0 ≡ l = level-says s bs p ∙ ap (λ (x : Label). x .level) z in
         let b : block-of (row s) (block-in (block-long s) bs p) ≡ holds (chunk-of (row s) (block-in (block-long s) bs p)) = rw (ne-eqb (getD (block-in (block-long s) bs p) 0 0) 0 (λ y. omega (arith, y, lev))) in

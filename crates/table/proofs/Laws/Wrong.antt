@@ -7,12 +7,13 @@ use native.Mathlib.Omega.{arith}
 use borrow.Author.Tests.{leb-true, eqb-false, eq-eqb}
 use lib.Dec.{ltb, leb, eqb}
 use lib.ListN.{length, take, drop, replicate}
+use Rattle.sizes.specs.Orders.{sort-in, sorted}
 use Rattle.sizes.specs.Numbers.{big, value-from, field, rows, rows-in}
 use Rattle.sizes.specs.Sizes.{least-power, beta, row, sizes-good, seed-good, made}
 use Rattle.sizes.specs.Hash.{hash-from, h, g, divides-from, level}
 use Rattle.sizes.specs.Header.{block-long, table-long, header, sizes-in, held-in, rule-1}
 use Rattle.placement.specs.Blocks.{around, stored, place-from, placed}
-use Rattle.placement.specs.Labels.{same-label, home}
+use Rattle.placement.specs.Labels.{same-label, home, level-before, before}
 use Rattle.placement.specs.Chunks.{node-bytes, block-bytes}
 use Rattle.placement.specs.Decode.{node-in, head-label, chunk-of, block-of, blocks-in}
 use Rattle.sizes.specs.declared.Sizes.{Sizes}
@@ -44,7 +45,7 @@ edit-holds c x z w = subst (Holds (sizes-in x) (changed c (orders-in x))) (sym (
 
 -- an order, with its quantities
 into-tells : (o : Order) (os : List Order) → held (o .key) os ≡ false → Tells o (into o os)
-unfolding into held
+unfolding sort-in held
 into-tells o [] e = here o []
 into-tells o (q ∷ os) e = go (ltb (o .key) (q .key)) (into-tells o os (or-right (eqb (q .key) (o .key)) (held (o .key) os) e))
   where
@@ -240,7 +241,7 @@ record Computed : Type 0 where
   goes : descent-path (sizes-in with-both) (orders-in with-both) 4 ≡ 3 ∷ 1 ∷ 0 ∷ []
 
 computed : Computed
-unfolding big value-from field rows rows-in least-power beta row sizes-good seed-good made hash-from h g divides-from level block-long table-long header sizes-in held-in rule-1 around stored place-from placed home node-bytes block-bytes node-in head-label chunk-of block-of blocks-in front at-least list-at starts-one run rest partitions first-key masked chunks-of all-chunks chunks-from chunks blocks image into all-into gathered orders-in price-good quantities-good orders-good fits same is-image pick part last-from pieces greatest nodes-upto labels-from path-labels same-label stands-in descent-path first-no is-key held without with-order between reserve enough any-order lowest gives price-allowed asks-image asks-order asks-room asks-enter asks-amend asks-key asks-descent asks-range asks-span asks-seek asks changed refusal done run-seed run-sizes empty-table enter-3 enter-6 with-6 with-both with-hidden with-behind
+unfolding big value-from field rows rows-in least-power beta row sizes-good seed-good made hash-from h g divides-from level block-long table-long header sizes-in held-in rule-1 around stored place-from placed home node-bytes block-bytes node-in head-label chunk-of block-of blocks-in front at-least list-at starts-one run rest partitions first-key masked chunks-of all-chunks chunks-from chunks blocks image sort-in sorted level-before before all-into gathered orders-in price-good quantities-good orders-good fits same is-image pick part last-from pieces greatest nodes-upto labels-from path-labels same-label stands-in descent-path first-no is-key held without with-order between reserve enough any-order lowest gives price-allowed asks-image asks-order asks-room asks-enter asks-amend asks-key asks-descent asks-range asks-span asks-seek asks changed refusal done run-seed run-sizes empty-table enter-3 enter-6 with-6 with-both with-hidden with-behind
 computed = record { six = refl; three = refl; not-yet = refl; cancels = refl; allowed = refl; spans = refl; finds = refl; seeks = refl; zero = refl; one = refl; smaller = refl; from-4 = refl; behind = refl; taken-3 = refl; lacks-4 = refl; amends = refl; both = refl; lacks = refl; goes = refl }
 
 -- an enter that edits properly once and later only returns 0, or returns whatever it likes
