@@ -90,11 +90,26 @@ static const variant other_calls[] = {
     {"enter", "LMDB alone", lmdb_enter_alone, lmdb_away, 0, 1, FEW, {0}},
 };
 
+/* The same orders in a table of version 2, with prices; for its descents alone. */
+static scene second;
+
+static int second_descent(void *p) { return (void)p, archive_descent(&second); }
+static void second_held(void *p) { (void)p, ask_held(&second); }
+static void second_free(void *p) { (void)p, ask_free(&second); }
+
+static void choose_for_both(void *p) {
+    second.key_random = ((scene *)p)->key_random;
+    choose_keys(p);
+    choose_keys(&second);
+}
+
 /* Each round has its own keys, the same for all. */
 static const variant descents[] = {
     {"descent, key held", "balluchaw", archive_descent, ask_held, 0, ASKED, 1, {0}},
+    {"descent, key held", "balluchaw version 2", second_descent, second_held, 0, ASKED, 1, {0}},
     {"descent, key held", "descent_fast", descent_in_fast_c, ask_held, 0, ASKED, 1, {0}},
     {"descent, key not held", "balluchaw", archive_descent, ask_free, 0, ASKED, 1, {0}},
+    {"descent, key not held", "balluchaw version 2", second_descent, second_free, 0, ASKED, 1, {0}},
     {"descent, key not held", "descent_fast", descent_in_fast_c, ask_free, 0, ASKED, 1, {0}},
 };
 
@@ -155,7 +170,10 @@ static void measure_descents(scene *s, int rounds) {
     int count = add(variants, 0, descents, sizeof descents, s->of.held);
     if (s->of.others) count = add(variants, count, other_descents, sizeof other_descents, s->of.held);
     compare_descents(s);
-    report_keep(variants, count, take_turns(variants, count, s, choose_keys, DESCENT_SECONDS, rounds), EACH_CALL);
+    scene_open(&second, s->of, 2, s->strict);
+    report_keep(variants, count, take_turns(variants, count, s, choose_for_both, DESCENT_SECONDS, rounds), EACH_CALL);
+    same_bytes(&second);
+    scene_close(&second);
     report_path("descent, key held", mean_path(s, ask_held));
     report_path("descent, key not held", mean_path(s, ask_free));
     same_bytes(s);

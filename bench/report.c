@@ -184,7 +184,11 @@ static void print_descent(FILE *to, const char *operation, const char *who, cons
 
 static double in_ns(const row *r) { return r->median; }
 static double over_it(const row *r) { return r->ours; }
+static double over_ours(const row *r) { return 1 / r->ours; }
 static double on_the_path(const row *r) { return r->path; }
+
+/* Of version 2, by the medians. */
+static double over_get(const row *r) { return r->median / find(r->scene, r->operation, "LMDB get")->median; }
 static double paper(const row *r) { return log_nodes(&scenes[r->scene]); }
 
 static void print_descents(FILE *to) {
@@ -197,6 +201,9 @@ static void print_descents(FILE *to) {
         print_descent(to, operations[k], "LMDB get", "for each of LMDB's get", over_it, "");
         print_descent(to, operations[k], "LMDB renew + get", "for each of LMDB's renew and get", over_it, "");
         print_descent(to, operations[k], "BTreeMap", "for each of a BTreeMap", over_it, "");
+        print_descent(to, operations[k], "balluchaw version 2", "ns in version 2", in_ns, "");
+        print_descent(to, operations[k], "balluchaw version 2", "version 2 for each of version 1", over_ours, "   asked for: less than 1, and 0.8 at 60,000");
+        print_descent(to, operations[k], "balluchaw version 2", "version 2 for each of LMDB's get", over_get, "   asked for: at most 1.2 at 60,000");
         print_descent(to, operations[k], "balluchaw", "blocks on the path, mean", on_the_path, "");
         print_descent(to, operations[k], "balluchaw", "log_B n, the paper's", paper, "");
     }

@@ -7,6 +7,8 @@
 
 static const configuration configurations[] = {
     {"load 0.80", 16, 16, 1000, 80, RANDOM, 0, 0},    {"load 0.80", 16, 16, 10000, 80, RANDOM, 0, 0},    {"load 0.80", 16, 16, 60000, 80, RANDOM, 0, 0},
+    {"load 0.65", 16, 16, 1000, 65, RANDOM, 0, 0},    {"load 0.65", 16, 16, 10000, 65, RANDOM, 0, 0},    {"load 0.65", 16, 16, 60000, 65, RANDOM, 0, 0},
+    {"full", 16, 16, 1000, 100, RANDOM, 0, 0},        {"full", 16, 16, 10000, 100, RANDOM, 0, 0},        {"full", 16, 16, 60000, 100, RANDOM, 0, 0},
     {"large blocks", 64, 32, 1000, 80, RANDOM, 0, 0}, {"large blocks", 64, 32, 10000, 80, RANDOM, 0, 0}, {"large blocks", 64, 32, 60000, 80, RANDOM, 0, 0},
     {"small blocks", 2, 2, 1000, 80, RANDOM, 0, 0},   {"small blocks", 2, 2, 10000, 80, RANDOM, 0, 0},   {"small blocks", 2, 2, 30000, 80, RANDOM, 0, 0},
     {"one partition", 16, 16, 60000, 80, FLAT, 0, 0}, {"one reserve", 16, 16, 10000, 80, ONE_RESERVE, 0, 0}, {"one reserve", 2, 2, 10000, 80, ONE_RESERVE, 0, 0},

@@ -2,7 +2,8 @@
  *
  *     versions [ROUNDS]      prints, for each table, the median over the rounds of version 2's time for each ns of version 1's
  *
- * The two tables have the same sizes, seed and orders, and each call is made with the same keys on both; in version 2 every order has a price. */
+ * The two tables have the same sizes, seed and orders, and each call is made with the same keys on both; in version 2 every order has a price, and chunks stand by
+ * that version's order of the labels. */
 #include "sides.h"
 #include "variants.h"
 
@@ -65,11 +66,11 @@ static void choose_for_both(void *p) {
 }
 
 int main(int argc, char **argv) {
-    static const char *const asked[] = {"check", "cancel", "enter", "amend"};
+    static const char *const asked[] = {"check", "cancel", "enter", "amend", "descent", "not held"};
     const sides versions = {version_2_calls, version_1_calls, &both, open_tables, close_tables, choose_for_both};
     double most[SIDE_CALLS];
     compare_sides(&versions, rounds_wanted(argc, argv), most);
-    printf("\nAsked for: at most 1.15 of check, cancel, enter and amend. The most is");
+    printf("\nAsked for: at most 1.15 of check, cancel, enter and amend; at most 1.05 of check, and less than 1 of descents, from A.7 on. The most is");
     for (size_t k = 0; k < sizeof asked / sizeof *asked; k++)
         for (int i = 0; i < SIDE_CALLS; i++)
             if (strcmp(version_1_calls[i].operation, asked[k]) == 0) printf("%s %.3f", k ? "," : "", most[i]);

@@ -20,6 +20,7 @@ typedef struct {
     u32 next[MOST]; /* of a free block itself, of another one further on */
     u32 full;
     u32 from, known; /* so many blocks from one on were passed by the last searches of this level */
+    u32 last;        /* the block of the last chunk placed */
     u64 looks, looks_behind;
 } table;
 
@@ -46,13 +47,15 @@ static u32 home(const table *t, u32 level, u32 first, u32 number) {
 
 static u32 way(const table *t, u32 from, u32 to) { return (to + t->blocks - from) % t->blocks; }
 
-/* Where the search for a label ends, whose smaller labels are placed and larger ones are not: at the first free block. Counts the looks. */
+/* Where the search for a label ends, whose smaller labels are placed and larger ones are not: at the first free block. Counts the looks: at level 1 the search for
+ * a partition's next chunk starts behind the one before. */
 static u32 search(table *t, u32 level, u32 first, u32 number, u32 found) {
     u32 start = home(t, level, first, number), end = start;
-    if (t->full == t->blocks) end = (start + t->blocks - 1) % t->blocks;
+    u32 begin = level == 1 && number ? (t->last + 1) % t->blocks : start;
+    if (t->full == t->blocks) end = (begin + t->blocks - 1) % t->blocks;
     else
         for (; t->next[end] != end; end = t->next[end]) t->next[end] = t->next[t->next[end]];
-    t->looks += way(t, start, end) + 1;
+    t->looks += way(t, begin, end) + 1;
     if (way(t, t->from, start) > t->known) t->from = start, t->known = 0;
     t->looks_behind += way(t, (t->from + t->known) % t->blocks, end) + 1;
     t->known = way(t, t->from, end) + found;
@@ -63,6 +66,7 @@ static u8 *place(table *t, u32 level, u32 first, u32 number) {
     if (t->full == t->blocks) fail("more chunks than blocks");
     u32 i = search(t, level, first, number, 1);
     t->next[i] = (i + 1) % t->blocks;
+    t->last = i;
     t->full++;
     u8 *block = t->bytes + 53 + (size_t)i * BLOCK;
     block[0] = (u8)level;

@@ -7,7 +7,8 @@
  * A table has a version, 1 or 2. Make is given it, and no other call changes it; it is the table's first byte. Version 1 has key, total and
  * displayed of each order, version 2 also a limit price of 1 to 4,294,967,295 ticks. Every call takes either. An order in a version 1 table
  * has price 0: enter and amend are given 0 there, and readings give 0. Tables from before there were prices are version 1, and good as they
- * are. A library from before answers 4 to version 2 tables.
+ * are. A library from before answers 4 to version 2 tables. In version 2 chunks of higher levels stand nearest to their homes, in version 1 those
+ * of lower levels; so a descent looks at fewer blocks in version 2. Answers do not depend on it, but for the blocks on a path.
  *
  * Every call but make and descent first reads the whole table, for question 4. Under a random seed that those who choose keys do not know,
  * and with blocks to spare, that takes time in proportion to the table's length. Whoever sends a table can choose seed and keys to make it
