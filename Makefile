@@ -71,7 +71,7 @@ test-program: reference program
 # Answers and bytes that the reference recorded, from the archive; some of them again with valgrind watching.
 test-vectors: need reference build/vectors
 	@$(REFERENCE)/vectors 20000 | build/vectors
-	@$(REFERENCE)/vectors 1500 | valgrind --quiet --error-exitcode=9 build/vectors heap
+	@$(REFERENCE)/vectors 2100 | valgrind --quiet --error-exitcode=9 build/vectors heap
 
 build/vectors: tests/c/vectors.c tests/c/zone.h include/balluchaw.h $(ARCHIVE)
 	@mkdir -p build
