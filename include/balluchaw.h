@@ -8,7 +8,8 @@
  * displayed of each order, version 2 also a limit price of 1 to 4,294,967,295 ticks. Every call takes either. An order in a version 1 table
  * has price 0: enter and amend are given 0 there, and readings give 0. Tables from before there were prices are version 1, and good as they
  * are. A library from before answers 4 to version 2 tables. In version 2 chunks of higher levels stand nearest to their homes, in version 1 those
- * of lower levels; so a descent looks at fewer blocks in version 2. Answers do not depend on it, but for the blocks on a path.
+ * of lower levels; so a descent passes fewer blocks in version 2, in the mean. Answers do not depend on it, but for the numbers of the
+ * blocks on a path; a path has as many blocks in either version.
  *
  * Every call but make and descent first reads the whole table, for question 4. Under a random seed that those who choose keys do not know,
  * and with blocks to spare, that takes time in proportion to the table's length. Whoever sends a table can choose seed and keys to make it
