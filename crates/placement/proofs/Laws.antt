@@ -8,6 +8,7 @@ pub mod Insertion
 pub mod Removal
 pub mod Search
 pub mod Labels
+pub mod Ahead
 pub mod Kinds
 pub mod Maps
 pub mod Keeps

@@ -2,7 +2,7 @@
 use mathlib.Core.Path.{_≡_}
 use mathlib.Core.List.{List, _∷_, _++_}
 use mathlib.Core.Bool.{Bool, true, false, _&&_, _||_, not, cond}
-use Prim.Native.Nat.{ℕ, zero, suc, _+_, _*_, _-_, _%_, _≤_, _<_}
+use Prim.Native.Nat.{ℕ, zero, suc, _+_, _*_, _-_, _%_, _^_, _≤_, _<_}
 use lib.Dec.{ltb, leb, eqb}
 use lib.ListN.{length, getD, replicate}
 use Rattle.sizes.specs.Numbers.{field, big}
@@ -11,8 +11,9 @@ use Rattle.sizes.specs.Hash.{g}
 use Rattle.sizes.specs.Header.{block-long}
 use Rattle.sizes.specs.Parts.{put-block, clear-in, copy-in, swap-in}
 use Rattle.sizes.specs.declared.Sizes.{Sizes}
-use Rattle.placement.specs.Labels.{before, same-label, home}
+use Rattle.placement.specs.Labels.{level-before, before, same-label, home}
 use Rattle.placement.specs.declared.Label.{Label}
+use Rattle.placement.specs.declared.Ahead.{Ahead}
 use Rattle.placement.specs.declared.Met.{Met}
 use Rattle.placement.specs.declared.Met.the-variants.{Past, Here, Other}
 use Rattle.placement.specs.declared.Found.{Found}
@@ -50,9 +51,19 @@ probe before look m w zero i = Nothing
 probe before look m w (suc k) i =
     cond (passes-label before (look (i % m)) w) (probe before look m w k (suc i)) (cond (same-label (look (i % m)) w) (At (i % m)) Nothing)
 
+-- which levels `a` tells to come before level l: v is one if, less `from` and counted round, it is below `many`
+pub record Leading (s : Sizes) (l : ℕ) (a : Ahead) : Type 0 where
+  pub told : (v d : ℕ) → v < 256 → (v ≡ l → ⊥) → d < 2 ^ 32 → (d + a .from) % 2 ^ 32 ≡ v → ltb d (a .many) ≡ (ltb 0 v && level-before s v l)
+
 -- the search for a label in the bytes of a table
 unfoldable pub search-in : Sizes → List ℕ → Label → Found
 search-in s bs w = probe (before s) (label-in (block-long s) bs) (s .blocks) w (s .blocks) (home s w)
+
+-- the search for w from block a on may go on at block b: with the looks that are left it comes to the same from there
+pub record Goes-on (s : Sizes) (bs : List ℕ) (w : Label) (a b : ℕ) : Type 0 where
+  pub rest : probe (before s) (label-in (block-long s) bs) (s .blocks) w (s .blocks - (b - a)) b ≡ probe (before s) (label-in (block-long s) bs) (s .blocks) w (s .blocks) a
+  pub least : a ≤ b
+  pub most : b ≤ s .blocks
 
 -- block i, or each of four from there on, holds a chunk of a level below l
 unfoldable pub is-lower : (look : ℕ → Label) → (l i : ℕ) → Bool
@@ -60,15 +71,6 @@ is-lower look l i = ltb 0 (look i .level) && ltb (look i .level) l
 
 unfoldable pub four-lower : (look : ℕ → Label) → (l i : ℕ) → Bool
 four-lower look l i = is-lower look l i && (is-lower look l (i + 1) && (is-lower look l (i + 2) && is-lower look l (i + 3)))
-
--- the first of so many blocks from block i on that is empty or has a chunk of level l or more
-unfoldable pub past-lower : (look : ℕ → Label) → (l : ℕ) → (count i : ℕ) → ℕ
-past-lower look l zero i = i
-past-lower look l (suc k) i = cond (is-lower look l i) (past-lower look l k (suc i)) i
-
--- where a search on a way down goes on: in version 1 past blocks of lower levels
-unfoldable pub passed-to : Sizes → (look : ℕ → Label) → (l start : ℕ) → ℕ
-passed-to s look l a = cond (eqb (s .version) 1) (past-lower look l (s .blocks - a) a) a
 
 -- where the search for a chunk w may start if the one before it was found in block i
 unfoldable pub behind : Sizes → Label → (i : ℕ) → ℕ

@@ -7,7 +7,8 @@ ghost use Rattle.sizes.specs.Numbers.{over};
 ghost use Rattle.sizes.specs.Sizes.{seed-good};
 ghost use Rattle.sizes.specs.Hash.{hash-from};
 ghost use Rattle.placement.specs.Labels.{level-before, before, home};
-ghost use Rattle.placement.specs.Place.{Shaped, label-in, met, meeting};
+ghost use Rattle.placement.specs.Place.{Shaped, label-in, Leading, met, meeting};
+use crate::Ahead;
 use crate::Label;
 use crate::Met;
 use sizes::Sizes;
@@ -70,31 +71,42 @@ fn past_if(smaller: bool) -> Met
     Met::Other
 }
 
-// What a search for a label meets in a block. Most often the level decides, or else the first key; so no more is read than what decides.
-pub fn meets(table: &[u8], s: Sizes, i: u32, want: Label) -> Met
-    requires { ⌜ Shaped s (now table) × (i < s .blocks) ⌝ }
+// The levels that come before a level: in version 1 those from 1 up to it, else those from it on.
+pub fn ahead(s: Sizes, level: u32) -> Ahead
+    ensures { λ r. ⌜ Leading s level r ⌝ }
+{
+    if s.version == 1 {
+        return Ahead {
+            from: 1,
+            many: level,
+        };
+    }
+    Ahead {
+        from: level,
+        many: 4294967295 - level,
+    }
+}
+
+// What a search for a label meets in a block, where `a` are the levels before the label's. Most often the level decides, or else the first key; so no more is
+// read than what decides.
+pub fn meets(table: &[u8], s: Sizes, i: u32, a: Ahead, want: Label) -> Met
+    requires { ⌜ Shaped s (now table) × (i < s .blocks) × Leading s (want .level) a ⌝ }
     ensures { λ r. ⌜ r ≡ meeting (before s) (label-in (block-long s) (now (table .entry)) i) want ⌝ }
 {
     let at = offset(s, i);
     let level = sizes::numbers::wide(table[at]);
     if level != want.level {
-        if !level_before(s, level, want.level) {
-            return Met::Other;
-        }
-        return past_if(0 < level);
+        return past_if(std::num::wrapping_sub_u32(level, a.from) < a.many);
     }
     let first = sizes::numbers::be4(table, at + 4);
     if first != want.first {
         return past_if(first < want.first);
     }
     let number = sizes::numbers::be2(table, at + 2);
-    if number < want.number {
-        return Met::Past;
+    if number != want.number {
+        return past_if(number < want.number);
     }
-    if number == want.number {
-        return Met::Here;
-    }
-    Met::Other
+    Met::Here
 }
 
 // The block where the search for a label starts: mod p before mod M.

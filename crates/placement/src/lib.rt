@@ -20,6 +20,13 @@ pub struct Label {
     pub number: u32,
 }
 
+// Levels that come before another, of which a block's level is told to be one by one comparison: `many` from `from` on, counted round at 2^32. That other
+// level may be among them, and is not asked.
+pub struct Ahead {
+    pub from: u32,
+    pub many: u32,
+}
+
 // What a search meets in a block: a smaller label, which it goes past; the label that it looks for; or neither, and so it ends.
 pub enum Met {
     Past,

@@ -7,10 +7,11 @@ ghost use Rattle.sizes.specs.Numbers.{over};
 ghost use Rattle.sizes.specs.Hash.{hash-from};
 ghost use Rattle.sizes.specs.Header.{block-long};
 ghost use Rattle.placement.specs.Labels.{before, home};
-ghost use Rattle.placement.specs.Place.{Shaped, label-in, probe, is-lower, four-lower, past-lower, passed-to, search-in, behind, free-in};
+ghost use Rattle.placement.specs.Place.{Shaped, label-in, probe, Goes-on, is-lower, four-lower, search-in, behind, free-in};
 use crate::Found;
 use crate::Label;
 use crate::Met;
+use crate::labels::ahead;
 use crate::labels::home;
 use crate::labels::home_over;
 use crate::labels::label_at;
@@ -34,13 +35,14 @@ pub fn find_from(table: &[u8], s: Sizes, start: u32, most: u32, want: Label) -> 
     requires { ⌜ Shaped s (now table) × (start < s .blocks) ⌝ }
     ensures { λ r. ⌜ r ≡ probe (before s) (label-in (block-long s) (now (table .entry))) (s .blocks) want most start ⌝ }
 {
+    let a = ahead(s, want.level);
     let mut i = start;
     let mut left = most;
     let found = loop {
         if left == 0 {
             break Found::Nothing;
         }
-        let met = meets(table, s, i, want);
+        let met = meets(table, s, i, a, want);
         if let Met::Here = met {
             break Found::At(i);
         }
@@ -72,14 +74,14 @@ fn four_lower(table: &[u8], s: Sizes, i: u32, level: u32) -> bool
             && (lower(table, s, i + 2, level) && lower(table, s, i + 3, level)))
 }
 
-// Past blocks from one on, four in a turn, as far as all four hold chunks of lower levels: most of a search on a way down.
-fn past_fours(table: &[u8], s: Sizes, start: u32, level: u32) -> u32
-    requires { ⌜ Shaped s (now table) × (start < s .blocks) ⌝ }
-    ensures { λ r. ⌜ (past-lower (label-in (block-long s) (now (table .entry))) level (s .blocks - r) r ≡ past-lower (label-in (block-long s) (now (table .entry))) level (s .blocks - start) start) × (start ≤ r) × (r ≤ s .blocks) ⌝ }
+// In version 1, past blocks from one on, four in a turn, as far as all four hold chunks of lower levels: most of a search on a way down.
+fn past_fours(table: &[u8], s: Sizes, start: u32, want: Label) -> u32
+    requires { ⌜ Shaped s (now table) × (start < s .blocks) × (s .version ≡ 1) ⌝ }
+    ensures { λ r. ⌜ Goes-on s (now (table .entry)) want start r ⌝ }
 {
     let mut i = start;
     while i + 4 <= s.blocks {
-        if !four_lower(table, s, i, level) {
+        if !four_lower(table, s, i, want.level) {
             return i;
         }
         i += 4;
@@ -87,14 +89,14 @@ fn past_fours(table: &[u8], s: Sizes, start: u32, level: u32) -> u32
     i
 }
 
-// The first block from one on, up to the last of the table, that is empty or whose chunk is not of a lower level.
-fn past_lower(table: &[u8], s: Sizes, start: u32, level: u32) -> u32
-    requires { ⌜ Shaped s (now table) × (start < s .blocks) ⌝ }
-    ensures { λ r. ⌜ (r ≡ past-lower (label-in (block-long s) (now (table .entry))) level (s .blocks - start) start) × (start ≤ r) × (r ≤ s .blocks) ⌝ }
+// .. and up to the first block, or the end of the table, that is empty or whose chunk is not of a lower level.
+fn past_lower(table: &[u8], s: Sizes, start: u32, want: Label) -> u32
+    requires { ⌜ Shaped s (now table) × (start < s .blocks) × (s .version ≡ 1) ⌝ }
+    ensures { λ r. ⌜ Goes-on s (now (table .entry)) want start r ⌝ }
 {
-    let mut i = past_fours(table, s, start, level);
+    let mut i = past_fours(table, s, start, want);
     while i < s.blocks {
-        if !lower(table, s, i, level) {
+        if !lower(table, s, i, want.level) {
             return i;
         }
         i += 1;
@@ -102,15 +104,18 @@ fn past_lower(table: &[u8], s: Sizes, start: u32, level: u32) -> u32
     i
 }
 
-// How far a search may go at once: in version 1 past lower levels.
-fn passed(table: &[u8], s: Sizes, start: u32, level: u32) -> u32
+// How far a search may go at once: in version 1 past lower levels, of which level 1 has none.
+fn passed(table: &[u8], s: Sizes, start: u32, want: Label) -> u32
     requires { ⌜ Shaped s (now table) × (start < s .blocks) ⌝ }
-    ensures { λ r. ⌜ (r ≡ passed-to s (label-in (block-long s) (now (table .entry))) level start) × (start ≤ r) × (r ≤ s .blocks) ⌝ }
+    ensures { λ r. ⌜ Goes-on s (now (table .entry)) want start r ⌝ }
 {
     if s.version != 1 {
         return start;
     }
-    past_lower(table, s, start, level)
+    if want.level <= 1 {
+        return start;
+    }
+    past_lower(table, s, start, want)
 }
 
 // The search for a label from a block on, once around at most, on a way down, where most labels are of high levels. In version 1 such a chunk may stand far
@@ -119,7 +124,7 @@ pub fn find_past(table: &[u8], s: Sizes, start: u32, want: Label) -> Found
     requires { ⌜ Shaped s (now table) × (start < s .blocks) ⌝ }
     ensures { λ r. ⌜ r ≡ probe (before s) (label-in (block-long s) (now (table .entry))) (s .blocks) want (s .blocks) start ⌝ }
 {
-    let i = passed(table, s, start, want.level);
+    let i = passed(table, s, start, want);
     find_from(table, s, around(i, s.blocks), s.blocks - (i - start), want)
 }
 

@@ -1,8 +1,8 @@
 -- What the loops of this crate keep, and their turns.
 use mathlib.Core.Path.{_≡_, refl, sym, ap, _∙_}
 use mathlib.Core.List.{List, [], _∷_, _++_}
-use mathlib.Core.Bool.{Bool, true, false, _&&_, _||_, cond, true≢false, false≢true, and-false}
-use Prim.Native.Nat.{ℕ, zero, suc, _+_, _*_, _-_, _/_, _%_, _≤_, _<_}
+use mathlib.Core.Bool.{Bool, true, false, _&&_, _||_, cond, true≢false, false≢true}
+use Prim.Native.Nat.{ℕ, zero, suc, _+_, _*_, _-_, _/_, _%_, _^_, _≤_, _<_}
 use native.Mathlib.Nat.{le-refl, add-zero, sub-zero, sub-eq-zero-of-le, pos-of-ne-zero, mod-lt, mod-eq-of-lt, mod-eq-sub-mod, mod-self, lt-of-lt-of-le}
 use native.Mathlib.Omega.{arith}
 use native.Mathlib.Numerals.{towards-suc, add-one}
@@ -19,12 +19,13 @@ use Rattle.sizes.specs.Header.{block-long}
 use Rattle.sizes.specs.Parts.{put-block, clear-in, copy-in, swap-in}
 use Rattle.sizes.specs.declared.Sizes.{Sizes}
 use Rattle.placement.specs.declared.Label.{Label}
+use Rattle.placement.specs.declared.Ahead.{Ahead}
 use Rattle.placement.specs.declared.Met.{Met}
 use Rattle.placement.specs.declared.Met.the-variants.{Past, Here, Other}
 use Rattle.placement.specs.declared.Found.{Found}
 use Rattle.placement.specs.declared.Found.the-variants.{At, Nothing}
 use Rattle.placement.proofs.Met.{the-type}
-use Rattle.placement.specs.Place.{Shaped, label-in, passes-label, met, meeting, probe, passed-to, is-lower, four-lower, past-lower, search-in, behind, distance-of, stays-at, bytes, Pulled, pull, settle, found-at, taken-out, free-in, head-bytes, block-with, inserted}
+use Rattle.placement.specs.Place.{Shaped, label-in, passes-label, met, meeting, Leading, probe, Goes-on, is-lower, four-lower, search-in, behind, distance-of, stays-at, bytes, Pulled, pull, settle, found-at, taken-out, free-in, head-bytes, block-with, inserted}
 use Rattle.sizes.proofs.Laws.Parts.{sets-append, length-part}
 use Rattle.sizes.proofs.Laws.Sizes.{and-parts}
 use Rattle.placement.specs.Labels.{level-before, before, same-label, home}
@@ -137,100 +138,46 @@ module _ (s : Sizes) (first : s .version ≡ 1) (look : ℕ → Label) (m : ℕ)
       let n : f ≡ suc (f - 1) = omega arith in
       ap (λ (k : ℕ). probe (before s) look m w k i) n ∙ rw (mod-eq-of-lt h, lower-passes i e)
 
-  past-least : (c i : ℕ) → i ≤ past-lower look (w .level) c i
-  unfolding past-lower
-  past-least zero i = le-refl i
-  past-least (suc c) i = cond-valid (λ n. i ≤ n) (is-lower look (w .level) i) (omega (arith, past-least c (suc i))) (le-refl i)
+-- .. and goes on behind them: what `passed` promises, and what the loops of `past_fours` and `past_lower` keep
+module _ (s : Sizes) (bs : List ℕ) (w : Label) (start : ℕ) where
+  pub goes-start : start < s .blocks → Goes-on s bs w start start
+  goes-start h =
+      record { rest = ap (λ (k : ℕ). probe (before s) (label-in (block-long s) bs) (s .blocks) w k start) (omega arith); least = le-refl start; most = omega arith }
 
-  past-probe : (c f i : ℕ) → i + c ≤ m → c ≤ f →
-      probe (before s) look m w f i ≡ probe (before s) look m w (f - (past-lower look (w .level) c i - i)) (past-lower look (w .level) c i)
-  unfolding past-lower
-  past-probe zero f i h g = ap (λ (k : ℕ). probe (before s) look m w k i) (omega arith)
-  past-probe (suc c) f i h g = go (is-lower look (w .level) i) refl (past-least c (suc i)) (past-probe c (f - 1) (suc i) (omega arith) (omega arith))
-    where
-      go : (b : Bool) → is-lower look (w .level) i ≡ b → suc i ≤ past-lower look (w .level) c (suc i) →
-          probe (before s) look m w (f - 1) (suc i) ≡ probe (before s) look m w (f - 1 - (past-lower look (w .level) c (suc i) - suc i)) (past-lower look (w .level) c (suc i)) →
-          probe (before s) look m w f i ≡ probe (before s) look m w (f - (cond b (past-lower look (w .level) c (suc i)) i - i)) (cond b (past-lower look (w .level) c (suc i)) i)
-      go true e l r = passed-one f i (omega arith) (omega arith) e ∙ r ∙ ap (λ (n : ℕ). probe (before s) look m w n (past-lower look (w .level) c (suc i))) (omega arith)
-      go false e l r = ap (λ (k : ℕ). probe (before s) look m w k i) (omega arith)
+  goes-one : s .version ≡ 1 → (i n : ℕ) → Goes-on s bs w start i → n ≤ s .blocks → n ≡ i + 1 → is-lower (label-in (block-long s) bs) (w .level) i ≡ true → Goes-on s bs w start n
+  goes-one v i n q h e z =
+      let from : (k j : ℕ) → Found = probe (before s) (label-in (block-long s) bs) (s .blocks) w in
+      let least : start ≤ i = q .least in
+      let one : from (s .blocks - (i - start)) i ≡ from (s .blocks - (i - start) - 1) (suc i) = passed-one s v (label-in (block-long s) bs) (s .blocks) w (s .blocks - (i - start)) i (omega arith) (omega arith) z in
+      let there : from (s .blocks - (n - start)) n ≡ from (s .blocks - (i - start) - 1) (suc i) = ap (λ (k : ℕ). from k n) (omega arith) ∙ ap (from (s .blocks - (i - start) - 1)) (e ∙ add-one i) in
+      record { rest = there ∙ sym one ∙ q .rest; least = omega arith; most = h }
 
-  -- .. and goes on from the first block that is not of a lower level
-  past-search : (start i j : ℕ) (r : Found) → start < m → i ≡ past-lower look (w .level) (m - start) start → j ≡ i % m → j < m →
-      r ≡ probe (before s) look m w (m - (i - start)) j → r ≡ probe (before s) look m w m start
-  past-search start i j r h ei ej hj er =
-      let there : probe (before s) look m w m start ≡ probe (before s) look m w (m - (i - start)) i =
-      past-probe (m - start) m start (omega arith) (omega arith) ∙ ap (λ (x : ℕ). probe (before s) look m w (m - (x - start)) x) (sym ei) in
-      er ∙ probe-round (before s) look m w (m - (i - start)) j i (mod-eq-of-lt hj ∙ ej) ∙ sym there
+  pub goes-more : s .version ≡ 1 → (i : ℕ) → Goes-on s bs w start i → i < s .blocks → (t : Bool) → t ≡ is-lower (label-in (block-long s) bs) (w .level) i → t ≡ true → Goes-on s bs w start (i + 1)
+  goes-more v i q h t et z = goes-one v i (i + 1) q (omega arith) refl (sym et ∙ z)
 
--- as `passed` and `find_past` ask
-module _ (s : Sizes) (look : ℕ → Label) where
-  pub passed-none : (l start : ℕ) → (s .version ≡ 1 → ⊥) → start ≡ passed-to s look l start
-  unfolding passed-to
-  passed-none l start n = rw (ne-eqb (s .version) 1 n)
+  -- four in one turn
+  pub goes-four : s .version ≡ 1 → (i : ℕ) → Goes-on s bs w start i → i + 4 ≤ s .blocks → (t : Bool) → t ≡ four-lower (label-in (block-long s) bs) (w .level) i → t ≡ true → Goes-on s bs w start (i + 4)
+  unfolding four-lower
+  goes-four v i q h t et z =
+      let low : (k : ℕ) → Bool = λ k. is-lower (label-in (block-long s) bs) (w .level) (i + k) in
+      let a = and-parts (is-lower (label-in (block-long s) bs) (w .level) i) (low 1 && (low 2 && low 3)) (sym et ∙ z) in
+      let b = and-parts (low 1) (low 2 && low 3) (a .1) in
+      let c = and-parts (low 2) (low 3) (b .1) in
+      let one = goes-one v i (i + 1) q (omega arith) refl (a .0) in
+      let two = goes-one v (i + 1) (i + 2) one (omega arith) (omega arith) (b .0) in
+      let three = goes-one v (i + 2) (i + 3) two (omega arith) (omega arith) (c .0) in
+      goes-one v (i + 3) (i + 4) three h (omega arith) (c .1)
 
-  pub passed-some : (l start r : ℕ) → s .version ≡ 1 → r ≡ past-lower look l (s .blocks - start) start → r ≡ passed-to s look l start
-  unfolding passed-to
-  passed-some l start r v e = rw (eq-eqb (s .version) 1 v) e
-
-  pub passed-search : (w : Label) (start i j : ℕ) (r : Found) → start < s .blocks → i ≡ passed-to s look (w .level) start → j ≡ i % s .blocks → j < s .blocks →
-      r ≡ probe (before s) look (s .blocks) w (s .blocks - (i - start)) j → r ≡ probe (before s) look (s .blocks) w (s .blocks) start
-  unfolding passed-to
-  passed-search w start i j r h ei ej hj er = go (eqb (s .version) 1) refl ei
-    where
-      go : (t : Bool) → eqb (s .version) 1 ≡ t → i ≡ cond t (past-lower look (w .level) (s .blocks - start) start) start → r ≡ probe (before s) look (s .blocks) w (s .blocks) start
-      go true v e = past-search s (eqb-true _ _ v) look (s .blocks) w start i j r h e ej hj er
-      go false v e =
-          let same : j ≡ start = ej ∙ ap (λ (n : ℕ). n % s .blocks) e ∙ mod-eq-of-lt h in
-          let all : s .blocks - (i - start) ≡ s .blocks = omega arith in
-          er ∙ rw (all, same)
+  -- as `find_past` asks
+  pub goes-search : (i j : ℕ) (r : Found) → Goes-on s bs w start i → j ≡ i % s .blocks → j < s .blocks →
+      r ≡ probe (before s) (label-in (block-long s) bs) (s .blocks) w (s .blocks - (i - start)) j → r ≡ probe (before s) (label-in (block-long s) bs) (s .blocks) w (s .blocks) start
+  goes-search i j r q ej hj er = er ∙ probe-round (before s) (label-in (block-long s) bs) (s .blocks) w (s .blocks - (i - start)) j i (mod-eq-of-lt hj ∙ ej) ∙ q .rest
 
 -- the search for a label is the one from home on, round the whole table
 pub home-search : (s : Sizes) (bs : List ℕ) (w : Label) (start : ℕ) (r : Found) → start ≡ home s w →
     r ≡ probe (before s) (label-in (block-long s) bs) (s .blocks) w (s .blocks) start → r ≡ search-in s bs w
 unfolding search-in
 home-search s bs w start r eh er = er ∙ ap (probe (before s) (label-in (block-long s) bs) (s .blocks) w (s .blocks)) eh
-
--- what the loops of `past_fours` and `past_lower` keep
-pub record Lowering (look : ℕ → Label) (l m start i : ℕ) : Type 0 where
-  pub rest : past-lower look l (m - i) i ≡ past-lower look l (m - start) start
-  pub least : start ≤ i
-  pub most : i ≤ m
-
-module _ (look : ℕ → Label) (l m start : ℕ) where
-  pub lowering-start : start < m → Lowering look l m start start
-  lowering-start h = record { rest = refl; least = le-refl start; most = omega arith }
-
-  module _ (i : ℕ) (q : Lowering look l m start i) where
-    pub lowering-end : m ≤ i → i ≡ past-lower look l (m - start) start
-    unfolding past-lower
-    lowering-end h = ap (λ (k : ℕ). past-lower look l k i) (sym (sub-eq-zero-of-le h)) ∙ q .rest
-
-    module _ (h : i < m) (t : Bool) (et : t ≡ is-lower look l i) where
-      one : past-lower look l (m - i) i ≡ cond t (past-lower look l (m - (i + 1)) (suc i)) i
-      unfolding past-lower
-      one = ap (λ (k : ℕ). past-lower look l k i) (one-left h) ∙ rw et
-
-      pub lowering-stop : t ≡ false → i ≡ past-lower look l (m - start) start
-      lowering-stop z = sym (one ∙ rw z) ∙ q .rest
-
-      pub lowering-more : t ≡ true → Lowering look l m start (i + 1)
-      lowering-more z = record { rest = ap (past-lower look l (m - (i + 1))) (add-one i) ∙ sym (one ∙ rw z) ∙ q .rest; least = omega (arith, q .least); most = omega arith }
-
-  lowering-on : (i n : ℕ) → Lowering look l m start i → n ≤ m → n ≡ i + 1 → is-lower look l i ≡ true → Lowering look l m start n
-  lowering-on i n q h e z = rw e (lowering-more i q (omega arith) true (sym z) refl)
-
-  -- four in one turn
-  pub lowering-four : (i : ℕ) → Lowering look l m start i → i + 4 ≤ m → (t : Bool) → t ≡ four-lower look l i → t ≡ true → Lowering look l m start (i + 4)
-  unfolding four-lower
-  lowering-four i q h t et z =
-      let low : (k : ℕ) → Bool = λ k. is-lower look l (i + k) in
-      let a = and-parts (is-lower look l i) (low 1 && (low 2 && low 3)) (sym et ∙ z) in
-      let b = and-parts (low 1) (low 2 && low 3) (a .1) in
-      let c = and-parts (low 2) (low 3) (b .1) in
-      let one = lowering-on i (i + 1) q (omega arith) refl (a .0) in
-      let two = lowering-on (i + 1) (i + 2) one (omega arith) (omega arith) (b .0) in
-      let three = lowering-on (i + 2) (i + 3) two (omega arith) (omega arith) (c .0) in
-      lowering-on (i + 3) (i + 4) three h (omega arith) (c .1)
 
 -- as `four_lower` asks: the first block that is not lower tells, or the last
 module _ (look : ℕ → Label) (l i : ℕ) (a : Bool) (ea : a ≡ is-lower look l i) where
@@ -356,29 +303,26 @@ module _ (s : Sizes) (w : ℕ) (bs : List ℕ) (i a v : ℕ) (want : Label) (ea 
   unfolding meeting
   another t et n r er = er ∙ rw (et, ne-same (label-in w bs i) want n)
 
-  module _ (ne : v ≡ want .level → ⊥) (t : Bool) (et : t ≡ level-before s v (want .level)) where
-    differs : label-in w bs i ≡ want → ⊥
-    differs e = ne (at-level ∙ ap (λ (l : Label). l .level) e)
+  pub meets-level : (v ≡ want .level → ⊥) → (h : Ahead) → Leading s (want .level) h → v < 256 → (d : ℕ) → d < 2 ^ 32 → (d + h .from) % 2 ^ 32 ≡ v
+      → (r : Met) → r ≡ met (ltb d (h .many)) false → r ≡ meeting (before s) (label-in w bs i) want
+  unfolding passes-label
+  meets-level ne h q small d hd ed =
+      another (ltb d (h .many))
+      (q .told v d small ne hd ed ∙ ap (λ (x : ℕ). ltb 0 x && level-before s v (want .level)) at-level ∙ plain (ltb 0 (label-in w bs i .level)) _ _ _ (ne-eqb _ _ apart) by-level)
+      (λ e. ne (at-level ∙ ap (λ (l : Label). l .level) e))
+    where
+      apart : label-in w bs i .level ≡ want .level → ⊥
+      apart e = ne (at-level ∙ e)
 
-    by-level : t ≡ before s (label-in w bs i) want
-    by-level = before-level s (label-in w bs i) want (λ q. ne (at-level ∙ q)) t (et ∙ ap (λ (x : ℕ). level-before s x (want .level)) at-level)
+      by-level : level-before s v (want .level) ≡ before s (label-in w bs i) want
+      by-level = before-level s (label-in w bs i) want apart (level-before s v (want .level)) (ap (λ (x : ℕ). level-before s x (want .level)) at-level)
 
-    pub meets-after : t ≡ false → Other ≡ meeting (before s) (label-in w bs i) want
-    unfolding passes-label
-    meets-after z =
-        another t (z ∙ sym (rw (← by-level, z) (and-false (ltb 0 (label-in w bs i .level) || eqb (label-in w bs i .level) (want .level))))) differs Other (met-no t z)
+      split : (p b : Bool) → (p && b) ≡ ((p || false) && b)
+      split true b = refl
+      split false b = refl
 
-    pub meets-level : t ≡ true → (r : Met) → r ≡ met (ltb 0 v) false → r ≡ meeting (before s) (label-in w bs i) want
-    unfolding passes-label
-    meets-level z =
-        another (ltb 0 v) (ap (ltb 0) at-level ∙ plain (ltb 0 (label-in w bs i .level)) _ _ (ne-eqb _ _ (λ q. ne (at-level ∙ q))) (sym by-level ∙ z)) differs
-      where
-        split : (p : Bool) → p ≡ ((p || false) && true)
-        split true = refl
-        split false = refl
-
-        plain : (p q b : Bool) → q ≡ false → b ≡ true → p ≡ ((p || q) && b)
-        plain p q b e f = rw (e, f) (split p)
+      plain : (p o b c : Bool) → o ≡ false → c ≡ b → (p && c) ≡ ((p || o) && b)
+      plain p o b c e f = rw (e, f) (split p b)
 
   module _ (e : v ≡ want .level) (f : ℕ) (ef : f ≡ field (a + 4) 4 bs) where
     level-same : label-in w bs i .level ≡ want .level
@@ -404,14 +348,8 @@ module _ (s : Sizes) (w : ℕ) (bs : List ℕ) (i a v : ℕ) (want : Label) (ea 
       by-number : ltb n (want .number) ≡ passes-label (before s) (label-in w bs i) want
       by-number = passed-by _ (ap (λ (x : ℕ). ltb x (want .number)) at-number ∙ before-number s (label-in w bs i) want level-same (sym at-first ∙ first))
 
-      other-number : (n ≡ want .number → ⊥) → (r : Met) → r ≡ met (ltb n (want .number)) false → r ≡ meeting (before s) (label-in w bs i) want
-      other-number ne = another (ltb n (want .number)) by-number (λ q. ne (at-number ∙ ap (λ (l : Label). l .number) q))
-
-      pub meets-less : n < want .number → Past ≡ meeting (before s) (label-in w bs i) want
-      meets-less h = other-number (λ z. omega arith) Past (met-yes (ltb n (want .number)) (lt-ltb n (want .number) h))
-
-      pub meets-more : want .number ≤ n → (n ≡ want .number → ⊥) → Other ≡ meeting (before s) (label-in w bs i) want
-      meets-more h ne = other-number ne Other (met-no (ltb n (want .number)) (le-ltb n (want .number) h))
+      pub meets-number : (n ≡ want .number → ⊥) → (r : Met) → r ≡ met (ltb n (want .number)) false → r ≡ meeting (before s) (label-in w bs i) want
+      meets-number ne = another (ltb n (want .number)) by-number (λ q. ne (at-number ∙ ap (λ (l : Label). l .number) q))
 
       pub meets-here : n ≡ want .number → Here ≡ meeting (before s) (label-in w bs i) want
       unfolding meeting met

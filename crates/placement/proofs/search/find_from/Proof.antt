@@ -10,12 +10,12 @@ use Rattle.sizes.specs.Header.{block-long}
 ruleset laws = (needs, probing-start, probing-end, probing-more, probing-here, probing-other, not-here, not-other)
 
 abbrev Inv-loop : tie.InvT-loop
-Inv-loop table s start most want i₀ left₀ i left = Probing (before s) (label-in (block-long s) table) (s .blocks) want most start left i
+Inv-loop table s start most want a i₀ left₀ i left = Probing (before s) (label-in (block-long s) table) (s .blocks) want most start left i
 
 abbrev μ-loop : tie.MeasureT-loop
-μ-loop table s start most want i₀ left₀ i left = left
+μ-loop table s start most want a i₀ left₀ i left = left
 
 pub find-from-spec : {M : Type 1} → statement M
 find-from-spec =
     tie.close
-    (tie.spec Inv-loop μ-loop (λ c. search laws) (λ c κs. search laws) (λ c. search laws) (λ c. search laws) (λ c. search laws) (λ c κs. search laws) (λ c. search laws) (λ c. search laws) (λ c. search laws) (λ c. search laws) (λ c. search laws) (λ c. search laws))
+    (tie.spec Inv-loop μ-loop (λ c κs. search laws) (λ c. search laws) (λ c κs. search laws) (λ c. search laws) (λ c. search laws) (λ c. search laws) (λ c κs. search laws) (λ c. search laws) (λ c. search laws) (λ c. search laws) (λ c. search laws) (λ c. search laws) (λ c. search laws))

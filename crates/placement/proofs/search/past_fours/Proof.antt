@@ -2,19 +2,18 @@
 use borrow.Author.Needs.{needs}
 use borrow.Author.Tests.{not-true, not-false}
 use Prim.Native.Nat.{_-_}
-use Rattle.sizes.specs.Header.{block-long}
-use Rattle.placement.specs.Place.{label-in}
-use Rattle.placement.proofs.Laws.Loops.{Lowering, lowering-start, lowering-four}
+use Rattle.placement.specs.Place.{Goes-on}
+use Rattle.placement.proofs.Laws.Loops.{goes-start, goes-four}
 use Rattle.placement.proofs.search.past_fours.Statement.{statement}
 use Rattle.placement.proofs.search.past_fours.Tie as tie
 
-ruleset laws = (needs, not-true, not-false, lowering-start, lowering-four)
+ruleset laws = (needs, not-true, not-false, goes-start, goes-four)
 
 abbrev Inv-loop : tie.InvT-loop
-Inv-loop table s start level i₀ i = Lowering (label-in (block-long s) table) level (s .blocks) start i
+Inv-loop table s start want i₀ i = Goes-on s table want start i
 
 abbrev μ-loop : tie.MeasureT-loop
-μ-loop table s start level i₀ i = s .blocks - i
+μ-loop table s start want i₀ i = s .blocks - i
 
 pub past-fours-spec : {M : Type 1} → statement M
 past-fours-spec =
