@@ -26,11 +26,27 @@ static double against(const sides *both, int call, uint32_t held, int rounds) {
     return ratio(pair, pair + 1, take_turns(pair, 2, both->scene, asks ? both->choose : NULL, 0, rounds));
 }
 
+/* Every table is laid anew so many times, in other memory: where a table is larger than the caches, its pages' places make some hundredths. */
+enum { LAID = 5 };
+
+/* The calls on one table: the median over the times that it was laid, each of them with its part of the rounds. */
+static void on_table(const sides *both, const configuration *of, int rounds, double figures[SIDE_CALLS]) {
+    int times = rounds < LAID ? rounds : LAID;
+    double laid[SIDE_CALLS][LAID];
+    for (int k = 0; k < times; k++) {
+        both->open(*of);
+        for (int i = 0; i < SIDE_CALLS; i++)
+            if (on_both_sides(both, i)) laid[i][k] = against(both, i, of->held, 1 + (i ? rounds / 6 : rounds) / times);
+        both->close();
+    }
+    for (int i = 0; i < SIDE_CALLS; i++) figures[i] = on_both_sides(both, i) ? median(laid[i], times) : 0;
+}
+
 static void print_head(const sides *both, int rounds) {
     const char *one = both->one->who, *other = both->other->who;
     for (int i = 0; i < SIDE_CALLS; i++)
         if (!on_both_sides(both, i)) printf("%s has no call for \"%s\", which is left out\n", both->one[i].call ? other : one, both->one[i].operation);
-    printf("%s / %s, median of %d rounds\n%-30s", one, other, rounds, "");
+    printf("%s / %s, median of %d rounds, on tables laid anew %d times\n%-30s", one, other, rounds, rounds < LAID ? rounds : LAID, "");
     for (int i = 0; i < SIDE_CALLS; i++)
         if (on_both_sides(both, i)) printf("%12s", both->one[i].operation);
     printf("\n");
@@ -44,22 +60,19 @@ static void print_figures(const sides *both, const char *name, const double *fig
 }
 
 void compare_sides(const sides *both, int rounds, double most[SIDE_CALLS]) {
-    double figures[SIDE_CALLS][TABLES], fewest[SIDE_CALLS];
+    double figures[SIDE_CALLS], fewest[SIDE_CALLS];
     print_head(both, rounds);
     for (int t = 0; t < TABLES; t++) {
         const configuration *of = &configurations[t];
-        both->open(*of);
-        printf("%-14s γ %2u B %2u %6u", of->title, of->gamma, of->nodes, of->held);
+        char name[60];
+        snprintf(name, sizeof name, "%-14s γ %2u B %2u %6u", of->title, of->gamma, of->nodes, of->held);
+        on_table(both, of, rounds, figures);
         for (int i = 0; i < SIDE_CALLS; i++) {
-            if (!on_both_sides(both, i)) continue;
-            figures[i][t] = against(both, i, of->held, i ? 1 + rounds / 6 : rounds);
-            fewest[i] = t && fewest[i] < figures[i][t] ? fewest[i] : figures[i][t];
-            most[i] = t && most[i] > figures[i][t] ? most[i] : figures[i][t];
-            printf("%12.3f", figures[i][t]);
-            fflush(stdout);
+            fewest[i] = t && fewest[i] < figures[i] ? fewest[i] : figures[i];
+            most[i] = t && most[i] > figures[i] ? most[i] : figures[i];
         }
-        printf("\n");
-        both->close();
+        print_figures(both, name, figures);
+        fflush(stdout);
     }
     print_figures(both, "least", fewest);
     print_figures(both, "most", most);

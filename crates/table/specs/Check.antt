@@ -2,7 +2,7 @@
 use mathlib.Core.Path.{_≡_}
 use mathlib.Core.Bool.{Bool, true, false, _&&_, cond}
 use mathlib.Core.List.{List}
-use Prim.Native.Nat.{ℕ, zero, suc, _+_, _*_, _-_, _≤_, _<_}
+use Prim.Native.Nat.{ℕ, zero, suc, _+_, _*_, _-_, _/_, _≤_, _<_}
 use lib.Dec.{eqb}
 use lib.ListN.{length, getD}
 use Rattle.sizes.specs.Sizes.{beta, row}
@@ -22,11 +22,15 @@ zeros-from bs (suc k) a = eqb (getD bs a 0) 0 && zeros-from bs k (suc a)
 abbrev pub longest : ℕ
 longest = 520
 
--- which bytes of a block are looked at: with u of the zeros in front it leaves out u bytes and has the others
+-- so many bytes are whole words, of four bytes each
+abbrev pub Words : (bytes : ℕ) → Type 0
+Words n = 4 * (n / 4) ≡ n
+
+-- which words of a block are looked at: with u of the zeros in front it leaves out u words and has the others
 pub record Mask (ms : List ℕ) : Type 0 where
-  pub long : length ms ≡ 2 * longest
-  pub leaves : (k : ℕ) → k < longest → getD ms k 0 ≡ 0
-  pub has : (k : ℕ) → longest ≤ k → k < 2 * longest → getD ms k 0 ≡ 255
+  pub long : length ms ≡ 260
+  pub leaves : (k : ℕ) → k < 130 → getD ms k 0 ≡ 0
+  pub has : (k : ℕ) → 130 ≤ k → k < 260 → getD ms k 0 ≡ 4294967295
 
 -- where the unused bytes of a block start: at once in an empty one
 unfoldable pub used-of : (row level n : ℕ) → ℕ

@@ -1,21 +1,23 @@
 // One pass over the blocks, and the whole check.
 ghost use mathlib.Core.Path.{_≡_};
 ghost use Prim.Native.Nat.{_+_, _-_, _<_, _≤_};
+ghost use lib.Dec.{eqb};
 ghost use lib.ListN.{length};
 ghost use Rattle.placement.specs.Place.{Shaped};
-ghost use Rattle.table.specs.Check.{longest, Mask, zeros-from, used-of, more-of, swept, ended};
+ghost use Rattle.table.specs.Check.{longest, Words, Mask, zeros-from, used-of, more-of, swept, ended};
 use crate::Seen;
 use crate::Tally;
 use sizes::Sizes;
 use sizes::header::block_length;
 use sizes::header::row;
 use sizes::header::rows;
+use sizes::numbers::wide;
 
-// The bytes of the longest block: a head and 32 nodes.
-const LONGEST: usize = 520;
+// The words, of four bytes each, of the longest block: a head and 32 nodes.
+const WORDS: usize = 130;
 
-// The bytes of the mask: twice as many.
-const MASK: usize = 2 * LONGEST;
+// The words of the mask: twice as many.
+const MASK: usize = 2 * WORDS;
 
 // Where the unused bytes of a block start, with w bytes for each node: at once in an empty one.
 fn used(w: usize, level: u32, n: u32) -> usize
@@ -39,29 +41,44 @@ fn more(full: u32, level: u32) -> u32
     full + 1
 }
 
-// For each place whether it is looked at: zeros, as many as a block has bytes at most, then as many times 255.
-fn mask() -> [u8; MASK]
+// For each word whether it is looked at: zeros, as many as a block has words at most, then as many with all bits set.
+fn mask() -> [u32; MASK]
     ensures { λ r. ⌜ Mask r ⌝ }
 {
-    let mut m = [255u8; MASK];
-    sizes::numbers::fill(&mut m, 0, LONGEST);
+    let mut m = [4294967295u32; MASK];
+    let mut i: usize = 0;
+    while i < WORDS {
+        m[i] = 0;
+        i += 1;
+    }
     m
 }
 
-// Whether the bytes of a block are zero but for the used ones. The mask leaves those out: the same steps are taken wherever some are unused, so that many
-// bytes are looked at at once and no jump depends on how many.
-fn zeros(table: &[u8], at: usize, long: usize, used: usize, mask: &[u8]) -> bool
-    requires { ⌜ (at + long ≤ length (now table)) × (long ≤ longest) × Mask (now mask) ⌝ }
+// Four bytes as one number, the first the lowest, as the machine has them. It is 0 if they are.
+fn word(table: &[u8], at: usize) -> u32
+    requires { ⌜ at + 4 ≤ length (now table) ⌝ }
+    ensures { λ r. ⌜ eqb r 0 ≡ zeros-from (now (table .entry)) 4 at ⌝ }
+{
+    wide(table[at])
+        + (256 * wide(table[at + 1])
+            + (65536 * wide(table[at + 2]) + 16777216 * wide(table[at + 3])))
+}
+
+// Whether the bytes of a block are zero but for the used ones, both whole words. The mask leaves the used ones out: the same steps are taken wherever some are
+// unused, so that many bytes are looked at at once and no jump depends on how many.
+fn zeros(table: &[u8], at: usize, long: usize, used: usize, mask: &[u32]) -> bool
+    requires { ⌜ (at + long ≤ length (now table)) × (long ≤ longest) × Words long × Words used × Mask (now mask) ⌝ }
     ensures { λ r. ⌜ r ≡ zeros-from (now (table .entry)) (long - used) (at + used) ⌝ }
 {
     if long <= used {
         return true;
     }
-    let off = LONGEST - used;
-    let mut any: u8 = 0;
+    let words = long / 4;
+    let off = WORDS - used / 4;
+    let mut any: u32 = 0;
     let mut j: usize = 0;
-    while j < long {
-        any = any | (table[at + j] & mask[off + j]);
+    while j < words {
+        any = any | (word(table, at + 4 * j) & mask[off + j]);
         j += 1;
     }
     any == 0
@@ -81,8 +98,8 @@ pub fn sweep(table: &[u8], s: Sizes) -> Tally
     let mut i: u32 = 0;
     while i < m {
         let at = placement::labels::offset(s, i);
-        let level = sizes::numbers::wide(table[at]);
-        let n = sizes::numbers::wide(table[at + 1]);
+        let level = wide(table[at]);
+        let n = wide(table[at + 1]);
         if !zeros(table, at, long, used(w, level, n), &looked) {
             clean = false;
             break;

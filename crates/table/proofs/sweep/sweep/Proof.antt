@@ -4,11 +4,11 @@ use borrow.Author.Tests.{not-true, not-false}
 use Prim.Native.Nat.{_-_}
 use mathlib.Core.Path.{_≡_}
 use mathlib.Core.Bool.{true}
-use Rattle.table.proofs.Laws.Passes.{Sweeping, blocked-made, sweeping-start, sweeping-end, sweeping-stop, sweeping-more}
+use Rattle.table.proofs.Laws.Passes.{Sweeping, words-long, words-used, blocked-made, sweeping-start, sweeping-end, sweeping-stop, sweeping-more}
 use Rattle.table.proofs.sweep.sweep.Statement.{statement}
 use Rattle.table.proofs.sweep.sweep.Tie as tie
 
-ruleset laws = (needs, sweeping-start, sweeping-end)
+ruleset laws = (needs, words-long, words-used, sweeping-start, sweeping-end)
 
 abbrev Inv-loop : tie.InvT-loop
 Inv-loop table s w long m looked clean₀ full₀ i₀ clean full i = (clean ≡ true) × Sweeping s w long m table i full
