@@ -48,11 +48,13 @@ def short(value):
 
 
 def figure(row, column):
-    """In µs, and of how many rounds it is the median; None if the results do not have both. A difference has the error to expect beside it."""
+    """In µs, and of how many rounds it is the median; None if the results do not have both. A difference has the error to expect beside it; one that drowns in
+    it is told as in the results, by what it is less than."""
     if not row.get(column) or not row.get("beyond_rounds" if column == "us_beyond_check" else "rounds"):
         return None
     if column == "us_beyond_check":
-        return f"{short(float(row[column]))} ± {short(float(row['noise_us']))}", int(row["beyond_rounds"])
+        beyond, noise = float(row[column]), float(row["noise_us"])
+        return f"{short(beyond)} ± {short(noise)}" if beyond >= 2 * noise else f"< {short(2 * noise + max(beyond, 0))}", int(row["beyond_rounds"])
     if row["unit"] == "ns":
         return f"{float(row[column]) / 1000:.3f}", int(row["rounds"])
     scale = int(row["orders"]) / 1000 if row["unit"] == "ns/order" else 1
