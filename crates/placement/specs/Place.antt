@@ -59,6 +59,11 @@ pub record Leading (s : Sizes) (l : ℕ) (a : Ahead) : Type 0 where
 unfoldable pub search-in : Sizes → List ℕ → Label → Found
 search-in s bs w = probe (before s) (label-in (block-long s) bs) (s .blocks) w (s .blocks) (home s w)
 
+-- .. may start at block a: round the whole table from there, it comes to what it comes to from home
+pub record Starts (s : Sizes) (bs : List ℕ) (w : Label) (a : ℕ) : Type 0 where
+  pub inside : a < s .blocks
+  pub same : probe (before s) (label-in (block-long s) bs) (s .blocks) w (s .blocks) a ≡ search-in s bs w
+
 -- the search for w from block a on may go on at block b: with the looks that are left it comes to the same from there
 pub record Goes-on (s : Sizes) (bs : List ℕ) (w : Label) (a b : ℕ) : Type 0 where
   pub rest : probe (before s) (label-in (block-long s) bs) (s .blocks) w (s .blocks - (b - a)) b ≡ probe (before s) (label-in (block-long s) bs) (s .blocks) w (s .blocks) a

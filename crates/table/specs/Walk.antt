@@ -1,17 +1,16 @@
 -- What the walk of a check gives, over the bytes of a table. These are the steps that the code takes; that they decide whether the bytes are
 -- an image is proved in proofs/.
-use mathlib.Core.Path.{_≡_}
 use mathlib.Core.Bool.{Bool, true, false, _&&_, not, cond}
 use mathlib.Core.List.{List}
-use Prim.Native.Nat.{ℕ, zero, suc, _+_, _*_, _-_, _≤_, _<_}
+use Prim.Native.Nat.{ℕ, zero, suc, _+_, _*_, _-_, _≤_}
 use lib.Dec.{ltb, leb, eqb}
 use lib.ListN.{getD}
 use Rattle.sizes.specs.Sizes.{prime, row}
 use Rattle.sizes.specs.Hash.{level}
 use Rattle.sizes.specs.Header.{block-long}
 use Rattle.placement.specs.Decode.{node-of}
-use Rattle.placement.specs.Labels.{label, before, home}
-use Rattle.placement.specs.Place.{Shaped, label-in, probe, search-in, found-at}
+use Rattle.placement.specs.Labels.{home}
+use Rattle.placement.specs.Place.{Shaped, label-in, search-in, found-at}
 use Rattle.sizes.specs.declared.Sizes.{Sizes}
 use Rattle.placement.specs.declared.Order.{Order}
 use Rattle.skiplist.specs.Image.{price-good}
@@ -98,11 +97,6 @@ spot Nothing = 0
 
 unfoldable pub chunk-spot : Sizes → List ℕ → (level first number : ℕ) → Found
 chunk-spot s bs l f i = search-in s bs (record { level = l; first = f; number = i })
-
--- the search for chunk i of a partition of level 1 may start at a block
-pub record Starting (s : Sizes) (bs : List ℕ) (first i start : ℕ) : Type 0 where
-  pub inside : start < s .blocks
-  pub same : probe (before s) (label-in (block-long s) bs) (s .blocks) (label 1 first i) (s .blocks) start ≡ chunk-spot s bs 1 first i
 
 -- the search for a partition's first chunk starts at an empty block
 unfoldable pub empty-home : Sizes → List ℕ → (level first : ℕ) → Bool

@@ -7,9 +7,9 @@ ghost use Rattle.sizes.specs.Sizes.{row, seed-good};
 ghost use Rattle.sizes.specs.Hash.{hash-from};
 ghost use Rattle.sizes.specs.Geometry.{Reckoned};
 ghost use Rattle.placement.specs.Labels.{label, home};
-ghost use Rattle.placement.specs.Place.{behind};
+ghost use Rattle.placement.specs.Place.{Starts, behind};
 ghost use Rattle.placement.specs.Decode.{node-of};
-ghost use Rattle.table.specs.Walk.{Walkable, wrong-seen, nothing-in, quantities-ok, price-ok, fits-in, node-good, enters-ok, entered-seen, ended-seen, stops-at, nodes-by, enters-lowest, comes-ok, passed-seen, chunk-spot, Starting, empty-home, opens-of};
+ghost use Rattle.table.specs.Walk.{Walkable, wrong-seen, nothing-in, quantities-ok, price-ok, fits-in, node-good, enters-ok, entered-seen, ended-seen, stops-at, nodes-by, enters-lowest, comes-ok, passed-seen, chunk-spot, empty-home, opens-of};
 use crate::Seen;
 use placement::Found;
 use placement::Label;
@@ -234,7 +234,7 @@ fn chunk(table: &[u8], q: Geometry, level: u32, first: u32, g: u32, number: u32)
 
 // The block of a chunk of level 1, where the search for it may start at another block than its home.
 fn chunk_from(table: &[u8], s: Sizes, start: u32, first: u32, number: u32) -> Found
-    requires { ⌜ Walkable s (now table) × Starting s (now table) first number start ⌝ }
+    requires { ⌜ Walkable s (now table) × Starts s (now table) (label 1 first number) start ⌝ }
     ensures { λ r. ⌜ r ≡ chunk-spot s (now (table .entry)) 1 first number ⌝ }
 {
     placement::search::find_from(

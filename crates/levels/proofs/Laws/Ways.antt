@@ -14,16 +14,17 @@ use Rattle.sizes.specs.Sizes.{row}
 use Rattle.sizes.specs.Header.{block-long}
 use Rattle.sizes.specs.Hash.{hash-from}
 use Rattle.placement.specs.Labels.{label, before, home}
-use Rattle.placement.specs.Place.{Shaped, label-in, probe, search-in, behind}
+use Rattle.placement.specs.Place.{Shaped, label-in, probe, search-in, Starts, behind}
 use Rattle.sizes.specs.declared.Sizes.{Sizes}
 use Rattle.placement.specs.declared.Label.{Label}
 use Rattle.placement.specs.declared.Found.{Found}
 use Rattle.placement.specs.declared.Found.the-variants.{At, Nothing}
 use Rattle.sizes.proofs.Laws.Hashes.{hash-below}
 use Rattle.sizes.proofs.Laws.HeaderLoops.{rows-room, row-room}
+use Rattle.placement.proofs.Laws.Labels.{one-label}
 use Rattle.placement.proofs.Laws.Cells.{cond-valid}
 use Rattle.placement.proofs.Laws.Loops.{search-below}
-use Rattle.placement.proofs.Laws.Behind.{search-behind}
+use Rattle.placement.proofs.Laws.Behind.{starts-home, starts-behind}
 use Rattle.levels.specs.declared.Trail.{Trail}
 use Rattle.levels.specs.Ways.{Trek, trek, coming, starting, number-in, upto-in, passed-in, reached-in, found-upto, found-block, node-place, trod, chunks-in, along-in, down-in, way-down}
 
@@ -133,10 +134,9 @@ unfolding trod node-place
 trod-is s bs i n t o a ea u eu k ek z ez = rw (ek, ez, ea, eu)
 
 -- the search for the next chunk
-search-next : (s : Sizes) (bs : List ℕ) (l f l′ f′ j i start : ℕ) → l′ ≡ l → f′ ≡ f → 0 < l → l ≤ 19 → j + 1 ≤ 65535 → search-in s bs (label l f j) ≡ At i
-    → start ≡ behind s (label l′ f′ (j + 1)) i
-    → probe (before s) (label-in (block-long s) bs) (s .blocks) (label l′ f′ (j + 1)) (s .blocks) start ≡ search-in s bs (label l f (j + 1))
-search-next s bs l f l′ f′ j i start el ef some high few e es = rw (es, el, ef) (search-behind s bs l f j i some high few e)
+starts-next : (s : Sizes) (bs : List ℕ) (l f l′ f′ j i start : ℕ) → l′ ≡ l → f′ ≡ f → 0 < l → l ≤ 19 → j + 1 ≤ 65535 → search-in s bs (label l f j) ≡ At i
+    → start ≡ behind s (label l′ f′ (j + 1)) i → start < s .blocks → Starts s bs (label l′ f′ (j + 1)) start
+starts-next s bs l f l′ f′ j i start el ef some high few e es h = starts-behind s bs l′ f′ j i start (omega arith) (omega arith) few (rw (el, ef) e) es h
 
 -- THE CHUNKS of a level: chunk v comes next, and is found from block `start` on
 pub record Along (s : Sizes) (bs : List ℕ) (l y c f : ℕ) (o : List ℕ) (v : Label) (start : ℕ) (w : Trail) (z : List ℕ) : Type 0 where
@@ -147,8 +147,7 @@ pub record Along (s : Sizes) (bs : List ℕ) (l y c f : ℕ) (o : List ℕ) (v :
   pub inside : w .at + row s ≤ length bs
   pub long : length z ≡ length o
   pub rest : along-in s bs l y (trek (coming c f) o) ≡ chunks-in s bs l f y (s .blocks - v .number) (v .number) (trek w z)
-  pub below : start < s .blocks
-  pub next : probe (before s) (label-in (block-long s) bs) (s .blocks) v (s .blocks) start ≡ search-in s bs (label l f (v .number))
+  pub starts : Starts s bs v start
 
 module _ (s : Sizes) (bs : List ℕ) (l y : ℕ) (t : Trail) (o : List ℕ) (g : Shaped s bs) where
   -- what is said of the way when the level is done
@@ -160,7 +159,7 @@ module _ (s : Sizes) (bs : List ℕ) (l y : ℕ) (t : Trail) (o : List ℕ) (g :
   unfolding along-in search-in
   along-start start e h =
       let c : s .blocks - 0 ≡ s .blocks = omega arith in
-      record { level = refl; first = refl; within = omega arith; few = omega arith; inside = omega (arith, g .long, g .wide); long = refl; rest = rw c; below = h; next = rw e }
+      record { level = refl; first = refl; within = omega arith; few = omega arith; inside = omega (arith, g .long, g .wide); long = refl; rest = rw c; starts = starts-home s bs (label l (t .first) 0) start e h }
 
   module _ (v : Label) (start : ℕ) (w : Trail) (z : List ℕ) (p : Along s bs l y (t .count) (t .first) o v start w z) where
     stop : chunks-in s bs l (t .first) y (s .blocks - v .number) (v .number) (trek w z) ≡ trek w z → Gone w z
@@ -175,7 +174,7 @@ module _ (s : Sizes) (bs : List ℕ) (l y : ℕ) (t : Trail) (o : List ℕ) (g :
 
     module _ (h : v .number < s .blocks) (r : Found) (ep : r ≡ probe (before s) (label-in (block-long s) bs) (s .blocks) v (s .blocks) start) where
       er : r ≡ search-in s bs (label l (t .first) (v .number))
-      er = ep ∙ p .next
+      er = ep ∙ p .starts .same ∙ ap (search-in s bs) (one-label v (label l (t .first) (v .number)) (p .level) (p .first) refl)
 
       step : s .blocks - v .number ≡ suc (s .blocks - (v .number + 1))
       step = omega arith
@@ -223,8 +222,7 @@ module _ (s : Sizes) (bs : List ℕ) (l y : ℕ) (t : Trail) (o : List ℕ) (g :
                   inside = a;
                   long = trod-long;
                   rest = p .rest ∙ rw (step, ← er, e, ← en, ne-eqb n 0 q, le-ltb n (s .nodes) b, ew, d);
-                  below = h′;
-                  next = search-next s bs l (t .first) (v .level) (v .first) (v .number) i start′ (p .level) (p .first) some high (omega (arith, g .most)) (sym er ∙ e) es;
+                  starts = starts-next s bs l (t .first) (v .level) (v .first) (v .number) i start′ (p .level) (p .first) some high (omega (arith, g .most)) (sym er ∙ e) es h′;
                 }
 
 -- THE LEVELS

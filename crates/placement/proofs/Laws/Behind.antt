@@ -6,20 +6,19 @@ use Prim.Native.Nat.{ℕ, zero, suc, _+_, _*_, _%_, _≤_, _<_}
 use native.Mathlib.Nat.{add-zero, mod-mod, add-mod-right, suc-mod, zero-mod}
 use native.Mathlib.Numerals.{add-one}
 use native.Mathlib.Omega.{arith}
-use lib.Dec.{ltb, eqb}
+use lib.Dec.{eqb}
 use borrow.Author.Tests.{eqb-true, eqb-false}
 use Rattle.sizes.specs.Sizes.{prime}
 use Rattle.sizes.specs.Hash.{g}
 use Rattle.sizes.specs.Header.{block-long}
 use Rattle.sizes.specs.declared.Sizes.{Sizes}
 use Rattle.sizes.proofs.Laws.Orders.{Ordering}
-use Rattle.sizes.proofs.Laws.Sizes.{and-parts}
 use Rattle.sizes.proofs.Laws.Hashes.{hash-below}
 use Rattle.placement.specs.declared.Label.{Label}
 use Rattle.placement.specs.declared.Found.{Found}
 use Rattle.placement.specs.declared.Found.the-variants.{At, Nothing}
 use Rattle.placement.specs.Labels.{label, before, same-label, home}
-use Rattle.placement.specs.Place.{label-in, passes-label, probe, search-in, behind}
+use Rattle.placement.specs.Place.{label-in, passes-label, probe, search-in, Starts, behind}
 use Rattle.placement.proofs.Laws.Labels.{labels, before-next, same-is}
 use Rattle.placement.proofs.Laws.Insertion.{suc-mod-same}
 use Rattle.placement.proofs.Laws.Loops.{probe-round, passes-held, passes-some}
@@ -101,3 +100,12 @@ module _ (s : Sizes) (bs : List ℕ) (l f j i : ℕ) (some : 0 < l) (high : l �
           let r = found-later (labels s) (label-in (block-long s) bs) m (label l f j) (label l f (j + 1)) (before-next s _ _ refl refl (omega arith)) some m (place j % prime % m) i e in
           round ((i + 1) % m) (suc i) (mod-mod (i + 1) m ∙ ap (λ (n : ℕ). n % m) (add-one i)) ∙ sym (r .1) ∙ r .0
           ∙ round _ _ (sym (mod-mod (place (j + 1) % prime) m ∙ place-next (eqb-false _ _ z)))
+
+-- WHERE A SEARCH MAY START: at home, and behind the chunk before
+module _ (s : Sizes) (bs : List ℕ) where
+  pub starts-home : (w : Label) (start : ℕ) → start ≡ home s w → start < s .blocks → Starts s bs w start
+  unfolding search-in
+  starts-home w start e h = record { inside = h; same = ap (probe (before s) (label-in (block-long s) bs) (s .blocks) w (s .blocks)) e }
+
+  pub starts-behind : (l f j i start : ℕ) → 0 < l → l ≤ 19 → j + 1 ≤ 65535 → search-in s bs (label l f j) ≡ At i → start ≡ behind s (label l f (j + 1)) i → start < s .blocks → Starts s bs (label l f (j + 1)) start
+  starts-behind l f j i start some high few e es h = record { inside = h; same = rw es (search-behind s bs l f j i some high few e) }

@@ -14,17 +14,17 @@ use Rattle.sizes.specs.Hash.{hash-from}
 use Rattle.sizes.specs.Header.{block-long}
 use Rattle.placement.specs.Decode.{node-of}
 use Rattle.placement.specs.Labels.{label, before, home}
-use Rattle.placement.specs.Place.{Shaped, label-in, probe, search-in, behind, found-at}
+use Rattle.placement.specs.Place.{Shaped, label-in, probe, search-in, Starts, behind, found-at}
 use Rattle.sizes.specs.declared.Sizes.{Sizes}
 use Rattle.placement.specs.declared.Found.{Found}
 use Rattle.placement.specs.declared.Found.the-variants.{At, Nothing}
 use Rattle.sizes.proofs.Laws.Sizes.{row-least}
 use Rattle.sizes.proofs.Laws.HeaderLoops.{rows-one, rows-room}
-use Rattle.placement.proofs.Laws.Behind.{search-behind}
+use Rattle.placement.proofs.Laws.Behind.{starts-behind}
 use Rattle.placement.proofs.Laws.Loops.{search-below, search-none}
 use Rattle.placement.proofs.Laws.Reading.{key-of}
 use Rattle.table.specs.declared.Seen.{Seen}
-use Rattle.table.specs.Walk.{Walkable, wrong-seen, enters-ok, entered-seen, ended-seen, stops-at, node-good, nodes-by, spot, chunk-spot, empty-home, count-in, chunk-by, chunks-by, opens-of, Starting}
+use Rattle.table.specs.Walk.{Walkable, wrong-seen, enters-ok, entered-seen, ended-seen, stops-at, node-good, nodes-by, spot, chunk-spot, empty-home, count-in, chunk-by, chunks-by, opens-of}
 use Rattle.table.proofs.Laws.Steps.{enters-parts}
 
 -- NODES: what the loop over the nodes of a chunk keeps
@@ -246,16 +246,13 @@ module _ (s : Sizes) (bs : List ℕ) (w : Walkable s bs) (n : ℕ) (y : Seen) (t
 pub first-room : (s : Sizes) (a j n : ℕ) → a + row s * j ≤ n → 1 ≤ j → a + 4 ≤ n
 first-room s a j n h p = omega (arith, rows-one (row s) j p, row-least s)
 
--- WHERE THE SEARCH FOR A CHUNK MAY START: at its home, and behind the chunk before it
+-- where the search for a chunk may start: at its home, and behind the chunk before it
 module _ (s : Sizes) (bs : List ℕ) (f : ℕ) where
-  pub starting-home : (start : ℕ) → start ≡ home s (label 1 f 0) → start < s .blocks → Starting s bs f 0 start
-  unfolding chunk-spot search-in
-  starting-home start e h = record { inside = h; same = ap (probe (before s) (label-in (block-long s) bs) (s .blocks) (label 1 f 0) (s .blocks)) e }
-
   pub starting-next : (j i : ℕ) (r : Found) → r ≡ chunk-spot s bs 1 f j → r ≡ At i → j + 1 ≤ 65535 → (start : ℕ) → start ≡ behind s (label 1 f (j + 1)) i → start < s .blocks
-      → Starting s bs f (j + 1) start
+      → Starts s bs (label 1 f (j + 1)) start
   unfolding chunk-spot
-  starting-next j i r er ei few start e h = record { inside = h; same = rw e (search-behind s bs 1 f j i (omega arith) (omega arith) few (sym er ∙ ei)) }
+  starting-next j i r er ei few start e h = starts-behind s bs 1 f j i start (omega arith) (omega arith) few (sym er ∙ ei) e h
 
-  pub starting-found : (j start : ℕ) (r : Found) → Starting s bs f j start → r ≡ probe (before s) (label-in (block-long s) bs) (s .blocks) (label 1 f j) (s .blocks) start → r ≡ chunk-spot s bs 1 f j
+  pub starting-found : (j start : ℕ) (r : Found) → Starts s bs (label 1 f j) start → r ≡ probe (before s) (label-in (block-long s) bs) (s .blocks) (label 1 f j) (s .blocks) start → r ≡ chunk-spot s bs 1 f j
+  unfolding chunk-spot
   starting-found j start r st e = e ∙ st .same

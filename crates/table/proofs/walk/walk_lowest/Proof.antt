@@ -5,13 +5,15 @@ use Prim.Native.Nat.{_+_, _-_}
 use mathlib.Core.Path.{_≡_, refl}
 use mathlib.Core.Bool.{true}
 use native.Mathlib.Omega.{arith}
-use Rattle.table.specs.Walk.{Starting}
-use Rattle.table.proofs.Laws.Turns.{Chunking, chunking-start, chunking-end, chunking-none, starting-home, starting-next, Entering, entering-made, chunk-below, number-most, enters-good, chunk-room}
+use Rattle.placement.specs.Labels.{label}
+use Rattle.placement.specs.Place.{Starts}
+use Rattle.placement.proofs.Laws.Behind.{starts-home}
+use Rattle.table.proofs.Laws.Turns.{Chunking, chunking-start, chunking-end, chunking-none, starting-next, Entering, entering-made, chunk-below, number-most, enters-good, chunk-room}
 use Rattle.table.proofs.Laws.Lowest.{Lowering, lowering-start, lowering-room, lowering-key, lowering-more, comes-fits, lowest-enters, lowest-few, lowest-holds, lowest-refused, lowest-wrong, lowest-stop, lowest-more}
 use Rattle.table.proofs.walk.walk_lowest.Statement.{statement}
 use Rattle.table.proofs.walk.walk_lowest.Tie as tie
 
-ruleset laws = (needs, not-true, not-false, chunking-start, chunking-end, chunking-none, starting-home, starting-next, chunk-below, number-most, lowering-key, comes-fits)
+ruleset laws = (needs, not-true, not-false, chunking-start, chunking-end, chunking-none, starts-home, starting-next, chunk-below, number-most, lowering-key, comes-fits)
 
 abbrev Inv-loop : tie.InvT-loop
 Inv-loop table q first g w seen₀ number start i at n opens₀ low₀ place₀ k₀ seen opens low place k = (seen ≡ seen₀) × Lowering (q .sizes) table first n (at + 8) opens₀ seen₀ k place opens low
@@ -20,7 +22,7 @@ abbrev μ-loop : tie.MeasureT-loop
 μ-loop table q first g w seen₀ number start i at n opens₀ low₀ place₀ k₀ seen opens low place k = k
 
 abbrev Inv-blocks2 : tie.InvT-blocks2
-Inv-blocks2 table q first g w seen₀ number₀ start₀ seen number start = Chunking (q .sizes) table 1 first seen₀ number seen × Starting (q .sizes) table first number start
+Inv-blocks2 table q first g w seen₀ number₀ start₀ seen number start = Chunking (q .sizes) table 1 first seen₀ number seen × Starts (q .sizes) table (label 1 first number) start
 
 abbrev μ-blocks2 : tie.MeasureT-blocks2
 μ-blocks2 table q first g w seen₀ number₀ start₀ seen number start = q .sizes .blocks - number
