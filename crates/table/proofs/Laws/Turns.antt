@@ -246,7 +246,7 @@ module _ (s : Sizes) (bs : List ℕ) (w : Walkable s bs) (n : ℕ) (y : Seen) (t
 pub first-room : (s : Sizes) (a j n : ℕ) → a + row s * j ≤ n → 1 ≤ j → a + 4 ≤ n
 first-room s a j n h p = omega (arith, rows-one (row s) j p, row-least s)
 
--- where the search for a chunk may start: at its home, and behind the chunk before it
+-- the search for a chunk of level 1 may start behind the chunk before it, and finds it from wherever it may start
 module _ (s : Sizes) (bs : List ℕ) (f : ℕ) where
   pub starting-next : (j i : ℕ) (r : Found) → r ≡ chunk-spot s bs 1 f j → r ≡ At i → j + 1 ≤ 65535 → (start : ℕ) → start ≡ behind s (label 1 f (j + 1)) i → start < s .blocks
       → Starts s bs (label 1 f (j + 1)) start
