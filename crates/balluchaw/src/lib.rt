@@ -1,4 +1,6 @@
 // The C interface: each call as documents 01 and 02 have it, on numbers and byte slices. include/balluchaw.h says the same in C.
+#![tactic(auto)]
+
 ghost use Rattle.std.specs.Prelude.{◌≡◌};
 ghost use Rattle.table.specs.Calls.{parameters, MakeSays, check_number, EnterSays, AmendSays, CancelSays, LookSays, DescentSays, SpanSays, SeekSays};
 

@@ -1,4 +1,6 @@
 // The text program: lines of calls from standard input, their answers to standard output, on one table of at most 65,536 bytes.
+#![tactic(auto)]
+
 ghost use Rattle.std.specs.Prelude.{◌≡◌, ◌<◌, length};
 ghost use Rattle.console.specs.Input.{state, Turned, Taken, emptied, TakenWhole, Finished};
 ghost use Rattle.answers.specs.Lent.{Lent};
@@ -10,21 +12,21 @@ use lines::Reader;
 use lines::reading::{advance, close, is_under_way, start};
 
 // A line that may go on in the next bytes that come, and how far the buffers are in use.
-#[derive(Drop)]
+#[derive(Clone, Copy)]
 pub struct Run {
     pub reader: Reader,
     pub lengths: Lengths,
 }
 
 // A run after some bytes more, and how many reads may follow: none at the end of the input.
-#[derive(Drop)]
+#[derive(Clone, Copy)]
 pub struct Turn {
     pub run: Run,
     pub left: u64,
 }
 
 // A run after a line more, and the place behind it.
-#[derive(Drop)]
+#[derive(Clone, Copy)]
 pub struct Next {
     pub run: Run,
     pub at: usize,

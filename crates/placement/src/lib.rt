@@ -1,12 +1,14 @@
 // Placement: where the chunks of a B-skip-list stand in a table of blocks, and how they are found, put in and taken out.
 // What the layer above may rest on is said by maps from labels to nodes: specs/Maps.antt, proofs/Laws/Tables.antt.
+#![tactic(auto)]
+
 pub mod edits;
 pub mod labels;
 pub mod rows;
 pub mod search;
 
 // An order, and a node of a chunk: the front is a node of key 0. Its price is 0 where nodes have no place for one.
-#[derive(Drop)]
+#[derive(Clone, Copy)]
 pub struct Order {
     pub key: u32,
     pub total: u32,
@@ -15,7 +17,7 @@ pub struct Order {
 }
 
 // The label of a chunk; level 0 stands for an empty block.
-#[derive(Drop)]
+#[derive(Clone, Copy)]
 pub struct Label {
     pub level: u32,
     pub first: u32,
@@ -24,14 +26,14 @@ pub struct Label {
 
 // Levels that come before another, of which a block's level is told to be one by one comparison: `many` from `from` on, counted round at 2^32. That other
 // level may be among them, and is not asked.
-#[derive(Drop)]
+#[derive(Clone, Copy)]
 pub struct Ahead {
     pub from: u32,
     pub many: u32,
 }
 
 // What a search meets in a block: a smaller label, which it goes past; the label that it looks for; or neither, and so it ends.
-#[derive(Drop)]
+#[derive(Clone, Copy)]
 pub enum Met {
     Past,
     Here,
@@ -39,7 +41,7 @@ pub enum Met {
 }
 
 // A block, or none.
-#[derive(Drop)]
+#[derive(Clone, Copy)]
 pub enum Found {
     At(u32),
     Nothing,

@@ -117,7 +117,7 @@ fn range(table: &[u8], lo: u32, hi: u32) -> u32
 }
 
 // What a search for an order finds.
-#[derive(Drop)]
+#[derive(Clone, Copy)]
 pub enum Sought {
     Is(Order),
     Nothing,

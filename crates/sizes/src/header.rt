@@ -8,7 +8,7 @@ ghost use Rattle.sizes.specs.Header.{block_long, table_long, header_at, header_w
 use crate::{Field, Sizes, hash, numbers};
 
 // What a header says: the sizes and the seed, and the number of orders held.
-#[derive(Drop)]
+#[derive(Clone, Copy)]
 pub struct Header {
     pub sizes: Sizes,
     pub held: u32,

@@ -1,4 +1,6 @@
 // The sizes and the seed of a table: numbers in bytes, the hashes, and the header that has them.
+#![tactic(auto)]
+
 pub mod hash;
 pub mod header;
 pub mod numbers;
@@ -7,7 +9,7 @@ pub mod numbers;
 pub const PRIME: u32 = 2147483647;
 
 // The version, the sizes and the seed of a table. `nodes` is document 01's B, `orders` its N, `blocks` its M.
-#[derive(Drop)]
+#[derive(Clone, Copy)]
 pub struct Sizes {
     pub version: u32,
     pub gamma: u32,
@@ -19,7 +21,7 @@ pub struct Sizes {
 
 // Sizes with what follows from them, reckoned once and carried along: 2^32 over gamma and over the number of blocks, each rounded up (`numbers::over`), and β,
 // the highest level.
-#[derive(Drop)]
+#[derive(Clone, Copy)]
 pub struct Geometry {
     pub sizes: Sizes,
     pub ratio: u64,
@@ -28,7 +30,7 @@ pub struct Geometry {
 }
 
 // Where a field of the header stands, and how wide it is.
-#[derive(Drop)]
+#[derive(Clone, Copy)]
 pub struct Field {
     pub at: usize,
     pub width: usize,

@@ -1,11 +1,13 @@
 // The open-order table: make, and the check that answers question 4; what each call of documents 01 and 02 has to answer (specs/Calls.antt).
+#![tactic(auto)]
+
 pub mod checking;
 pub mod making;
 pub mod sweep;
 pub mod walk;
 
 // A walk under way: no key below `low` may come, and so many orders and chunks are still to come.
-#[derive(Drop)]
+#[derive(Clone, Copy)]
 pub struct Seen {
     pub ok: bool,
     pub low: u32,
@@ -14,7 +16,7 @@ pub struct Seen {
 }
 
 // A pass over the blocks: whether all unused bytes are zero, and how many blocks are not empty.
-#[derive(Drop)]
+#[derive(Clone, Copy)]
 pub struct Tally {
     pub clean: bool,
     pub full: u32,
@@ -22,7 +24,7 @@ pub struct Tally {
 
 // The answer of a reading: its number, an order, and how many orders a span or blocks a descent wrote.
 #[repr(C)]
-#[derive(Drop)]
+#[derive(Clone, Copy)]
 pub struct Reply {
     pub number: u32,
     pub key: u32,

@@ -7,16 +7,16 @@ use Rattle.placement.proofs.edits.insert.Tie as tie
 ruleset laws = (rules, free_at)
 
 -- by hand: `search` goes past its limit of steps here
-returns-2 : tie.Need-returns-2
+returns-2 : tie.Need-returns
 returns-2 c =
     let f = c.before.before.before.before.before.before.before.before.before.before in (
       search inserted_found,
-      inserted_made _ _ _ _ _ f.before.before.before.before.home.ensures.0 f.before.before.free.ensures _ _ _ _ _ _ c.before.before.before.before.before.before.before.write-block.ensures
-          c.before.before.before.distance.ensures.0 c.before.before.settle-in.ensures,
+      inserted_made _ _ _ _ _ f.before.home-first.ensures.0 f.free.ensures _ _ _ _ _ _ c.before.before.before.before.before.before.before.write_block.ensures
+          c.before.before.before.distance.ensures.0 c.before.before.settle_in.ensures,
     )
 
 -- by hand, for the same reason
-settle-in-requires : tie.Need-settle-in-requires
+settle-in-requires : tie.Need-settle_in-requires
 settle-in-requires c κs = (search laws, search laws, search laws, omega (arith, c.distance.ensures.1))
 
 pub insert_spec : {M : Type 1} → statement M

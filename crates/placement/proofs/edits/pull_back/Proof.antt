@@ -6,16 +6,16 @@ use Rattle.placement.proofs.edits.pull_back.Tie as tie
 
 ruleset laws = (rules, mod-lt, pulling_start, pulling_next, pulling_end, pulling_empty)
 
-abbrev invariant-loop : tie.invariant-loop
-invariant-loop table₀ g at m hole₀ k₀ table hole k = Pulling g at table₀ table hole k
+abbrev invariant-loop-k : tie.invariant-loop-k
+invariant-loop-k table₀ g at m hole₀ k₀ table hole k = Pulling g at table₀ table hole k
 
-abbrev decreases-loop : tie.decreases-loop
-decreases-loop table₀ g at m hole₀ k₀ table hole k = m - k
+abbrev decreases-loop-k : tie.decreases-loop-k
+decreases-loop-k table₀ g at m hole₀ k₀ table hole k = m - k
 
 pub pull_back_spec : {M : Type 1} → statement M
 pull_back_spec =
     tie.close
-    (tie.spec invariant-loop decreases-loop (λ c. search laws) (λ c. search laws) (λ c. search laws) (λ c κs. search laws)
+    (tie.spec invariant-loop-k decreases-loop-k (λ c. search laws) (λ c. search laws) (λ c. search laws) (λ c κs. search laws)
     (λ c κs. search laws) (λ c. search laws) (λ c. search laws) (λ c κs. search laws) (λ c κs. search laws)
     (λ c. search laws) (λ c. search laws) (λ c. search laws) (λ c κs. search laws) (λ c. search laws)
     (λ c. search laws))

@@ -6,14 +6,14 @@ use Rattle.placement.proofs.edits.settle_in.Tie as tie
 
 ruleset laws = (rules, mod-lt, settling_start, settling_more, settling_end)
 
-abbrev invariant-loop : tie.invariant-loop
-invariant-loop table₀ g e start n m k₀ table k = Settling g e start n table₀ table k
+abbrev invariant-loop-k : tie.invariant-loop-k
+invariant-loop-k table₀ g e start n m k₀ table k = Settling g e start n table₀ table k
 
-abbrev decreases-loop : tie.decreases-loop
-decreases-loop table₀ g e start n m k₀ table k = n - k
+abbrev decreases-loop-k : tie.decreases-loop-k
+decreases-loop-k table₀ g e start n m k₀ table k = n - k
 
 pub settle_in_spec : {M : Type 1} → statement M
 settle_in_spec =
     tie.close
-    (tie.spec invariant-loop decreases-loop (λ c. search laws) (λ c. search laws) (λ c. search laws) (λ c κs. search laws)
+    (tie.spec invariant-loop-k decreases-loop-k (λ c. search laws) (λ c. search laws) (λ c. search laws) (λ c κs. search laws)
     (λ c. search laws) (λ c. search laws) (λ c. search laws) (λ c. search laws) (λ c. search laws))

@@ -9,13 +9,13 @@ use Rattle.sizes.specs.Header.{block_long}
 
 ruleset laws = (rules, probing_start, probing_end, probing_more, probing_here, probing_other, not_here, not_other)
 
-abbrev invariant-loop : tie.invariant-loop
-invariant-loop table s start most want a i₀ left₀ i left = Probing (before s) (label_in (block_long s) table) s.blocks want most start left i
+abbrev invariant-loop-left : tie.invariant-loop-left
+invariant-loop-left table s start most want a i₀ left₀ i left = Probing (before s) (label_in (block_long s) table) s.blocks want most start left i
 
-abbrev decreases-loop : tie.decreases-loop
-decreases-loop table s start most want a i₀ left₀ i left = left
+abbrev decreases-loop-left : tie.decreases-loop-left
+decreases-loop-left table s start most want a i₀ left₀ i left = left
 
 pub find_from_spec : {M : Type 1} → statement M
 find_from_spec =
     tie.close
-    (tie.spec invariant-loop decreases-loop (λ c κs. search laws) (λ c. search laws) (λ c κs. search laws) (λ c. search laws) (λ c. search laws) (λ c. search laws) (λ c κs. search laws) (λ c. search laws) (λ c. search laws) (λ c. search laws) (λ c. search laws) (λ c. search laws) (λ c. search laws))
+    (tie.spec invariant-loop-left decreases-loop-left (λ c κs. search laws) (λ c. search laws) (λ c κs. search laws) (λ c. search laws) (λ c. search laws) (λ c. search laws) (λ c κs. search laws) (λ c. search laws) (λ c. search laws) (λ c. search laws) (λ c. search laws) (λ c. search laws) (λ c. search laws))

@@ -8,14 +8,14 @@ use Rattle.placement.proofs.search.past_lower.Tie as tie
 
 ruleset laws = (rules, not-true, not-false, goes_more)
 
-abbrev invariant-loop : tie.invariant-loop
-invariant-loop table s start want i₀ i = Goes_on s table want start i
+abbrev invariant-loop-i : tie.invariant-loop-i
+invariant-loop-i table s start want i₀ i = Goes_on s table want start i
 
-abbrev decreases-loop : tie.decreases-loop
-decreases-loop table s start want i₀ i = s.blocks - i
+abbrev decreases-loop-i : tie.decreases-loop-i
+decreases-loop-i table s start want i₀ i = s.blocks - i
 
 pub past_lower_spec : {M : Type 1} → statement M
 past_lower_spec =
     tie.close
-    (tie.spec invariant-loop decreases-loop (λ c κs. search laws) (λ c. search laws) (λ c κs. search laws) (λ c. search laws) (λ c. search laws) (λ c. search laws)
+    (tie.spec invariant-loop-i decreases-loop-i (λ c κs. search laws) (λ c. search laws) (λ c κs. search laws) (λ c. search laws) (λ c. search laws) (λ c. search laws)
     (λ c. search laws) (λ c. search laws))

@@ -6,10 +6,10 @@ use Rattle.sizes.proofs.hash.level_of.Tie as tie
 
 ruleset laws = (rules, level_front, level_first, level_key, beta_some, beta_more, level_small)
 
-returns-2 : tie.Need-returns-2
+returns-2 : tie.Need-returns-then-h-s-ne0
 returns-2 c =
-    level_first _ _ _ c.before.before.hash.result c.before.before.before.if1.false c.before.before.before.before.requires.2 c.before.before.hash.ensures.0
-    c.if2.true
+    level_first _ _ _ c.before.before.hash-h.result c.before.before.before.if-key-eq0.false c.before.before.before.before.requires.2 c.before.before.hash-h.ensures.0
+    c.if-h-s-ne0.true
 
 pub level_of_spec : {M : Type 1} → statement M
 level_of_spec =

@@ -7,14 +7,14 @@ use Rattle.sizes.proofs.hash.powers.Tie as tie
 
 ruleset laws = (rules, powering_start, powering_small, powering_more, powering_end)
 
-abbrev invariant-loop : tie.invariant-loop
-invariant-loop x y all₀ power₀ i₀ all power i = Powering x all power i
+abbrev invariant-loop-i : tie.invariant-loop-i
+invariant-loop-i x y all₀ power₀ i₀ all power i = Powering x all power i
 
-abbrev decreases-loop : tie.decreases-loop
-decreases-loop x y all₀ power₀ i₀ all power i = 5 - i
+abbrev decreases-loop-i : tie.decreases-loop-i
+decreases-loop-i x y all₀ power₀ i₀ all power i = 5 - i
 
 pub powers_spec : {M : Type 1} → statement M
 powers_spec =
     tie.close
-    (tie.spec invariant-loop decreases-loop (λ c κs. search laws) (λ c. search laws) (λ c. search laws) (λ c. search laws) (λ c κs. search laws)
+    (tie.spec invariant-loop-i decreases-loop-i (λ c κs. search laws) (λ c. search laws) (λ c. search laws) (λ c. search laws) (λ c κs. search laws)
     (λ c. search laws) (λ c. search laws) (λ c. search laws) (λ c. search laws))

@@ -8,15 +8,15 @@ use Rattle.sizes.proofs.hash.weigh.Tie as tie
 
 ruleset laws = (rules, lt_of_lt_of_le, weighing_start, weighing_folded, weighing_fits, weighing_sum, weighing_more, weighing_end)
 
-abbrev invariant-loop : tie.invariant-loop
-invariant-loop at x s all sum₀ k₀ sum k = Weighing s at x sum k
+abbrev invariant-loop-k : tie.invariant-loop-k
+invariant-loop-k at x s all sum₀ k₀ sum k = Weighing s at x sum k
 
-abbrev decreases-loop : tie.decreases-loop
-decreases-loop at x s all sum₀ k₀ sum k = 5 - k
+abbrev decreases-loop-k : tie.decreases-loop-k
+decreases-loop-k at x s all sum₀ k₀ sum k = 5 - k
 
 pub weigh_spec : {M : Type 1} → statement M
 weigh_spec =
     tie.close
-    (tie.spec invariant-loop decreases-loop (λ c. search laws) (λ c κs. search laws) (λ c. search laws) (λ c. search laws) (λ c. search laws)
+    (tie.spec invariant-loop-k decreases-loop-k (λ c. search laws) (λ c κs. search laws) (λ c. search laws) (λ c. search laws) (λ c. search laws)
     (λ c. search laws) (λ c. search laws) (λ c. search laws) (λ c. search laws) (λ c. search laws) (λ c. search laws) (λ c. search laws)
     (λ c. search laws) (λ c κs. search laws) (λ c κs. search laws) (λ c. search laws))

@@ -7,14 +7,14 @@ use Rattle.sizes.proofs.header.put.Tie as tie
 
 ruleset laws = (rules, putting_start, putting_more, putting_end)
 
-abbrev invariant-loop : tie.invariant-loop
-invariant-loop s₀ at n v rest₀ k₀ s rest k = Putting s₀ at n v s rest k
+abbrev invariant-loop-k : tie.invariant-loop-k
+invariant-loop-k s₀ at n v rest₀ k₀ s rest k = Putting s₀ at n v s rest k
 
-abbrev decreases-loop : tie.decreases-loop
-decreases-loop s₀ at n v rest₀ k₀ s rest k = n - k
+abbrev decreases-loop-k : tie.decreases-loop-k
+decreases-loop-k s₀ at n v rest₀ k₀ s rest k = n - k
 
 pub put_spec : {M : Type 1} → statement M
 put_spec =
     tie.close
-    (tie.spec invariant-loop decreases-loop (λ c. search laws) (λ c. search laws) (λ c. search laws) (λ c. search laws)
+    (tie.spec invariant-loop-k decreases-loop-k (λ c. search laws) (λ c. search laws) (λ c. search laws) (λ c. search laws)
     (λ c. search laws) (λ c. search laws) (λ c. search laws) (λ c. search laws) (λ c. search laws) (λ c. search laws))

@@ -7,14 +7,14 @@ use Rattle.sizes.proofs.header.seed_allowed.Tie as tie
 
 ruleset laws = (rules, seeding_start, seeding_stop, seeding_more, seeding_end)
 
-abbrev invariant-loop : tie.invariant-loop
-invariant-loop s i₀ i = Seeding s.seed i
+abbrev invariant-loop-i : tie.invariant-loop-i
+invariant-loop-i s i₀ i = Seeding s.seed i
 
-abbrev decreases-loop : tie.decreases-loop
-decreases-loop s i₀ i = 10 - i
+abbrev decreases-loop-i : tie.decreases-loop-i
+decreases-loop-i s i₀ i = 10 - i
 
 pub seed_allowed_spec : {M : Type 1} → statement M
 seed_allowed_spec =
     tie.close
-    (tie.spec invariant-loop decreases-loop (λ c. search laws) (λ c. search laws) (λ c. search laws) (λ c. search laws)
+    (tie.spec invariant-loop-i decreases-loop-i (λ c. search laws) (λ c. search laws) (λ c. search laws) (λ c. search laws)
     (λ c. search laws) (λ c. search laws) (λ c. search laws) (λ c. search laws))

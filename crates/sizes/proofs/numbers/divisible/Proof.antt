@@ -5,7 +5,7 @@ use Rattle.sizes.proofs.Laws.Over.{times_fits, divides_says}
 use Rattle.sizes.proofs.numbers.divisible.Statement.{statement}
 use Rattle.sizes.proofs.numbers.divisible.Tie as tie
 
-mul-result : tie.Need-overflow-mul-result
+mul-result : tie.Need-overflow_mul-result
 mul-result c = record { fits = omega (arith, times_fits c.quotient.result c.before.args.d c.quotient.ensures.1 (search rules)) }
 
 returns : tie.Need-returns

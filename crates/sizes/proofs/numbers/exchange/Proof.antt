@@ -9,15 +9,15 @@ use Rattle.sizes.proofs.numbers.exchange.Tie as tie
 
 ruleset laws = (rules, exchanged_start, exchanged_more, exchanged_end)
 
-abbrev invariant-loop : tie.invariant-loop
-invariant-loop s₀ a b n k₀ s k = Exchanged s₀ a b n s k
+abbrev invariant-loop-k : tie.invariant-loop-k
+invariant-loop-k s₀ a b n k₀ s k = Exchanged s₀ a b n s k
 
-abbrev decreases-loop : tie.decreases-loop
-decreases-loop s₀ a b n k₀ s k = n - k
+abbrev decreases-loop-k : tie.decreases-loop-k
+decreases-loop-k s₀ a b n k₀ s k = n - k
 
 pub exchange_spec : {M : Type 1} → statement M
 exchange_spec =
     tie.close
-    (tie.spec invariant-loop decreases-loop (λ c. search laws) (λ c. search laws) (λ c. search laws) (λ c. search laws)
+    (tie.spec invariant-loop-k decreases-loop-k (λ c. search laws) (λ c. search laws) (λ c. search laws) (λ c. search laws)
     (λ c. search laws) (λ c. search laws) (λ c. search laws) (λ c. search laws) (λ c. simp length-set (omega arith))
     (λ c. search laws) (λ c. search laws) (λ c. search laws) (λ c. search laws) (λ c. search laws))

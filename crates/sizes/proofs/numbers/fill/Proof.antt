@@ -8,14 +8,14 @@ use Rattle.sizes.proofs.numbers.fill.Tie as tie
 
 ruleset laws = (rules, written_start, filled, written_end, length-replicate)
 
-abbrev invariant-loop : tie.invariant-loop
-invariant-loop s₀ at n k₀ s k = Written s₀ at (replicate n 0) n s k
+abbrev invariant-loop-k : tie.invariant-loop-k
+invariant-loop-k s₀ at n k₀ s k = Written s₀ at (replicate n 0) n s k
 
-abbrev decreases-loop : tie.decreases-loop
-decreases-loop s₀ at n k₀ s k = n - k
+abbrev decreases-loop-k : tie.decreases-loop-k
+decreases-loop-k s₀ at n k₀ s k = n - k
 
 pub fill_spec : {M : Type 1} → statement M
 fill_spec =
     tie.close
-    (tie.spec invariant-loop decreases-loop (λ c. search laws) (λ c. search laws) (λ c. search laws) (λ c. search laws)
+    (tie.spec invariant-loop-k decreases-loop-k (λ c. search laws) (λ c. search laws) (λ c. search laws) (λ c. search laws)
     (λ c. search laws) (λ c. search laws) (λ c. search laws) (λ c. search laws))

@@ -6,7 +6,7 @@ use Rattle.sizes.proofs.Laws.Over.{over_fits}
 use Rattle.sizes.proofs.numbers.quotient.Statement.{statement}
 use Rattle.sizes.proofs.numbers.quotient.Tie as tie
 
-mul-result : tie.Need-overflow-mul-result
+mul-result : tie.Need-overflow_mul-result
 mul-result c = record { fits = omega (arith, over_fits c.args.x c.args.d c.args.up (search rules) c.requires.0 c.requires.1) }
 
 returns : tie.Need-returns

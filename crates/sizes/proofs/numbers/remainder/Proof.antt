@@ -6,29 +6,29 @@ use Rattle.sizes.proofs.Laws.Over.{times_fits, remainder_less, remainder_more}
 use Rattle.sizes.proofs.numbers.remainder.Statement.{statement}
 use Rattle.sizes.proofs.numbers.remainder.Tie as tie
 
-mul-t : tie.Need-overflow-mul-t
+mul-t : tie.Need-overflow_mul-t
 mul-t c = record { fits = omega (arith, times_fits c.quotient.result c.before.args.d c.quotient.ensures.1 (search rules)) }
 
-sub-result : tie.Need-overflow-sub-result
+sub-result : tie.Need-overflow_sub-result
 sub-result c =
     let a = c.before.before in
     (remainder_less a.args.x a.args.d a.args.up c.before.quotient.result a.requires.0 a.requires.3 c.before.quotient.ensures.0
-    a.requires.2 a.requires.1 c.if1.true).0
+    a.requires.2 a.requires.1 c.if-y-t.true).0
 
-returns : tie.Need-returns
+returns : tie.Need-returns-then-y-t
 returns c =
     let a = c.before.before in
     let r =
     (remainder_less a.args.x a.args.d a.args.up c.before.quotient.result a.requires.0 a.requires.3 c.before.quotient.ensures.0
-    a.requires.2 a.requires.1 c.if1.true).1 in
+    a.requires.2 a.requires.1 c.if-y-t.true).1 in
     (r, omega (arith, r, mod-lt a.args.x a.requires.0))
 
-returns-2 : tie.Need-returns-2
+returns-2 : tie.Need-returns
 returns-2 c =
     let a = c.before.before in
     let r =
     remainder_more a.args.x a.args.d a.args.up c.before.quotient.result a.requires.0 a.requires.3 c.before.quotient.ensures.0
-    a.requires.2 a.requires.1 c.if1.false in
+    a.requires.2 a.requires.1 c.if-y-t.false in
     (r, omega (arith, r, mod-lt a.args.x a.requires.0))
 
 pub remainder_spec : {M : Type 1} → statement M

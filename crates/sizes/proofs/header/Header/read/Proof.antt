@@ -7,15 +7,15 @@ use Rattle.sizes.proofs.header.Header.read.Tie as tie
 
 ruleset laws = (rules, seeded_start, seeded_more, seeded_end, sizes_read, held_read)
 
-abbrev invariant-loop : tie.invariant-loop
-invariant-loop table seed₀ i₀ seed i = Seeded table seed i
+abbrev invariant-loop-i : tie.invariant-loop-i
+invariant-loop-i table seed₀ i₀ seed i = Seeded table seed i
 
-abbrev decreases-loop : tie.decreases-loop
-decreases-loop table seed₀ i₀ seed i = 10 - i
+abbrev decreases-loop-i : tie.decreases-loop-i
+decreases-loop-i table seed₀ i₀ seed i = 10 - i
 
 pub read_spec : {M : Type 1} → statement M
 read_spec =
     tie.close
-    (tie.spec invariant-loop decreases-loop (λ c. search laws) (λ c. search laws) (λ c. search laws) (λ c κs. search laws) (λ c. search laws)
+    (tie.spec invariant-loop-i decreases-loop-i (λ c. search laws) (λ c. search laws) (λ c. search laws) (λ c κs. search laws) (λ c. search laws)
     (λ c. search laws) (λ c. search laws) (λ c. search laws) (λ c. search laws) (λ c κs. search laws)
     (λ c κs. search laws) (λ c κs. search laws) (λ c κs. search laws) (λ c κs. search laws) (λ c κs. search laws) (λ c. search laws))
