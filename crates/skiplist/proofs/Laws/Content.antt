@@ -86,9 +86,7 @@ module _ (l f : ℕ) where
         eq-eqb l l refl,
         eq-eqb f f refl,
         eq-eqb j j refl,
-        none_of (is_label l f j) k b l f (suc j) (drop b (o ∷ os)) (λ m q. rw (ne_eqb m j (omega arith), and-false, and-false)),
-        append-nil,
-      )
+      ) ?
   content_of (suc n) (suc k) b j (o ∷ os) h g =
       rw (ne_eqb j (j + suc n) (omega arith), and-false, and-false, add-suc, ← suc-add, suc-mul, add_comm (n * b) b, ← drop-drop)
       (content_of n k b (suc j) (drop b (o ∷ os)) h (simp length-drop (omega arith)))

@@ -88,7 +88,7 @@ module _ (s : Sizes) (l : ℕ) where
       let X = at_least s l os in
       let st = starts_one s l in
       let v : Heads 0 ((front ∷ run st X) ∷ rest st X) = rw (partitions_front s l X) at (parts_heads s l os u) in
-      rw (partitions_front s l X, ← starting_above os u, pick_at [] (front ∷ run st X) (rest st X) 0 v, each_rest st X ((front ∷ run st X) ∷ []) 0 v, run_flat st X)
+      rw (partitions_front s l X, ← starting_above os u, pick_at [] (front ∷ run st X) (rest st X) 0 v) ?
 
 pub run_none : (st : Order → Bool) (xs : List Order) → starting st xs ≡ [] → (run st xs ≡ xs) × (rest st xs ≡ [])
 unfolding starting run rest

@@ -8,14 +8,14 @@ use Rattle.lines.proofs.reading.advance.Tie as tie
 
 ruleset laws = (rules, advancing_start, advancing_more, advancing_stop, advancing_end)
 
-abbrev invariant-loop : tie.invariant-loop
-invariant-loop s at reader₀ i₀ reader i = Advancing s at reader₀ reader i
+abbrev invariant-loop-i : tie.invariant-loop-i
+invariant-loop-i s at reader₀ i₀ reader i = Advancing s at reader₀ reader i
 
-abbrev decreases-loop : tie.decreases-loop
-decreases-loop s at reader₀ i₀ reader i = length s - i
+abbrev decreases-loop-i : tie.decreases-loop-i
+decreases-loop-i s at reader₀ i₀ reader i = length s - i
 
 pub advance_spec : {M : Type 1} → statement M
 advance_spec =
     tie.close
-    (tie.spec invariant-loop decreases-loop (λ c. search laws) (λ c. search laws) (λ c κs. search laws) (λ c. search laws)
+    (tie.spec invariant-loop-i decreases-loop-i (λ c. search laws) (λ c. search laws) (λ c κs. search laws) (λ c. search laws)
     (λ c. search laws) (λ c. search laws) (λ c. search laws) (λ c. search laws))

@@ -26,8 +26,8 @@ abbrev put_number_below : ℕ → In 1 put-number-kinds.ps
 put_number_below t =
     and 1 put-number-kinds.ps (falls 1 put-number-kinds.ps ◌<◌ μ-put-number t) put-number.Pre
 
-pub +put-number-spec : {M : Type 1} → statement M
-+put-number-spec = close μ-put-number λ t. put-number-lts.spec (
+pub +put_number_spec : {M : Type 1} → statement M
++put_number_spec = close μ-put-number λ t. put-number-lts.spec (
   digit-reads.Asked,
   digit-reads.Learnt,
   put-byte-reads.Asked,
@@ -43,6 +43,6 @@ pub +put-number-spec : {M : Type 1} → statement M
     (λ c. search laws)
     (λ c κs. (omega arith, room_tenth _ _ _ (omega arith) (omega arith) (search laws)))
     (λ c κs. search laws)
-    (λ c κs. room_last _ _ _ _ _ c.before.before.before.before.put-number.ensures (omega arith) (omega arith) (search laws))
+    (λ c κs. room_last _ _ _ _ _ c.before.before.before.before.put_number-place.ensures (omega arith) (omega arith) (search laws))
     (λ c. search laws)
-    (λ c. put_digits _ _ _ _ _ _ _ _ c.before.before.before.before.before.before.before.put-number.ensures c.before.before.put-byte2.ensures (omega arith) (omega arith) (search laws))
+    (λ c. put_digits _ _ _ _ _ _ _ _ c.before.before.before.before.before.before.before.put_number-place.ensures c.before.before.put_byte-2.ensures (omega arith) (omega arith) (search laws))
