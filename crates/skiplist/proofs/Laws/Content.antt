@@ -1,5 +1,5 @@
 -- The chunks of some orders, seen as a map from labels to nodes: what stands under (l, f, i) is the i-th piece of the partition that f heads, masked.
-use mathlib.Core.Path.{◌≡◌, refl, ◌∙◌}
+use mathlib.Core.Path.{ap, ◌≡◌, refl, ◌∙◌}
 use mathlib.Core.Bool.{Bool, true, false, cond, and-false}
 use mathlib.Core.List.{List, [], ◌∷◌, ◌++◌, map, append_assoc, append-nil}
 use Prim.Native.Nat.{ℕ, zero, suc, ◌+◌, ◌*◌, ◌≤◌, ◌<◌}
@@ -86,9 +86,12 @@ module _ (l f : ℕ) where
         eq-eqb l l refl,
         eq-eqb f f refl,
         eq-eqb j j refl,
-      ) ?
+        none_of (is_label l f (j + 0)) k b l f (suc j) (drop b (o ∷ os)) (λ m q. rw (add-zero, ne_eqb m j (omega arith), and-false, and-false)),
+        append-nil,
+      )
   content_of (suc n) (suc k) b j (o ∷ os) h g =
-      rw (ne_eqb j (j + suc n) (omega arith), and-false, and-false, add-suc, ← suc-add, suc-mul, add_comm (n * b) b, ← drop-drop)
+      let e : j + suc n ≡ suc j + n = omega arith in
+      rw (ne_eqb j (j + suc n) (omega arith), and-false, and-false, ap (λ (i : ℕ). picked (is_label l f i) (chunks_of k b l f (suc j) (drop b (o ∷ os)))) e, suc-mul, add_comm (n * b) b, ← drop-drop)
       (content_of n k b (suc j) (drop b (o ∷ os)) h (simp length-drop (omega arith)))
 
 module _ (s : Sizes) (l f i : ℕ) where

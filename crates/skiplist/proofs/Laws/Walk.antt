@@ -88,7 +88,8 @@ module _ (s : Sizes) (l : ℕ) where
       let X = at_least s l os in
       let st = starts_one s l in
       let v : Heads 0 ((front ∷ run st X) ∷ rest st X) = rw (partitions_front s l X) at (parts_heads s l os u) in
-      rw (partitions_front s l X, ← starting_above os u, pick_at [] (front ∷ run st X) (rest st X) 0 v) ?
+      let w = ap (λ (ps : List (List Order)). each (λ (x : Order). pick x.key ps) (starting st X)) (partitions_front s l X) in
+      rw (partitions_front s l X, ← starting_above os u, pick_at [] (front ∷ run st X) (rest st X) 0 v, w, each_rest st X ((front ∷ run st X) ∷ []) 0 v, run_flat st X)
 
 pub run_none : (st : Order → Bool) (xs : List Order) → starting st xs ≡ [] → (run st xs ≡ xs) × (rest st xs ≡ [])
 unfolding starting run rest
