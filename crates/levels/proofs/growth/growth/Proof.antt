@@ -6,14 +6,14 @@ use Rattle.levels.proofs.growth.growth.Tie as tie
 
 ruleset laws = (rules, growing_start, growing_more, growing_end)
 
-abbrev invariant-loop : tie.invariant-loop
-invariant-loop table q first l y sum₀ from₀ level₀ sum from level = Growing q.sizes table first l y level sum from
+abbrev invariant-loop-level : tie.invariant-loop-level
+invariant-loop-level table q first l y sum₀ from₀ level₀ sum from level = Growing q.sizes table first l y level sum from
 
-abbrev decreases-loop : tie.decreases-loop
-decreases-loop table q first l y sum₀ from₀ level₀ sum from level = level
+abbrev decreases-loop-level : tie.decreases-loop-level
+decreases-loop-level table q first l y sum₀ from₀ level₀ sum from level = level
 
 pub growth_spec : {M : Type 1} → statement M
 growth_spec =
     tie.close
-    (tie.spec invariant-loop decreases-loop (λ c. search laws) (λ c κs. search laws) (λ c κs. search laws) (λ c. search laws) (λ c. search laws)
+    (tie.spec invariant-loop-level decreases-loop-level (λ c. search laws) (λ c κs. search laws) (λ c κs. search laws) (λ c. search laws) (λ c. search laws)
     (λ c. search laws) (λ c. search laws) (λ c. search laws))

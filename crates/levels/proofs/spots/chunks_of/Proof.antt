@@ -9,7 +9,7 @@ use Rattle.levels.proofs.spots.chunks_of.Tie as tie
 
 ruleset laws = (rules, pieces_none, pieces_some, pieces_fit)
 
-add-result : tie.Need-overflow-add-result
+add-result : tie.Need-overflow_add-result
 add-result c = record { fits = omega (arith, div-le_self (c.before.args.n - 1) c.before.args.nodes) }
 
 pub chunks_of_spec : {M : Type 1} → statement M

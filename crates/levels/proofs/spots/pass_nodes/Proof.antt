@@ -7,12 +7,12 @@ use Rattle.levels.proofs.spots.pass_nodes.Tie as tie
 
 ruleset laws = (rules, passing_start, passing_more, passing_end)
 
-abbrev invariant-loop : tie.invariant-loop
-invariant-loop table w at n y spot₀ i₀ spot i = Passing w table n at y spot₀ i spot
+abbrev invariant-loop-i : tie.invariant-loop-i
+invariant-loop-i table w at n y spot₀ i₀ spot i = Passing w table n at y spot₀ i spot
 
-abbrev decreases-loop : tie.decreases-loop
-decreases-loop table w at n y spot₀ i₀ spot i = n - i
+abbrev decreases-loop-i : tie.decreases-loop-i
+decreases-loop-i table w at n y spot₀ i₀ spot i = n - i
 
 pub pass_nodes_spec : {M : Type 1} → statement M
 pass_nodes_spec =
-    tie.close (tie.spec invariant-loop decreases-loop (λ c. search laws) (λ c κs. search laws) (λ c κs. search laws) (λ c. search laws) (λ c. search laws) (λ c. search laws) (λ c. search laws))
+    tie.close (tie.spec invariant-loop-i decreases-loop-i (λ c. search laws) (λ c κs. search laws) (λ c κs. search laws) (λ c. search laws) (λ c. search laws) (λ c. search laws) (λ c. search laws))

@@ -7,12 +7,12 @@ use Rattle.levels.proofs.ways.upto.Tie as tie
 
 ruleset laws = (rules, upto_start, upto_stop, upto_more, upto_end)
 
-abbrev invariant-loop : tie.invariant-loop
-invariant-loop table w at n y i₀ i = Upto w table n at y i
+abbrev invariant-loop-i : tie.invariant-loop-i
+invariant-loop-i table w at n y i₀ i = Upto w table n at y i
 
-abbrev decreases-loop : tie.decreases-loop
-decreases-loop table w at n y i₀ i = n - i
+abbrev decreases-loop-i : tie.decreases-loop-i
+decreases-loop-i table w at n y i₀ i = n - i
 
 pub upto_spec : {M : Type 1} → statement M
 upto_spec =
-    tie.close (tie.spec invariant-loop decreases-loop (λ c. search laws) (λ c κs. search laws) (λ c. search laws) (λ c. search laws) (λ c. search laws) (λ c. search laws) (λ c. search laws))
+    tie.close (tie.spec invariant-loop-i decreases-loop-i (λ c. search laws) (λ c κs. search laws) (λ c. search laws) (λ c. search laws) (λ c. search laws) (λ c. search laws) (λ c. search laws))

@@ -8,14 +8,14 @@ use Rattle.table.proofs.making.sizes_of.Tie as tie
 
 ruleset laws = (rules, given_start, given_more, given_end)
 
-abbrev invariant-loop : tie.invariant-loop
-invariant-loop version gamma nodes orders blocks seed numbers₀ i₀ numbers i = Seeded (past_13 seed) numbers i
+abbrev invariant-loop-i : tie.invariant-loop-i
+invariant-loop-i version gamma nodes orders blocks seed numbers₀ i₀ numbers i = Seeded (past_13 seed) numbers i
 
-abbrev decreases-loop : tie.decreases-loop
-decreases-loop version gamma nodes orders blocks seed numbers₀ i₀ numbers i = 10 - i
+abbrev decreases-loop-i : tie.decreases-loop-i
+decreases-loop-i version gamma nodes orders blocks seed numbers₀ i₀ numbers i = 10 - i
 
 pub sizes_of_spec : {M : Type 1} → statement M
 sizes_of_spec =
     tie.close
-    (tie.spec invariant-loop decreases-loop (λ c. search laws) (λ c. search laws) (λ c κs. search laws) (λ c. search laws) (λ c. search laws)
+    (tie.spec invariant-loop-i decreases-loop-i (λ c. search laws) (λ c. search laws) (λ c κs. search laws) (λ c. search laws) (λ c. search laws)
     (λ c. search laws) (λ c. search laws) (λ c. search laws) (λ c. search laws))

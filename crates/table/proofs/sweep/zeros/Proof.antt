@@ -7,13 +7,13 @@ use Rattle.table.proofs.sweep.zeros.Tie as tie
 
 ruleset laws = (rules, masking_start, masking_more, masking_end, none_unused)
 
-abbrev invariant-loop : tie.invariant-loop
-invariant-loop table at long used mask words off any₀ j₀ any j = Masking table at (long / 4) (used / 4) j any
+abbrev invariant-loop-j : tie.invariant-loop-j
+invariant-loop-j table at long used mask words off any₀ j₀ any j = Masking table at (long / 4) (used / 4) j any
 
-abbrev decreases-loop : tie.decreases-loop
-decreases-loop table at long used mask words off any₀ j₀ any j = words - j
+abbrev decreases-loop-j : tie.decreases-loop-j
+decreases-loop-j table at long used mask words off any₀ j₀ any j = words - j
 
 pub zeros_spec : {M : Type 1} → statement M
 zeros_spec =
     tie.close
-    (tie.spec invariant-loop decreases-loop (λ c. search laws) (λ c. search laws) (λ c. search laws) (λ c. search laws) (λ c. search laws) (λ c κs. search laws) (λ c. search laws) (λ c. search laws) (λ c. search laws) (λ c. search laws) (λ c. search laws) (λ c. search laws) (λ c. search laws))
+    (tie.spec invariant-loop-j decreases-loop-j (λ c. search laws) (λ c. search laws) (λ c. search laws) (λ c. search laws) (λ c. search laws) (λ c κs. search laws) (λ c. search laws) (λ c. search laws) (λ c. search laws) (λ c. search laws) (λ c. search laws) (λ c. search laws) (λ c. search laws))

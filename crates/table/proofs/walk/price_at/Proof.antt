@@ -7,4 +7,4 @@ use Rattle.table.proofs.walk.price_at.Tie as tie
 ruleset laws = (rules, place_one)
 
 pub price_at_spec : {M : Type 1} → statement M
-price_at_spec = tie.close (tie.spec (λ c. search laws) (λ c. place_other _ c.if1.false))
+price_at_spec = tie.close (tie.spec (λ c. search laws) (λ c. place_other _ c.if-s-eq1.false))

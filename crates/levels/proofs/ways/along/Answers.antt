@@ -1,0 +1,90 @@
+-- `levels::ways::along` meets its contract: each need follows from the laws listed.
+use borrow.Author.Rules.{rules}
+use Rattle.sizes.proofs.Laws.Hashes.{hash_below}
+use Rattle.levels.proofs.Laws.Ways.{along_start, along_end, along_none, along_below, along_behind, along_short, along_last, along_more, trod_long}
+use Rattle.levels.proofs.ways.along.Goals as goal
+
+ruleset laws = (rules, hash_below, along_start, along_below, trod_long)
+
+pub home_over-start-requires : goal.home_over-start-requires
+home_over-start-requires c = search laws
+
+pub loop-want-init : goal.loop-want-init
+loop-want-init c = search laws
+
+pub find_past-requires : goal.find_past-requires
+find_past-requires c = search laws
+
+pub enum_known-i : goal.enum_known-i
+enum_known-i c = search laws
+
+pub enum_told-1 : goal.enum_told-1
+enum_told-1 c = search laws
+
+pub shape_of-path-in_default : goal.shape_of-path-in_default
+shape_of-path-in_default c = search laws
+
+pub returns-in_default : goal.returns-in_default
+returns-in_default c =
+    let e = c in
+    let a = e in
+    along_none _ _ _ _ _ _ a.requires.0 _ _ _ _ a.loop-want.invariant e.loop-want-test.true _ e.find_past.ensures c.in_default.is
+
+pub reached-n-requires : goal.reached-n-requires
+reached-n-requires c = search laws
+
+pub shape_of-path-then-n-eq0 : goal.shape_of-path-then-n-eq0
+shape_of-path-then-n-eq0 c = search laws
+
+pub returns-then-n-eq0 : goal.returns-then-n-eq0
+returns-then-n-eq0 c =
+    let e = c in
+    let a = e in
+    along_short _ _ _ _ _ _ a.requires.0 _ _ _ _ a.loop-want.invariant e.loop-want-test.true _ e.find_past.ensures _ c.in-At.is _
+    c.reached-n.ensures.0 c.if-n-eq0.true
+
+pub tread-w-requires : goal.tread-w-requires
+tread-w-requires c = search laws
+
+pub shape_of-path-then-n-s : goal.shape_of-path-then-n-s
+shape_of-path-then-n-s c = search laws
+
+pub returns-then-n-s : goal.returns-then-n-s
+returns-then-n-s c =
+    let d = c in
+    let e = d in
+    let a = e in
+    along_last _ _ _ _ _ _ a.requires.0 _ _ _ _ a.loop-want.invariant e.loop-want-test.true _ e.find_past.ensures _ d.in-At.is _
+    d.reached-n.ensures.0 d.if-n-eq0.false _ _ d.tread-w.ensures.0 d.tread-w.ensures.1 d.tread-w.ensures.2 c.if-n-s.true
+
+pub overflow_add-want : goal.overflow_add-want
+overflow_add-want c = search laws
+
+pub behind-start-requires : goal.behind-start-requires
+behind-start-requires c =
+    let i = c in
+    let e = i in
+    let a = e in
+    let x = a in
+    along_behind _ _ _ _ x.args.t _ x.requires.0 _ _ _ _ a.loop-want.invariant e.loop-want-test.true _ e.find_past.ensures _ i.in-At.is _ x.requires.2 (search laws)
+
+pub loop-want-smaller : goal.loop-want-smaller
+loop-want-smaller c = search laws
+
+pub loop-want-preserved : goal.loop-want-preserved
+loop-want-preserved c =
+    let d = c in
+    let e = d in
+    let a = e in
+    let x = a in
+    along_more _ _ _ _ x.args.t _ x.requires.0 _ _ _ _ a.loop-want.invariant e.loop-want-test.true _ e.find_past.ensures _ d.in-At.is _
+    d.reached-n.ensures.0 d.if-n-eq0.false _ _ d.tread-w.ensures.0 d.tread-w.ensures.1 d.tread-w.ensures.2 c.if-n-s.false
+    x.requires.3 (search laws) _ c.behind-start.ensures.0 c.behind-start.ensures.1
+
+pub shape_of-path : goal.shape_of-path
+shape_of-path c = search laws
+
+pub returns : goal.returns
+returns c =
+    let a = c in
+    along_end _ _ _ _ _ _ a.requires.0 _ _ _ _ a.loop-want.invariant c.loop-want-test.false
