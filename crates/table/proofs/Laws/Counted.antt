@@ -59,7 +59,8 @@ level_count s l os u =
     let v : Heads 0 ((front ∷ run st X) ∷ rest st X) = rw (partitions_front s l X) at (parts_heads s l os u) in
     let q : pieces s.nodes (length (pick front.key ((front ∷ run st X) ∷ rest st X))) ≡ pieces s.nodes (length (front ∷ run st X)) = ap (λ (r : List Order). pieces s.nodes (length r)) (pick_at [] (front ∷ run st X) (rest st X) 0 v) in
     let h = parts_count s.nodes st X ((front ∷ run st X) ∷ []) 0 v in
-    rw (partitions_front s l X, ← starting_above s l os u) (omega (arith, q, h))
+    subst (λ (ps : List (List Order)). under (λ f. pieces s.nodes (length (pick f ps))) (list_at s (suc l) os) ≡ pieces_all s.nodes ps) (sym (partitions_front s l X))
+    (rw (← starting_above s l os u) (omega (arith, q, h)))
 
 -- the highest of the counted levels comes last
 pub counts_snoc : (n l : ℕ) (s : Sizes) (os : List Order) → counts (suc n) l s os ≡ counts n l s os + count s (l + n) os

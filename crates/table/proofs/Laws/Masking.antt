@@ -139,7 +139,8 @@ module _ (s : Sizes) (os : List Order) (u : Up 1 os) (l f : ℕ) where
 among_pick : (ps : List (List Order)) (p : List Order) (a : ℕ) → Heads a ps → Among p ps → (a ≤ first_key p) × (pick (first_key p) ps ≡ p)
 unfolding pick
 among_pick [] p a u h = absurd h
-among_pick (q ∷ ps) p a u (inl e) = (rw e u.0, rw e (pick_at [] q ps a u))
+among_pick (q ∷ ps) p a u (inl e) =
+    (rw e u.0, subst (λ (r : List Order). pick (first_key r) (q ∷ ps) ≡ r) (sym e) (pick_at [] q ps a u))
 among_pick (q ∷ ps) p a u (inr h) =
     let w = among_pick ps p (suc (first_key q)) u.1 h in
     (omega (arith, u.0, w.0), rw (ne_eqb (first_key q) (first_key p) (λ z. omega (arith, z, w.0))) w.1)

@@ -1,5 +1,5 @@
 -- What a seek gives has the smallest key of all orders in lo..hi that have the reserve, and a seek from the next key on gives the next.
-use mathlib.Core.Path.{◌≡◌, refl, sym, ap, ◌∙◌}
+use mathlib.Core.Path.{◌≡◌, refl, sym, ap, subst, ◌∙◌}
 use mathlib.Core.Logic.{inl, inr}
 use mathlib.Core.Bool.{Bool, true, false, ◌&&◌, cond, false≢true}
 use mathlib.Core.List.{List, [], ◌∷◌}
@@ -38,6 +38,7 @@ fitting_more lo hi l x xs = go (leb lo x.key && leb x.key hi)
     go false = refl
 
 from : (a : ℕ) (os : List Order) → Up a os → (q : Order) → Among q os → a ≤ q.key
+from a [] u q h = elim h [ ]
 from a (x ∷ xs) u q (inl e) = omega (arith, u.0, ap (λ (o : Order). o.key) e)
 from a (x ∷ xs) u q (inr b) = omega (arith, u.0, from (suc x.key) xs u.1 q b)
 
@@ -78,7 +79,7 @@ next_of : (lo hi l a : ℕ) (os : List Order) → Up a os → any_order (fitting
     fitting lo hi l os ≡ lowest (fitting lo hi l os) ∷ fitting (suc (lowest (fitting lo hi l os)).key) hi l os
 unfolding between enough any_order lowest
 next_of lo hi l a [] u e = absurd (false≢true e)
-next_of lo hi l a (x ∷ xs) u e = rw (fitting_more lo hi l x xs) (go (fit lo hi l x) refl (next_of lo hi l (suc x.key) xs u.1) (rw (fitting_more lo hi l x xs) at e))
+next_of lo hi l a (x ∷ xs) u e = subst (λ (ys : List Order). ys ≡ lowest ys ∷ fitting (suc (lowest ys).key) hi l (x ∷ xs)) (sym (fitting_more lo hi l x xs)) (go (fit lo hi l x) refl (next_of lo hi l (suc x.key) xs u.1) (rw (fitting_more lo hi l x xs) at e))
   where
     rest : (k : ℕ) → x.key ≤ k → fitting (suc k) hi l xs ≡ fitting (suc k) hi l (x ∷ xs)
     rest k h = sym (rw (lt-leb (suc k) x.key (omega arith)))
@@ -116,6 +117,7 @@ seek_lowest x lo hi l r w n =
 -- THE PRICES of an image's orders
 price_as : (s : Sizes) (a : ℕ) (os : List Order) → orders_good s a os ≡ true → (o : Order) → Among o os → price_good s o.price ≡ true
 unfolding quantities_good
+price_as s a [] g o h = elim h [ ]
 price_as s a (x ∷ xs) g o (inl e) =
     let w = and_parts ((leb 1 x.total && leb x.total 4294967295) && leb x.displayed x.total) (price_good s x.price && leb x.price 4294967295) (good_parts s a x xs g).quantity in
     rw e (and_parts (price_good s x.price) (leb x.price 4294967295) w.1).0

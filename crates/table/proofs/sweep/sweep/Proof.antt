@@ -36,7 +36,7 @@ returns-2 c =
     let l = o.before.before in
     sweeping_stop _ _ _ _ _ _ _ l.loop-i.invariant.1 o.before.loop-i-test.true _ _ _
     (blocked_made _ _ _ _ _ _ _ _ _ l.before.before.block_length-long.ensures.0 o.offset-at.ensures.0 u.before.before.before.wide-level.ensures.0 u.before.wide-n.ensures.0 u.used.ensures) _ z.zeros.ensures
-    (not-true _ c.if-not-zeros.true)
+    (not-true _ c.if-not-zeros.true-raw)
 
 pub sweep_spec : {M : Type 1} → statement M
 sweep_spec =
