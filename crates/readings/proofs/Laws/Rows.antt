@@ -29,7 +29,7 @@ record Stretch (whole xs : List Order) : Type 0 where
 pick_stretch : (f a : ℕ) (ps : List (List Order)) → Heads a ps → Stretch (flat ps) (pick f ps)
 unfolding pick flat
 pick_stretch f a [] u = record { before = []; behind = []; is = refl }
-pick_stretch f a (p ∷ ps) u = go (pick_stretch f _ ps u.1) (eqb (first_key p) f) refl
+pick_stretch f a (p ∷ ps) u = go (pick_stretch f (suc (first_key p)) ps u.1) (eqb (first_key p) f) refl
   where
     go : Stretch (flat ps) (pick f ps) → (t : Bool) → eqb (first_key p) f ≡ t → Stretch (p ++ flat ps) (cond t p [] ++ pick f ps)
     go ih true e =

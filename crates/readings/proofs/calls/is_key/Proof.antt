@@ -7,4 +7,4 @@ use Rattle.readings.proofs.calls.is_key.Tie as tie
 
 pub is_key_spec : {M : Type 1} → statement M
 unfolding is_key
-is_key_spec = tie.close (tie.spec (λ c. rw c.if1.true) (λ c. rw (le-leb 1 c.before.args.k (omega (arith, c.if1.false)))))
+is_key_spec = tie.close (tie.spec (λ c. rw c.if-k-eq0.true) (λ c. rw (le-leb 1 c.before.args.k (omega (arith, c.if-k-eq0.false)))))

@@ -7,31 +7,31 @@ use Rattle.readings.proofs.Laws.Replies.{checked_yes, checked_no, range_number}
 use Rattle.readings.proofs.calls.range.Statement.{statement}
 use Rattle.readings.proofs.calls.range.Tie as tie
 
-returns : tie.Need-returns
-returns c = range_number _ _ _ false _ _ _ (checked_no _ _ c.before.check.ensures.0 c.if1.true) refl refl refl
+returns : tie.Need-returns-then-check-ne0
+returns c = range_number _ _ _ false _ _ _ (checked_no _ _ c.before.check.ensures.0 c.if-check-ne0.true) refl refl refl
 
-returns-2 : tie.Need-returns-2
+returns-2 : tie.Need-returns-then-not-is_key
 returns-2 c =
-    range_number _ _ _ true false _ _ (checked_yes _ _ c.before.before.before.check.ensures.0 c.before.before.if1.false)
-    (sym c.before.is_key.ensures ∙ not-true _ c.if2.true) refl refl
+    range_number _ _ _ true false _ _ (checked_yes _ _ c.before.before.before.check.ensures.0 c.before.before.if-check-ne0.false)
+    (sym c.before.is_key.ensures ∙ not-true _ c.if-not-is_key.true-raw) refl refl
 
-returns-3 : tie.Need-returns-3
+returns-3 : tie.Need-returns-then-not-is_key-2
 returns-3 c =
     let d = c.before.before in
-    range_number _ _ _ true true false _ (checked_yes _ _ d.before.before.before.check.ensures.0 d.before.before.if1.false)
-    (sym d.before.is_key.ensures ∙ not-false _ d.if2.false) (sym c.before.is-key2.ensures ∙ not-true _ c.if3.true) refl
+    range_number _ _ _ true true false _ (checked_yes _ _ d.before.before.before.check.ensures.0 d.before.before.if-check-ne0.false)
+    (sym d.before.is_key.ensures ∙ not-false _ d.if-not-is_key.false-raw) (sym c.before.is_key-2.ensures ∙ not-true _ c.if-not-is_key-2.true-raw) refl
 
-returns-4 : tie.Need-returns-4
+returns-4 : tie.Need-returns-then-hi-lo
 returns-4 c =
     let d = c.before.before.before in
-    range_number _ _ _ true true true false (checked_yes _ _ d.before.before.before.check.ensures.0 d.before.before.if1.false)
-    (sym d.before.is_key.ensures ∙ not-false _ d.if2.false) (sym c.before.before.is-key2.ensures ∙ not-false _ c.before.if3.false) (lt-leb _ _ c.if4.true)
+    range_number _ _ _ true true true false (checked_yes _ _ d.before.before.before.check.ensures.0 d.before.before.if-check-ne0.false)
+    (sym d.before.is_key.ensures ∙ not-false _ d.if-not-is_key.false-raw) (sym c.before.before.is_key-2.ensures ∙ not-false _ c.before.if-not-is_key-2.false-raw) (lt-leb _ _ c.if-hi-lo.true)
 
-returns-5 : tie.Need-returns-5
+returns-5 : tie.Need-returns
 returns-5 c =
     let d = c.before.before.before in
-    range_number _ _ _ true true true true (checked_yes _ _ d.before.before.before.check.ensures.0 d.before.before.if1.false)
-    (sym d.before.is_key.ensures ∙ not-false _ d.if2.false) (sym c.before.before.is-key2.ensures ∙ not-false _ c.before.if3.false) (le-leb _ _ c.if4.false)
+    range_number _ _ _ true true true true (checked_yes _ _ d.before.before.before.check.ensures.0 d.before.before.if-check-ne0.false)
+    (sym d.before.is_key.ensures ∙ not-false _ d.if-not-is_key.false-raw) (sym c.before.before.is_key-2.ensures ∙ not-false _ c.before.if-not-is_key-2.false-raw) (le-leb _ _ c.if-hi-lo.false)
 
 pub range_spec : {M : Type 1} → statement M
 range_spec =

@@ -6,30 +6,30 @@ use Rattle.readings.proofs.Laws.Replies.{range_asked, span_turned, span_11, span
 use Rattle.readings.proofs.calls.span.Statement.{statement}
 use Rattle.readings.proofs.calls.span.Tie as tie
 
-returns : tie.Need-returns
-returns c = (span_turned _ _ _ _ _ _ c.before.before.range.ensures c.before.if1.true c.refused.ensures, refl)
+returns : tie.Need-returns-then-n-ne0
+returns c = (span_turned _ _ _ _ _ _ c.before.before.range-n.ensures c.before.if-n-ne0.true c.refused.ensures, refl)
 
-read-requires : tie.Need-read-requires
-read-requires c κs = known_long _ (range_asked _ _ _ _ c.before.range.ensures c.if1.false).0
+read-requires : tie.Need-read-h-requires
+read-requires c κs = known_long _ (range_asked _ _ _ _ c.before.range-n.ensures c.if-n-ne0.false).0
 
-visit-all-requires : tie.Need-visit-all-requires
-visit-all-requires c κs = let i = c.before.before in let p = range_asked _ _ _ _ i.before.range.ensures i.if1.false in (p.0, p.1, p.2, c.before.read.ensures.0)
+visit-all-requires : tie.Need-visit_all-counted-requires
+visit-all-requires c κs = let i = c.before.before in let p = range_asked _ _ _ _ i.before.range-n.ensures i.if-n-ne0.false in (p.0, p.1, p.2, c.before.read-h.ensures.0)
 
-returns-2 : tie.Need-returns-2
+returns-2 : tie.Need-returns-then-output-rows
 returns-2 c =
     let d = c.before.before.before.before.before.before in
     let i = d.before.before.before in
-    (span_11 _ _ _ _ _ _ i.before.range.ensures i.if1.false _ _ d.visit-all.ensures _ d.before.before.read.ensures.0 _ c.before.before.before.row.ensures.0 _ c.before.before.rows.ensures.0 c.before.if2.true c.refused2.ensures, refl)
+    (span_11 _ _ _ _ _ _ i.before.range-n.ensures i.if-n-ne0.false _ _ d.visit_all-counted.ensures _ d.before.before.read-h.ensures.0 _ c.before.before.before.row.ensures.0 _ c.before.before.rows.ensures.0 c.before.if-output-rows.true c.refused-then-output-rows.ensures, refl)
 
-visit-all-requires-2 : tie.Need-visit-all-requires-2
-visit-all-requires-2 c κs = let r = c.before.before.before.before.before.before.before.before in let i = r.before in let p = range_asked _ _ _ _ i.before.range.ensures i.if1.false in (p.0, p.1, p.2, r.read.ensures.0)
+visit-all-requires-2 : tie.Need-visit_all-v-requires
+visit-all-requires-2 c κs = let r = c.before.before.before.before.before.before.before.before in let i = r.before in let p = range_asked _ _ _ _ i.before.range-n.ensures i.if-n-ne0.false in (p.0, p.1, p.2, r.read-h.ensures.0)
 
-returns-3 : tie.Need-returns-3
+returns-3 : tie.Need-returns
 returns-3 c =
     let t = c.before.before.before.before in
     let d = t.before.before.before.before.before in
     let i = d.before.before.before in
-    (span_written _ _ _ _ _ _ i.before.range.ensures i.if1.false _ _ d.visit-all.ensures _ d.before.before.read.ensures.0 _ t.before.before.row.ensures.0 _ t.before.rows.ensures.0 t.if2.false _ _ c.before.before.visit-all2.ensures refl, refl)
+    (span_written _ _ _ _ _ _ i.before.range-n.ensures i.if-n-ne0.false _ _ d.visit_all-counted.ensures _ d.before.before.read-h.ensures.0 _ t.before.before.row.ensures.0 _ t.before.rows.ensures.0 t.if-output-rows.false _ _ c.before.before.visit_all-v.ensures refl, refl)
 
 pub span_spec : {M : Type 1} → statement M
 span_spec =

@@ -5,10 +5,10 @@ use Rattle.readings.proofs.descent.geometry_of.Statement.{statement}
 use Rattle.readings.proofs.descent.geometry_of.Tie as tie
 
 reckon-requires : tie.Need-reckon-requires
-reckon-requires c κs = known_sizes _ _ (known_at _ _ c.before.before.requires c.read.ensures.0)
+reckon-requires c κs = known_sizes _ _ (known_at _ _ c.before.before.requires c.read-h.ensures.0)
 
 returns : tie.Need-returns
-returns c = (c.reckon.ensures.0 ∙ c.before.read.ensures.0, c.reckon.ensures.1)
+returns c = (c.reckon.ensures.0 ∙ c.before.read-h.ensures.0, c.reckon.ensures.1)
 
 pub geometry_of_spec : {M : Type 1} → statement M
 geometry_of_spec = tie.close (tie.spec (λ c κs. known_long _ c.before.requires) reckon-requires returns)

@@ -10,4 +10,4 @@ ruleset laws = (rules, not-true, not-false, step_ended, step_past, step_other, s
 pub step_spec : {M : Type 1} → statement M
 step_spec =
     tie.close
-    (tie.spec (λ c. search laws) (λ c κs. search laws) (λ c. search laws) (λ c κs. search laws) (λ c. step_other _ _ _ _ c.before.before.before.before.before.if1.false c.before.before.if2.false _ c.before.wanted.ensures (not-true _ c.if3.true)) (λ c κs. search laws) (λ c κs. search laws) (λ c κs. search laws) (λ c κs. search laws) (λ c. search laws) (λ c. step_writes _ _ _ _ c.before.before.before.before.before.before.before.before.before.before.before.before.before.if1.false c.before.before.before.before.before.before.before.before.before.before.if2.false _ c.before.before.before.before.before.before.before.before.before.wanted.ensures (not-false _ c.before.before.before.before.before.before.before.before.if3.false) _ c.more_found.ensures c.before.before.before.before.before.before.before.if4.true _ _ c.before.before.before.before.before.row.ensures.0 c.before.before.before.before.rows.ensures.0 _ c.before.before.before.write-row.ensures) (λ c κs. search laws) (λ c. step_counts _ _ _ _ c.before.before.before.before.before.before.before.if1.false c.before.before.before.before.if2.false _ c.before.before.before.wanted.ensures (not-false _ c.before.before.if3.false) _ c.more-found2.ensures c.before.if4.false))
+    (tie.spec (λ c. search laws) (λ c κs. search laws) (λ c. search laws) (λ c κs. search laws) (λ c. step_other _ _ _ _ c.before.before.before.before.before.if-v.false c.before.before.if-v-o.false _ c.before.wanted.ensures (not-true _ c.if-not-wanted.true-raw)) (λ c κs. search laws) (λ c κs. search laws) (λ c κs. search laws) (λ c κs. search laws) (λ c. search laws) (λ c. step_writes _ _ _ _ c.before.before.before.before.before.before.before.before.before.before.before.before.before.if-v.false c.before.before.before.before.before.before.before.before.before.before.if-v-o.false _ c.before.before.before.before.before.before.before.before.before.wanted.ensures (not-false _ c.before.before.before.before.before.before.before.before.if-not-wanted.false-raw) _ c.more_found.ensures c.before.before.before.before.before.before.before.if-v-2.true _ _ c.before.before.before.before.before.row.ensures.0 c.before.before.before.before.rows.ensures.0 _ c.before.before.before.write_row.ensures) (λ c κs. search laws) (λ c. step_counts _ _ _ _ c.before.before.before.before.before.before.before.if-v.false c.before.before.before.before.if-v-o.false _ c.before.before.before.wanted.ensures (not-false _ c.before.before.if-not-wanted.false-raw) _ c.more_found-2.ensures c.before.if-v-2.false))

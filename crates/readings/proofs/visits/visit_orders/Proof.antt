@@ -9,27 +9,27 @@ use Rattle.readings.proofs.visits.visit_orders.Tie as tie
 
 ruleset laws = (rules, nodding_start)
 
-abbrev invariant-loop : tie.invariant-loop
-invariant-loop table s at left output₀ long w₀ place₀ k₀ output w place k = Nodding (row s) (λ ns. ns) table at left (scan (row s) w₀ output₀) k place (scan (row s) w output)
+abbrev invariant-loop-k : tie.invariant-loop-k
+invariant-loop-k table s at left output₀ long w₀ place₀ k₀ output w place k = Nodding (row s) (λ ns. ns) table at left (scan (row s) w₀ output₀) k place (scan (row s) w output)
 
-abbrev decreases-loop : tie.decreases-loop
-decreases-loop table s at left output₀ long w₀ place₀ k₀ output w place k = k
+abbrev decreases-loop-k : tie.decreases-loop-k
+decreases-loop-k table s at left output₀ long w₀ place₀ k₀ output w place k = k
 
-visit-whole-requires : tie.Need-visit-whole-requires invariant-loop decreases-loop
+visit-whole-requires : tie.Need-visit_whole-requires invariant-loop-k decreases-loop-k
 visit-whole-requires c κs =
     let p = c.before.before.before.before.before.before.requires in
-    (p.0, whole_width _ _ _ _ _ _ _ c.before.before.before.row.ensures.0 (c.before.before.whole.ensures c.before.if1.true), p.1, p.2)
+    (p.0, whole_width _ _ _ _ _ _ _ c.before.before.before.row-long.ensures.0 (c.before.before.whole.ensures c.before.if-whole.true), p.1, p.2)
 
-whole-requires : tie.Need-whole-requires invariant-loop decreases-loop
-whole-requires c κs = let r = c.row.ensures in (r.1, r.2, width_room _ _ _ _ _ r.0 c.before.before.before.requires.1)
+whole-requires : tie.Need-whole-requires invariant-loop-k decreases-loop-k
+whole-requires c κs = let r = c.row-long.ensures in (r.1, r.2, width_room _ _ _ _ _ r.0 c.before.before.before.requires.1)
 
-loop-again : tie.Need-loop-preserved invariant-loop decreases-loop
+loop-again : tie.Need-loop-k-preserved invariant-loop-k decreases-loop-k
 loop-again c =
     let d = c.before.before.before.before in
-    orders_more _ _ _ _ _ _ _ _ d.before.before.loop.invariant d.before.loop-test.true _ d.before.before.before.before.before.row.ensures.0 _ d.node_of.ensures _ c.before.before.step.ensures
+    orders_more _ _ _ _ _ _ _ _ d.before.before.loop-k.invariant d.before.loop-k-test.true _ d.before.before.before.before.before.row-long.ensures.0 _ d.node_of.ensures _ c.before.before.step-w.ensures
 
 pub visit_orders_spec : {M : Type 1} → statement M
 visit_orders_spec =
     tie.close
-    (tie.spec invariant-loop decreases-loop (λ c κs. search laws) whole-requires visit-whole-requires (λ c. search laws) (λ c. search laws) (λ c. search laws) (λ c κs. nodding_room _ _ _ _ _ _ _ _ _ c.before.loop.invariant c.loop-test.true)
-    (λ c κs. search laws) (λ c. search laws) (λ c. search laws) (λ c. search laws) loop-again (λ c. c.before.loop.invariant.left.keeps.long) (λ c. orders_end _ _ _ _ _ _ _ _ c.before.loop.invariant _ c.loop-test.false))
+    (tie.spec invariant-loop-k decreases-loop-k (λ c κs. search laws) whole-requires visit-whole-requires (λ c. search laws) (λ c. search laws) (λ c. search laws) (λ c κs. nodding_room _ _ _ _ _ _ _ _ _ c.before.loop-k.invariant c.loop-k-test.true)
+    (λ c κs. search laws) (λ c. search laws) (λ c. search laws) (λ c. search laws) loop-again (λ c. c.before.loop-k.invariant.left.keeps.long) (λ c. orders_end _ _ _ _ _ _ _ _ c.before.loop-k.invariant _ c.loop-k-test.false))
