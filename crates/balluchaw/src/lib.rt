@@ -17,14 +17,14 @@ pub extern "C" fn balluchaw_make(
     blocks: u32,
     seed: &[u8],
 ) -> u32
-    ensures { MakeSays (parameters version gamma nodes orders blocks seed.now) result table.old table.new × (seed.now ≡ seed.now) }
+    ensures { MakeSays (parameters version gamma nodes orders blocks seed.now) result table.old table.new × (seed.exit.now ≡ seed.entry.now) }
 {
     table::making::make(table, version, gamma, nodes, orders, blocks, seed)
 }
 
 #[unsafe(no_mangle)]
 pub extern "C" fn balluchaw_check(table: &[u8]) -> u32
-    ensures { (result ≡ check_number table.now) × (table.now ≡ table.now) }
+    ensures { (result ≡ check_number table.now) × (table.exit.now ≡ table.entry.now) }
 {
     table::checking::check(table)
 }
@@ -80,28 +80,28 @@ pub extern "C" fn balluchaw_cancel(table: &mut [u8], key: u32) -> u32
 
 #[unsafe(no_mangle)]
 pub extern "C" fn balluchaw_lookup(table: &[u8], key: u32) -> Reply
-    ensures { LookSays table.now key result × (table.now ≡ table.now) }
+    ensures { LookSays table.now key result × (table.exit.now ≡ table.entry.now) }
 {
     readings::calls::lookup(table, key)
 }
 
 #[unsafe(no_mangle)]
 pub extern "C" fn balluchaw_descent(table: &[u8], key: u32, path: &mut [u8]) -> Reply
-    ensures { DescentSays table.now key result path.old path.new × (table.now ≡ table.now) }
+    ensures { DescentSays table.now key result path.old path.new × (table.exit.now ≡ table.entry.now) }
 {
     readings::descent::descent(table, key, path)
 }
 
 #[unsafe(no_mangle)]
 pub extern "C" fn balluchaw_span(table: &[u8], lo: u32, hi: u32, output: &mut [u8]) -> Reply
-    ensures { SpanSays table.now lo hi result output.old output.new × (table.now ≡ table.now) }
+    ensures { SpanSays table.now lo hi result output.old output.new × (table.exit.now ≡ table.entry.now) }
 {
     readings::calls::span(table, lo, hi, output)
 }
 
 #[unsafe(no_mangle)]
 pub extern "C" fn balluchaw_seek(table: &[u8], lo: u32, hi: u32, reserve: u32) -> Reply
-    ensures { SeekSays table.now lo hi reserve result × (table.now ≡ table.now) }
+    ensures { SeekSays table.now lo hi reserve result × (table.exit.now ≡ table.entry.now) }
 {
     readings::calls::seek(table, lo, hi, reserve)
 }

@@ -144,7 +144,7 @@ pub fn first_with(table: &[u8], lo: u32, hi: u32, least: u32) -> Sought
 
 // Lookup: 4, 5, 9.
 pub fn lookup(table: &[u8], key: u32) -> Reply
-    ensures { LookSays table.now key result × (table.now ≡ table.now) }
+    ensures { LookSays table.now key result × (table.exit.now ≡ table.entry.now) }
 {
     if check(table) != 0 {
         return refused(4, 0);
@@ -160,7 +160,7 @@ pub fn lookup(table: &[u8], key: u32) -> Reply
 
 // Span: 4, 5, 10, 11. Counts before it writes.
 pub fn span(table: &[u8], lo: u32, hi: u32, output: &mut [u8]) -> Reply
-    ensures { SpanSays table.now lo hi result output.old output.new × (table.now ≡ table.now) }
+    ensures { SpanSays table.now lo hi result output.old output.new × (table.exit.now ≡ table.entry.now) }
 {
     let n = range(table, lo, hi);
     if n != 0 {
@@ -184,7 +184,7 @@ pub fn span(table: &[u8], lo: u32, hi: u32, output: &mut [u8]) -> Reply
 
 // Seek: 4, 5, 10, 12. Document 02, A.5: the lowest.
 pub fn seek(table: &[u8], lo: u32, hi: u32, reserve: u32) -> Reply
-    ensures { SeekSays table.now lo hi reserve result × (table.now ≡ table.now) }
+    ensures { SeekSays table.now lo hi reserve result × (table.exit.now ≡ table.entry.now) }
 {
     let n = range(table, lo, hi);
     if n != 0 {

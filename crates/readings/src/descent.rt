@@ -67,7 +67,7 @@ fn write_path(table: &[u8], q: Geometry, key: u32, count: u32, short: &[u8], pat
 
 // Descent: 4 of the header and the length alone, 5, 11, 9. No byte of the output is written before 11 is answered for the whole path.
 pub fn descent(table: &[u8], key: u32, path: &mut [u8]) -> Reply
-    ensures { DescentSays table.now key result path.old path.new × (table.now ≡ table.now) }
+    ensures { DescentSays table.now key result path.old path.new × (table.exit.now ≡ table.entry.now) }
 {
     if table.len() < Header::LENGTH {
         return refused(4, 0);

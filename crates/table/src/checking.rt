@@ -57,7 +57,7 @@ pub fn examine(table: &[u8]) -> Tally
 
 // Check: question 4.
 pub fn check(table: &[u8]) -> u32
-    ensures { (result ≡ check_number table.now) × (table.now ≡ table.now) }
+    ensures { (result ≡ check_number table.now) × (table.exit.now ≡ table.entry.now) }
 {
     if examine(table).clean {
         return 0;

@@ -79,7 +79,7 @@ pub fn make(
     blocks: u32,
     seed: &[u8],
 ) -> u32
-    ensures { MakeSays (parameters version gamma nodes orders blocks seed.now) result table.old table.new × (seed.now ≡ seed.now) }
+    ensures { MakeSays (parameters version gamma nodes orders blocks seed.now) result table.old table.new × (seed.exit.now ≡ seed.entry.now) }
 {
     if seed.len() != 40 {
         return 1;

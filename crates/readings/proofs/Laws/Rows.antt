@@ -12,7 +12,7 @@ use lib.ListN.{length, take, drop, take-append-drop}
 use Rattle.sizes.specs.Hash.{level}
 use Rattle.sizes.specs.declared.Sizes.{Sizes}
 use Rattle.placement.specs.declared.Order.{Order}
-use Rattle.skiplist.specs.Lists.{front, at_least, list_at, rest, partitions, first_key, masked}
+use Rattle.skiplist.specs.Lists.{front, at_least, list_at, partitions, first_key, masked}
 use Rattle.skiplist.proofs.Laws.Parts.{Up, Heads, up_from, pick, part, pick_past, below, below_here}
 use Rattle.skiplist.proofs.Laws.Edits.{parts_heads}
 use Rattle.skiplist.proofs.Laws.Walk.{each, spread, each_append, flat, spread_all}

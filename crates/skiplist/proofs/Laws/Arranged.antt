@@ -6,12 +6,10 @@ use Prim.Native.Nat.{zero, ◌≤◌, ◌<◌}
 use native.Mathlib.Omega.{arith}
 use lib.ListN.{length, replicate}
 use Rattle.sizes.specs.Sizes.{made}
-use Rattle.placement.specs.Blocks.{Among, Block, empty, Stands, Rule3, how_many}
-use Rattle.placement.specs.Labels.{before}
+use Rattle.placement.specs.Blocks.{Among, Block, empty, Stands, Rule3}
 use Rattle.placement.specs.Chunks.{Chunk, chunk_before, chunk_home}
 use Rattle.sizes.specs.declared.Sizes.{Sizes}
 use Rattle.placement.specs.declared.Order.{Order}
-use Rattle.sizes.proofs.Laws.Orders.{Ordering}
 use Rattle.placement.proofs.Laws.Labels.{lower_ordering, before_higher}
 use Rattle.placement.proofs.Laws.Placed.{Placing, counted, one_placement}
 use Rattle.placement.proofs.Laws.Sorted.{sorted_comes, sorted_only, sorted_long}

@@ -10,7 +10,7 @@ use Rattle.placement.specs.Labels.{home, same_label, level_before, before}
 use Rattle.placement.specs.Chunks.{node_bytes, block_bytes}
 use Rattle.placement.specs.Decode.{node_in, head_label, chunk_of, block_of, blocks_in}
 use Rattle.skiplist.specs.Lists.{front, at_least, list_at, starts_one, run, rest, partitions, first_key, masked, chunks_of, all_chunks, chunks_from, chunks, blocks, pick, part, last_from, pieces}
-use Rattle.skiplist.specs.Image.{image, into, all_into, gathered, orders_in, price_good, quantities_good, orders_good, fits, same, is_image}
+use Rattle.skiplist.specs.Image.{image, all_into, gathered, orders_in, price_good, quantities_good, orders_good, fits, same, is_image}
 use Rattle.skiplist.specs.Questions.{first_no, is_key, held, without, with_order, between, reserve, enough, any_order, lowest, sizes, asks_make, asks_image, price_allowed, asks_order, asks_room, asks_enter, asks_amend, asks_key, asks_range, asks_span, asks_seek}
 use Rattle.skiplist.specs.Paths.{greatest, nodes_upto, labels_from, path_labels, stands_in, descent_path, asks_descent}
 use Rattle.skiplist.specs.Book.{make_refusal, asks, changed, refusal, done, after}

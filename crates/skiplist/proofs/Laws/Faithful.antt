@@ -13,7 +13,6 @@ use Rattle.placement.specs.Maps.{map_of}
 use Rattle.sizes.specs.declared.Sizes.{Sizes}
 use Rattle.placement.specs.declared.Order.{Order}
 use Rattle.placement.specs.declared.Label.{Label}
-use Rattle.sizes.proofs.Laws.Orders.{Ordering}
 use Rattle.placement.proofs.Laws.Labels.{lower_first, lower_ordering, same_is, isnt_same}
 use Rattle.skiplist.specs.Lists.{masked, chunks}
 use Rattle.skiplist.proofs.Laws.Parts.{Up, part}

@@ -22,7 +22,7 @@ use Rattle.placement.proofs.Laws.Maps.{lawful}
 use Rattle.placement.proofs.Laws.Kinds.{one_place}
 use Rattle.placement.proofs.Laws.Tables.{found_there}
 use Rattle.sizes.proofs.Laws.Sizes.{some_blocks}
-use Rattle.skiplist.specs.Lists.{front, at_least, list_at, first_key, last_from, pieces, blocks}
+use Rattle.skiplist.specs.Lists.{front, at_least, list_at, first_key, last_from, pieces}
 use Rattle.skiplist.specs.Questions.{between}
 use Rattle.skiplist.specs.Paths.{greatest, nodes_upto, labels_from, path_labels, stands_in}
 use Rattle.skiplist.proofs.Laws.Parts.{Up, up_from, up_front, and_left, and_right, at_least_append, at_least_up, below, below_here}

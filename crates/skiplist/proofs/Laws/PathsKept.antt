@@ -12,7 +12,6 @@ use Rattle.sizes.specs.Sizes.{beta, made}
 use Rattle.sizes.specs.Header.{header}
 use Rattle.sizes.specs.declared.Sizes.{Sizes}
 use Rattle.placement.specs.Blocks.{Among, empty, holds, around}
-use Rattle.placement.specs.Labels.{label}
 use Rattle.placement.specs.Chunks.{Chunk}
 use Rattle.placement.specs.Maps.{labelled, map_of}
 use Rattle.placement.specs.declared.Order.{Order}

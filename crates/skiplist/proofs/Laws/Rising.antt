@@ -3,13 +3,12 @@ use mathlib.Core.Path.{◌≡◌, refl, sym, ap, ◌∙◌}
 use mathlib.Core.Bool.{Bool, true, false, true≢false}
 use mathlib.Core.List.{List, [], ◌∷◌}
 use mathlib.Core.Logic.{inl, inr}
-use Rattle.placement.specs.Blocks.{Among, empty, placed}
-use Rattle.placement.specs.Labels.{label, before}
-use Rattle.placement.specs.Chunks.{Chunk, chunk_home, chunk_before}
+use Rattle.placement.specs.Blocks.{Among}
+use Rattle.placement.specs.Labels.{label}
+use Rattle.placement.specs.Chunks.{Chunk, chunk_before}
 use Rattle.sizes.specs.declared.Sizes.{Sizes}
 use Rattle.placement.specs.declared.Order.{Order}
 use Rattle.placement.specs.declared.Label.{Label}
-use Rattle.sizes.proofs.Laws.Orders.{Ordering}
 use Rattle.placement.proofs.Laws.Placed.{Rising}
 use Rattle.placement.proofs.Laws.Sorted.{Comparable, comparable, sorted_rises, sorted_same}
 use Rattle.placement.proofs.Laws.Labels.{lower_first, lower_ordering, labels_chain, labels_one, before_lower}

@@ -18,7 +18,6 @@ use Rattle.sizes.proofs.Laws.Round.{steps_apart}
 use Rattle.placement.proofs.Laws.Blocks.{around_inside, stored_long, Far, far}
 use Rattle.placement.proofs.Laws.Store.{before_store}
 use Rattle.placement.proofs.Laws.Placed.{Rising, Placing, store_count, nothing}
-use Rattle.sizes.proofs.Laws.Orders.{Ordering}
 use Rattle.placement.proofs.Laws.Labels.{lower_ordering}
 use Rattle.placement.proofs.Laws.Maps.{lawful}
 use Rattle.placement.proofs.Laws.Kinds.{ordered, one_place}

@@ -23,7 +23,6 @@ use Rattle.sizes.proofs.Laws.Numbers.{Bytes}
 use Rattle.sizes.proofs.Laws.Sizes.{some_blocks, some_nodes}
 use Rattle.placement.proofs.Laws.Blocks.{around_inside}
 use Rattle.placement.proofs.Laws.Placed.{counted}
-use Rattle.sizes.proofs.Laws.Orders.{Ordering}
 use Rattle.placement.proofs.Laws.Labels.{lower_ordering}
 use Rattle.placement.proofs.Laws.Maps.{nodes_at}
 use Rattle.sizes.proofs.Laws.Headers.{sizes_head}

@@ -1,6 +1,5 @@
 -- `levels::ways::descend` meets its contract: each need follows from the laws listed.
 use mathlib.Core.Path.{sym, ap, ◌∙◌}
-use mathlib.Core.Logic.{⊎_elim}
 use borrow.Author.Rules.{rules}
 use Rattle.sizes.specs.Hash.{hash_from}
 use Rattle.levels.proofs.Laws.Ways.{down_start, down_room, down_more, down_end}

@@ -1,6 +1,5 @@
 -- `readings::calls::lookup` meets its contract: each need follows from the laws listed.
 use borrow.Author.Rules.{rules}
-use borrow.Author.Tests.{not-true, not-false}
 use mathlib.Core.Path.{refl}
 use Rattle.readings.proofs.Laws.Answers.{known_at}
 use Rattle.readings.proofs.Laws.Replies.{checked_yes, checked_no, key_least, look_4, look_5, look_9, look_found}

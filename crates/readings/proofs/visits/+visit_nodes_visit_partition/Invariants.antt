@@ -1,15 +1,9 @@
 -- The visit meets its contract: two functions that call each other, the level falling.
 -- Each need, in the order of the code, follows from the laws listed, or from one law at the facts named.
-use borrow.Author.Rules.{rules}
-use borrow.Author.Tests.{not-true, not-false}
-use Prim.Native.Nat.{ℕ, ◌<◌, ◌+◌, ◌*◌, ◌-◌}
-use mathlib.Core.Path.{◌∙◌}
-use mathlib.Core.List.{[]}
-use native.Mathlib.Omega.{arith}
-use Rattle.placement.proofs.Laws.Loops.{search_below}
+use Prim.Native.Nat.{◌+◌, ◌*◌, ◌-◌}
 use Rattle.sizes.specs.Sizes.{row}
 use Rattle.readings.specs.Visit.{scan, all_under}
-use Rattle.readings.proofs.Laws.Tours.{left_ended, length_kept, row_one, width_room, Nodding, nodding_room, begun, nodding_orders, nodding_end, nodding_more, Going, going_start, going_none, going_end, chunk_met, going_stop, going_more}
+use Rattle.readings.proofs.Laws.Tours.{Nodding, Going}
 use Rattle.readings.proofs.visits.+visit_nodes_visit_partition.Given as goal
 
 abbrev pub decreases-visit_nodes : goal.decreases-visit_nodes

@@ -2,12 +2,9 @@
 -- Each need, in the order of the code, follows from the laws listed, or from one law at the facts named.
 use borrow.Author.Rules.{rules}
 use borrow.Author.Tests.{not-true, not-false}
-use Prim.Native.Nat.{ℕ, ◌<◌, ◌+◌, ◌*◌, ◌-◌}
 use mathlib.Core.Path.{refl, ◌∙◌}
-use mathlib.Core.Logic.{⊎_elim}
 use native.Mathlib.Omega.{arith}
-use Rattle.table.specs.Walk.{opens_of}
-use Rattle.table.proofs.Laws.Turns.{Noding, noding_start, noding_room, noding_key, noding_next, noding_end, noding_gone, noding_wrong, noding_more, Keyed, keyed_made, keyed_none, keyed_is, number_most, Chunking, chunking_start, chunking_end, chunking_none, chunking_wrong, entering_made, entering_stop, entering_more, higher_nodes, ahead, chunk_below, enters_some, enters_chunks, chunk_room, first_room, lowest_partition}
+use Rattle.table.proofs.Laws.Turns.{noding_start, noding_room, noding_key, noding_next, noding_end, noding_gone, noding_wrong, noding_more, keyed_made, keyed_none, keyed_is, number_most, chunking_start, chunking_end, chunking_none, chunking_wrong, entering_made, entering_stop, entering_more, higher_nodes, ahead, chunk_below, enters_some, enters_chunks, chunk_room, first_room, lowest_partition}
 use Rattle.table.proofs.walk.+walk_nodes_walk_partition.Goals as goal
 use Rattle.table.proofs.walk.+walk_nodes_walk_partition.Goals.{walk_nodes-then-k-gt1+else-absent, walk_nodes-else-k-gt1}
 
@@ -87,15 +84,14 @@ pub walk_nodes-loop-k-smaller : goal.walk_nodes-loop-k-smaller
 walk_nodes-loop-k-smaller t c = search laws
 
 pub walk_nodes-loop-k-preserved : goal.walk_nodes-loop-k-preserved
-walk_nodes-loop-k-preserved t c =
-    (
-      noding_more _ _ _ _ _ _ _ _ _ _ _ _ _ c.loop-k.invariant.0 _ c.comes_by.ensures c.loop-k-test.true _ c.row-w.ensures.0 c.if-not-comes_by.false _ c.be4-in-loop-k.ensures
-          _ c.walk_partition-y.ensures,
-      elim c.if-k-gt1.branch [
-        walk_nodes-then-k-gt1+else-absent w ↦ keyed_made _ _ _ _ _ _ w.be4-key.ensures (w.next-is ∙ w.hash-next.ensures.0)
-        | walk_nodes-else-k-gt1 w ↦ keyed_none _ _ _ _ _ (omega (arith, w.if-k-gt1.false))
-      ],
-    )
+walk_nodes-loop-k-preserved t c = (
+  noding_more _ _ _ _ _ _ _ _ _ _ _ _ _ c.loop-k.invariant.0 _ c.comes_by.ensures c.loop-k-test.true _ c.row-w.ensures.0 c.if-not-comes_by.false _ c.be4-in-loop-k.ensures
+      _ c.walk_partition-y.ensures,
+  elim c.if-k-gt1.branch [
+    | walk_nodes-then-k-gt1+else-absent w ↦ keyed_made _ _ _ _ _ _ w.be4-key.ensures (w.next-is ∙ w.hash-next.ensures.0)
+    | walk_nodes-else-k-gt1 w ↦ keyed_none _ _ _ _ _ (omega (arith, w.if-k-gt1.false))
+  ],
+)
 
 pub walk_nodes-returns : goal.walk_nodes-returns
 walk_nodes-returns t c = search laws

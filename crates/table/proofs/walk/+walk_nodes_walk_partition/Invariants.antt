@@ -1,13 +1,8 @@
 -- The walk meets its contract: two functions that call each other, the level falling.
 -- Each need, in the order of the code, follows from the laws listed, or from one law at the facts named.
-use borrow.Author.Rules.{rules}
-use borrow.Author.Tests.{not-true, not-false}
-use Prim.Native.Nat.{ℕ, ◌<◌, ◌+◌, ◌*◌, ◌-◌}
-use mathlib.Core.Path.{refl, ◌∙◌}
-use mathlib.Core.Logic.{⊎_elim}
-use native.Mathlib.Omega.{arith}
+use Prim.Native.Nat.{◌+◌, ◌*◌, ◌-◌}
 use Rattle.table.specs.Walk.{opens_of}
-use Rattle.table.proofs.Laws.Turns.{Noding, noding_start, noding_room, noding_key, noding_next, noding_end, noding_gone, noding_wrong, noding_more, Keyed, keyed_made, keyed_none, keyed_is, number_most, Chunking, chunking_start, chunking_end, chunking_none, chunking_wrong, entering_made, entering_stop, entering_more, higher_nodes, ahead, chunk_below, enters_some, enters_chunks, chunk_room, first_room, lowest_partition}
+use Rattle.table.proofs.Laws.Turns.{Noding, Keyed, Chunking}
 use Rattle.table.proofs.walk.+walk_nodes_walk_partition.Given as goal
 
 abbrev pub decreases-walk_nodes : goal.decreases-walk_nodes

@@ -5,7 +5,7 @@ use mathlib.Core.Path.{refl}
 use mathlib.Core.Bool.{true}
 use native.Mathlib.Omega.{arith}
 use Rattle.placement.proofs.Laws.Behind.{starts_home}
-use Rattle.table.proofs.Laws.Turns.{chunking_start, chunking_end, chunking_none, starting_next, Entering, entering_made, chunk_below, number_most, enters_good, chunk_room}
+use Rattle.table.proofs.Laws.Turns.{chunking_start, chunking_end, chunking_none, starting_next, entering_made, chunk_below, number_most, enters_good, chunk_room}
 use Rattle.table.proofs.Laws.Lowest.{lowering_start, lowering_room, lowering_key, lowering_more, comes_fits, lowest_enters, lowest_few, lowest_holds, lowest_refused, lowest_wrong, lowest_stop, lowest_more}
 use Rattle.table.proofs.walk.walk_lowest.Goals as goal
 
