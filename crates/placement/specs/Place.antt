@@ -60,7 +60,7 @@ pub record Starts (s : Sizes) (bs : List ℕ) (w : Label) (a : ℕ) : Type 0 whe
   pub same : probe (before s) (label_in (block_long s) bs) s.blocks w s.blocks a ≡ search_in s bs w
 
 -- the search for w from block a on may go on at block b: with the looks that are left it comes to the same from there
-pub record Goes_on (s : Sizes) (bs : List ℕ) (w : Label) (a b : ℕ) : Type 0 where
+pub record GoesOn (s : Sizes) (bs : List ℕ) (w : Label) (a b : ℕ) : Type 0 where
   pub rest : probe (before s) (label_in (block_long s) bs) s.blocks w (s.blocks - (b - a)) b ≡ probe (before s) (label_in (block_long s) bs) s.blocks w s.blocks a
   pub least : a ≤ b
   pub most : b ≤ s.blocks

@@ -4,7 +4,7 @@ ghost use Rattle.sizes.specs.Numbers.{over};
 ghost use Rattle.sizes.specs.Hash.{hash_from};
 ghost use Rattle.sizes.specs.Header.{block_long};
 ghost use Rattle.placement.specs.Labels.{before, home};
-ghost use Rattle.placement.specs.Place.{Shaped, label_in, probe, Goes_on, is_lower, four_lower, search_in, behind, free_in};
+ghost use Rattle.placement.specs.Place.{Shaped, label_in, probe, GoesOn, is_lower, four_lower, search_in, behind, free_in};
 
 use crate::labels::{ahead, home, home_over, label_at, meets, offset};
 use crate::{Found, Label, Met};
@@ -68,7 +68,7 @@ fn four_lower(table: &[u8], s: Sizes, i: u32, level: u32) -> bool
 // In version 1, past blocks from one on, four in a turn, as far as all four hold chunks of lower levels: most of a search on a way down.
 fn past_fours(table: &[u8], s: Sizes, start: u32, want: Label) -> u32
     requires { Shaped s table.now × (start < s.blocks) × (s.version ≡ 1) }
-    ensures { Goes_on s table.now want start result }
+    ensures { GoesOn s table.now want start result }
 {
     let mut i = start;
     while i + 4 <= s.blocks {
@@ -83,7 +83,7 @@ fn past_fours(table: &[u8], s: Sizes, start: u32, want: Label) -> u32
 // .. and up to the first block, or the end of the table, that is empty or whose chunk is not of a lower level.
 fn past_lower(table: &[u8], s: Sizes, start: u32, want: Label) -> u32
     requires { Shaped s table.now × (start < s.blocks) × (s.version ≡ 1) }
-    ensures { Goes_on s table.now want start result }
+    ensures { GoesOn s table.now want start result }
 {
     let mut i = past_fours(table, s, start, want);
     while i < s.blocks {
@@ -98,7 +98,7 @@ fn past_lower(table: &[u8], s: Sizes, start: u32, want: Label) -> u32
 // How far a search may go at once: in version 1 past lower levels, of which level 1 has none.
 fn passed(table: &[u8], s: Sizes, start: u32, want: Label) -> u32
     requires { Shaped s table.now × (start < s.blocks) }
-    ensures { Goes_on s table.now want start result }
+    ensures { GoesOn s table.now want start result }
 {
     if s.version != 1 {
         return start;

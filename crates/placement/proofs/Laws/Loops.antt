@@ -17,7 +17,7 @@ use Rattle.placement.specs.declared.Met.TheVariants.{Past, Here, Other}
 use Rattle.placement.specs.declared.Found.{Found}
 use Rattle.placement.specs.declared.Found.TheVariants.{At, Nothing}
 use Rattle.placement.specs.contracts.Met.{the_type}
-use Rattle.placement.specs.Place.{Shaped, label_in, passes_label, met, meeting, Leading, probe, Goes_on, is_lower, four_lower, search_in, behind, distance_of, stays_at, bytes, Pulled, pull, settle, found_at, taken_out, free_in, head_bytes, block_with, inserted}
+use Rattle.placement.specs.Place.{Shaped, label_in, passes_label, met, meeting, Leading, probe, GoesOn, is_lower, four_lower, search_in, behind, distance_of, stays_at, bytes, Pulled, pull, settle, found_at, taken_out, free_in, head_bytes, block_with, inserted}
 use Rattle.sizes.proofs.Laws.Parts.{sets_append, length_part}
 use Rattle.sizes.proofs.Laws.Sizes.{and_parts}
 use Rattle.placement.specs.Labels.{level_before, before, same_label, home}
@@ -132,11 +132,11 @@ module _ (s : Sizes) (first : s.version ≡ 1) (look : ℕ → Label) (m : ℕ) 
 
 -- .. and goes on behind them: what `passed` promises, and what the loops of `past_fours` and `past_lower` keep
 module _ (s : Sizes) (bs : List ℕ) (w : Label) (start : ℕ) where
-  pub goes_start : start < s.blocks → Goes_on s bs w start start
+  pub goes_start : start < s.blocks → GoesOn s bs w start start
   goes_start h =
       record { rest = ap (λ (k : ℕ). probe (before s) (label_in (block_long s) bs) s.blocks w k start) (omega arith); least = le_refl start; most = omega arith }
 
-  goes_one : s.version ≡ 1 → (i n : ℕ) → Goes_on s bs w start i → n ≤ s.blocks → n ≡ i + 1 → is_lower (label_in (block_long s) bs) w.level i ≡ true → Goes_on s bs w start n
+  goes_one : s.version ≡ 1 → (i n : ℕ) → GoesOn s bs w start i → n ≤ s.blocks → n ≡ i + 1 → is_lower (label_in (block_long s) bs) w.level i ≡ true → GoesOn s bs w start n
   goes_one v i n q h e z =
       let from : (k j : ℕ) → Found = probe (before s) (label_in (block_long s) bs) s.blocks w in
       let least : start ≤ i = q.least in
@@ -144,11 +144,11 @@ module _ (s : Sizes) (bs : List ℕ) (w : Label) (start : ℕ) where
       let there : from (s.blocks - (n - start)) n ≡ from (s.blocks - (i - start) - 1) (suc i) = ap (λ (k : ℕ). from k n) (omega arith) ∙ ap (from (s.blocks - (i - start) - 1)) (e ∙ add-one i) in
       record { rest = there ∙ sym one ∙ q.rest; least = omega arith; most = h }
 
-  pub goes_more : s.version ≡ 1 → (i : ℕ) → Goes_on s bs w start i → i < s.blocks → (t : Bool) → t ≡ is_lower (label_in (block_long s) bs) w.level i → t ≡ true → Goes_on s bs w start (i + 1)
+  pub goes_more : s.version ≡ 1 → (i : ℕ) → GoesOn s bs w start i → i < s.blocks → (t : Bool) → t ≡ is_lower (label_in (block_long s) bs) w.level i → t ≡ true → GoesOn s bs w start (i + 1)
   goes_more v i q h t et z = goes_one v i (i + 1) q (omega arith) refl (sym et ∙ z)
 
   -- four in one turn
-  pub goes_four : s.version ≡ 1 → (i : ℕ) → Goes_on s bs w start i → i + 4 ≤ s.blocks → (t : Bool) → t ≡ four_lower (label_in (block_long s) bs) w.level i → t ≡ true → Goes_on s bs w start (i + 4)
+  pub goes_four : s.version ≡ 1 → (i : ℕ) → GoesOn s bs w start i → i + 4 ≤ s.blocks → (t : Bool) → t ≡ four_lower (label_in (block_long s) bs) w.level i → t ≡ true → GoesOn s bs w start (i + 4)
   unfolding four_lower
   goes_four v i q h t et z =
       let low : (k : ℕ) → Bool = λ k. is_lower (label_in (block_long s) bs) w.level (i + k) in
@@ -161,7 +161,7 @@ module _ (s : Sizes) (bs : List ℕ) (w : Label) (start : ℕ) where
       goes_one v (i + 3) (i + 4) three h (omega arith) c.1
 
   -- as `find_past` asks
-  pub goes_search : (i j : ℕ) (r : Found) → Goes_on s bs w start i → j ≡ i % s.blocks → j < s.blocks →
+  pub goes_search : (i j : ℕ) (r : Found) → GoesOn s bs w start i → j ≡ i % s.blocks → j < s.blocks →
       r ≡ probe (before s) (label_in (block_long s) bs) s.blocks w (s.blocks - (i - start)) j → r ≡ probe (before s) (label_in (block_long s) bs) s.blocks w s.blocks start
   goes_search i j r q ej hj er = er ∙ probe_round (before s) (label_in (block_long s) bs) s.blocks w (s.blocks - (i - start)) j i (mod-eq_of_lt hj ∙ ej) ∙ q.rest
 

@@ -1,7 +1,7 @@
 -- `placement::search::past_lower` meets its contract: each need follows from the laws listed.
 use Rattle.std.proofs.Common.{◌-◌, rules}
 use borrow.Author.Tests.{not-true, not-false}
-use Rattle.placement.specs.Place.{Goes_on}
+use Rattle.placement.specs.Place.{GoesOn}
 use Rattle.placement.proofs.Laws.Loops.{goes_more}
 use Rattle.placement.proofs.search.past_lower.Statement.{statement}
 use Rattle.placement.proofs.search.past_lower.Tie as tie
@@ -9,7 +9,7 @@ use Rattle.placement.proofs.search.past_lower.Tie as tie
 ruleset laws = (rules, not-true, not-false, goes_more)
 
 abbrev invariant-loop-i : tie.invariant-loop-i
-invariant-loop-i table s start want i₀ i = Goes_on s table want start i
+invariant-loop-i table s start want i₀ i = GoesOn s table want start i
 
 abbrev decreases-loop-i : tie.decreases-loop-i
 decreases-loop-i table s start want i₀ i = s.blocks - i
