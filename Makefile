@@ -24,20 +24,20 @@ reference:
 	@mkdir -p build
 	@$(CARGO) build --quiet --release --offline --manifest-path reference/Cargo.toml
 
-SOURCES := crates.txt $(shell find crates -name '*.rt' -o -name '*.antt')
+SOURCES := crates.txt $(shell find crates -name out -prune -o \( -name '*.rt' -o -name '*.antt' \) -print)
 
 archive: $(ARCHIVE)
 
 $(ARCHIVE): $(SOURCES)
-	rt staticlib balluchaw
-	@touch $@
+	cd crates/balluchaw && rt lib
+	@mkdir -p $(@D) && cp crates/balluchaw/out/libballuchaw.a $@
 
 program: $(PROGRAM)
 
-# One prover at a time: the archive comes first.
+# One prover at a time: the archive comes first. rt builds a program to run it, here on no lines.
 $(PROGRAM): $(SOURCES) | $(ARCHIVE)
-	rt check console
-	@touch $@
+	cd crates/console && rt run </dev/null
+	@mkdir -p $(@D) && cp crates/console/out/console $@
 
 # Document 01's full run, by the program; the first time it is proved before.
 run: program
@@ -45,12 +45,10 @@ run: program
 	@$(PROGRAM) < examples/full-run.txt | tee build/full-run.out
 	@diff examples/full-run.out build/full-run.out && echo "as document 01 has it"
 
-# What takes a second, then the proofs from nothing and every wrong program, then every test, on what was proved. The last line is rt ci's own, and comes only if all passed.
+# What takes a second, then rt ci, the proofs and every wrong program, then every test, on what was proved. The last line is rt ci's own, and comes only if all passed.
 test: bench-need
-	rt fmt --check
 	@$(MAKE) --no-print-directory auditor
-	@mkdir -p build
-	@bash -o pipefail -c 'rt ci 2>&1 | tee build/ci.log'
+	@scripts/prove
 	@$(MAKE) --no-print-directory tests
 	@tail -n 1 build/ci.log
 
@@ -227,7 +225,7 @@ uninstall:
 	rm -f $(TO)/bin/balluchaw $(TO)/share/man/man1/balluchaw.1
 
 clean:
-	rm -rf build target
+	rm -rf build target crates/*/out
 
 # ---- documents --------------------------------------------------------------
 .PHONY: pictures lesson auditor
