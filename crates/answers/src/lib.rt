@@ -2,6 +2,7 @@
 #![tactic(auto)]
 
 mod calls;
+pub mod output;
 pub mod printing;
 
 // How far two buffers of the program are in use: the bytes of the table, 0 before a make succeeds, and the bytes of the output that wait to be written.

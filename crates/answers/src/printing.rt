@@ -9,80 +9,80 @@ ghost use Rattle.answers.specs.Answers.{show_lines, order_line, span_lines, seek
 ghost use Rattle.answers.specs.Lent.{Lent, Laid};
 ghost use Rattle.answers.specs.Output.{room_at, Said};
 
+use crate::output::Output;
 use crate::{Lengths, calls};
-use libc::STDOUT_FILENO;
 use lines::writing::{put_dash, put_mark, put_row};
 use lines::{Call, Line};
 use sizes::header::{Header, block_length, row, rows};
 use sizes::numbers::{be2, be4, wide};
 
 // Room for one line more: it has at most 37 numbers.
-fn room(out: &[u8], used: usize) -> usize
+fn room(to: &mut Output, out: &[u8], used: usize) -> usize
     requires { Lent out.now used }
     ensures { (result ≡ room_at used) × (result ≤ 65000) }
 {
     if 65000 < used {
-        io::write_all(STDOUT_FILENO, &out[0..used]);
+        to.write(&out[0..used]);
         return 0;
     }
     used
 }
 
-fn say(out: &mut [u8], used: usize, first: u32, others: &[u32]) -> usize
+fn say(to: &mut Output, out: &mut [u8], used: usize, first: u32, others: &[u32]) -> usize
     requires { Lent out.old used × (length others.now ≤ 36) }
     ensures { Said out.old used (row first others.now ∷ []) out.new result }
 {
-    let at = room(out, used);
+    let at = room(to, out, used);
     put_row(out, at, first, others)
 }
 
 // An answer of one number.
-fn say_number(out: &mut [u8], used: usize, number: u32) -> usize
+fn say_number(to: &mut Output, out: &mut [u8], used: usize, number: u32) -> usize
     requires { Lent out.old used }
     ensures { Said out.old used (row number [] ∷ []) out.new result }
 {
     let none = [0u32; 1];
-    say(out, used, number, &none[0..0])
+    say(to, out, used, number, &none[0..0])
 }
 
 // A line that asks for nothing.
-fn say_unknown(out: &mut [u8], used: usize) -> usize
+fn say_unknown(to: &mut Output, out: &mut [u8], used: usize) -> usize
     requires { Lent out.old used }
     ensures { Said out.old used ((63 ∷ 10 ∷ []) ∷ []) out.new result }
 {
-    let at = room(out, used);
+    let at = room(to, out, used);
     put_mark(out, at, b'?')
 }
 
 // An order: its key, total and displayed, the first three numbers of its row.
-fn say_order(out: &mut [u8], used: usize, found: &[u8], at: usize) -> usize
+fn say_order(to: &mut Output, out: &mut [u8], used: usize, found: &[u8], at: usize) -> usize
     requires { Lent out.old used × (at + 12 ≤ length found.now) }
     ensures { Said out.old used (order_line (node_of 12 found.now at) ∷ []) out.new result }
 {
     let quantities = [be4(found, at + 4), be4(found, at + 8)];
-    say(out, used, be4(found, at), &quantities)
+    say(to, out, used, be4(found, at), &quantities)
 }
 
 // n orders in rows of w bytes, one line each.
-fn say_orders(out: &mut [u8], used: usize, found: &[u8], w: usize, n: u32) -> usize
+fn say_orders(to: &mut Output, out: &mut [u8], used: usize, found: &[u8], w: usize, n: u32) -> usize
     requires { Lent out.old used × (12 ≤ w) × (w ≤ 16) × (w * n ≤ length found.now) }
     ensures { Said out.old used (map order_line (nodes_from w n found.now)) out.new result }
 {
     let mut place = used;
     let mut i: u32 = 0;
     while i < n {
-        place = say_order(out, place, found, rows(w, i));
+        place = say_order(to, out, place, found, rows(w, i));
         i += 1;
     }
     place
 }
 
 // An empty block: its number and `-`.
-fn say_empty(out: &mut [u8], used: usize, number: u32) -> usize
+fn say_empty(to: &mut Output, out: &mut [u8], used: usize, number: u32) -> usize
     requires { Lent out.old used }
     ensures { Said out.old used (dash number ∷ []) out.new result }
 {
-    let at = room(out, used);
+    let at = room(to, out, used);
     put_dash(out, at, number)
 }
 
@@ -117,6 +117,7 @@ fn keys(table: &[u8], at: usize, w: usize, n: usize, head: [u32; 36]) -> [u32; 3
 
 // A block of `size` bytes with nodes of w: its number, level, chunk number, first key, count, and the keys of its nodes.
 fn say_block(
+    to: &mut Output,
     out: &mut [u8],
     used: usize,
     table: &[u8],
@@ -129,15 +130,16 @@ fn say_block(
     ensures { Said out.old used (block_line number (block_of w (take size (drop at table.now))) ∷ []) out.new result }
 {
     if table[at] == 0 {
-        return say_empty(out, used, number);
+        return say_empty(to, out, used, number);
     }
     let n = wide(table[at + 1]) as usize;
     let row = keys(table, at + 8, w, n, head_row(table, at, n));
-    say(out, used, number, &row[0..4 + n])
+    say(to, out, used, number, &row[0..4 + n])
 }
 
 // The blocks, one line each.
 fn say_blocks(
+    to: &mut Output,
     out: &mut [u8],
     used: usize,
     table: &[u8],
@@ -152,7 +154,7 @@ fn say_blocks(
     let mut at: usize = 53;
     let mut number: u32 = 0;
     while number < blocks {
-        place = say_block(out, place, table, at, size, w, number);
+        place = say_block(to, out, place, table, at, size, w, number);
         at = at + size;
         number += 1;
     }
@@ -160,52 +162,69 @@ fn say_blocks(
 }
 
 // The blocks of an image, as many as its header says, each of as many bytes.
-fn say_image(out: &mut [u8], used: usize, table: &[u8]) -> usize
+fn say_image(to: &mut Output, out: &mut [u8], used: usize, table: &[u8]) -> usize
     requires { Lent out.old used × (is_image table.now ≡ true) }
     ensures { Said out.old used (image_lines table.now) out.new result }
 {
     let s = Header::read(table).sizes;
-    say_blocks(out, used, table, block_length(s) as usize, row(s), s.blocks)
+    say_blocks(
+        to,
+        out,
+        used,
+        table,
+        block_length(s) as usize,
+        row(s),
+        s.blocks,
+    )
 }
 
-fn answer_blocks(out: &mut [u8], table: &[u8], d: Lengths) -> usize
+fn answer_blocks(to: &mut Output, out: &mut [u8], table: &[u8], d: Lengths) -> usize
     requires { Lent out.old d.used × Lent table.now d.long }
     ensures { Said out.old d.used (blocks_lines (take d.long table.now)) out.new result }
 {
     let n = calls::check(table, d.long);
-    let used = say_number(out, d.used, n);
+    let used = say_number(to, out, d.used, n);
     if n != 0 {
         return used;
     }
     let long = d.long;
-    say_image(out, used, &table[0..long])
+    say_image(to, out, used, &table[0..long])
 }
 
-fn answer_show(out: &mut [u8], table: &[u8], d: Lengths, key: u32) -> usize
+fn answer_show(to: &mut Output, out: &mut [u8], table: &[u8], d: Lengths, key: u32) -> usize
     requires { Lent out.old d.used × Lent table.now d.long }
     ensures { Said out.old d.used (show_lines (take d.long table.now) key) out.new result }
 {
     let r = calls::show(table, d.long, key);
     if r.number != 0 {
-        return say_number(out, d.used, r.number);
+        return say_number(to, out, d.used, r.number);
     }
     let quantities = [r.total, r.displayed];
-    say(out, d.used, 0, &quantities)
+    say(to, out, d.used, 0, &quantities)
 }
 
-fn answer_seek(out: &mut [u8], table: &[u8], d: Lengths, lo: u32, hi: u32, reserve: u32) -> usize
+fn answer_seek(
+    to: &mut Output,
+    out: &mut [u8],
+    table: &[u8],
+    d: Lengths,
+    lo: u32,
+    hi: u32,
+    reserve: u32,
+) -> usize
     requires { Lent out.old d.used × Lent table.now d.long }
     ensures { Said out.old d.used (seek_lines (take d.long table.now) lo hi reserve) out.new result }
 {
     let r = calls::seek(table, d.long, lo, hi, reserve);
     if r.number != 0 {
-        return say_number(out, d.used, r.number);
+        return say_number(to, out, d.used, r.number);
     }
     let order = [r.key, r.total, r.displayed];
-    say(out, d.used, 0, &order)
+    say(to, out, d.used, 0, &order)
 }
 
 fn answer_span(
+    to: &mut Output,
     out: &mut [u8],
     table: &[u8],
     found: &mut [u8],
@@ -218,15 +237,21 @@ fn answer_span(
 {
     let r = calls::span(table, d.long, lo, hi, found);
     if r.number != 0 {
-        return say_number(out, d.used, r.number);
+        return say_number(to, out, d.used, r.number);
     }
     let count = [r.count];
-    let used = say(out, d.used, 0, &count);
-    say_orders(out, used, found, calls::row_of(table, d.long), r.count)
+    let used = say(to, out, d.used, 0, &count);
+    say_orders(to, out, used, found, calls::row_of(table, d.long), r.count)
 }
 
 // A make whose table is too long is no call. A refused make keeps the older table.
-fn answer_make(table: &mut [u8], out: &mut [u8], d: Lengths, pieces: [u32; 15]) -> Lengths
+fn answer_make(
+    table: &mut [u8],
+    to: &mut Output,
+    out: &mut [u8],
+    d: Lengths,
+    pieces: [u32; 15],
+) -> Lengths
     requires { Lent out.old d.used × Lent table.old d.long }
     ensures { Step Call.Make pieces 0 d table.old out.old result table.new out.new }
 {
@@ -234,11 +259,11 @@ fn answer_make(table: &mut [u8], out: &mut [u8], d: Lengths, pieces: [u32; 15]) 
     if 65536 < long {
         return Lengths {
             long: d.long,
-            used: say_unknown(out, d.used),
+            used: say_unknown(to, out, d.used),
         };
     }
     let n = calls::make(table, long, pieces);
-    let used = say_number(out, d.used, n);
+    let used = say_number(to, out, d.used, n);
     if n != 0 {
         return Lengths {
             long: d.long,
@@ -255,6 +280,7 @@ fn answer_make(table: &mut [u8], out: &mut [u8], d: Lengths, pieces: [u32; 15]) 
 fn answer_call(
     table: &mut [u8],
     found: &mut [u8],
+    to: &mut Output,
     out: &mut [u8],
     d: Lengths,
     call: Call,
@@ -266,31 +292,38 @@ fn answer_call(
     match call {
         Call::Put => {
             let n = calls::put(table, d.long, p[1], p[2], p[3]);
-            say_number(out, d.used, n)
+            say_number(to, out, d.used, n)
         }
         Call::Cancel => {
             let n = calls::cancel(table, d.long, p[1]);
-            say_number(out, d.used, n)
+            say_number(to, out, d.used, n)
         }
-        Call::Show => answer_show(out, table, d, p[1]),
-        Call::Span => answer_span(out, table, found, d, p[1], p[2]),
-        Call::Seek => answer_seek(out, table, d, p[1], p[2], p[3]),
-        Call::Blocks => answer_blocks(out, table, d),
-        _ => say_unknown(out, d.used),
+        Call::Show => answer_show(to, out, table, d, p[1]),
+        Call::Span => answer_span(to, out, table, found, d, p[1], p[2]),
+        Call::Seek => answer_seek(to, out, table, d, p[1], p[2], p[3]),
+        Call::Blocks => answer_blocks(to, out, table, d),
+        _ => say_unknown(to, out, d.used),
     }
 }
 
-pub fn answer(table: &mut [u8], found: &mut [u8], out: &mut [u8], d: Lengths, line: Line) -> Lengths
+pub fn answer(
+    table: &mut [u8],
+    found: &mut [u8],
+    to: &mut Output,
+    out: &mut [u8],
+    d: Lengths,
+    line: Line,
+) -> Lengths
     requires { Lent out.old d.used × Lent table.old d.long }
     ensures { Step line.call line.pieces (length found.old) d table.old out.old result table.new out.new }
 {
     let call = line.call;
     let pieces = line.pieces;
     if let Call::Make = call {
-        return answer_make(table, out, d, pieces);
+        return answer_make(table, to, out, d, pieces);
     }
     Lengths {
         long: d.long,
-        used: answer_call(table, found, out, d, call, pieces),
+        used: answer_call(table, found, to, out, d, call, pieces),
     }
 }

@@ -1,0 +1,45 @@
+// Standard output, which takes the answers. The first write that fails is kept, and no other is tried after it: each answer is put together all the same, and
+// the program asks for the outcome when it has answered what came.
+ghost use Rattle.std.specs.Prelude.{◌≡◌, None, Some, MatchOption, IfSome, IsOk, IsErrOf};
+
+use std::io;
+use std::io::Stdout;
+
+#[derive(Clone, Copy)]
+pub struct Output {
+    pub stdout: Stdout,
+    pub failed: Option<io::Error>,
+}
+
+impl Output {
+    // No write has failed.
+    pub fn new(stdout: Stdout) -> Output
+        ensures { result.failed ≡ None }
+    {
+        Output {
+            stdout: stdout,
+            failed: None,
+        }
+    }
+
+    // Writes the bytes, where no write has failed.
+    pub fn write(&mut self, bytes: &[u8])
+        ensures { IfSome self.old.failed (λ e. self.new.failed ≡ Some e) }
+    {
+        if self.failed.is_none() {
+            if let Err(e) = self.stdout.write_all(bytes) {
+                self.failed = Some(e);
+            }
+        }
+    }
+
+    // The error of the first write that failed.
+    pub fn outcome(&self) -> io::Result<()>
+        ensures { MatchOption self.now.failed (IsOk result) (λ e. IsErrOf result e) }
+    {
+        match self.failed {
+            Some(e) => Err(e),
+            None => Ok(()),
+        }
+    }
+}
