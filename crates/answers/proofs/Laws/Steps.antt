@@ -130,3 +130,14 @@ bad_left Blocks k h = absurd (miss (0 ∷ 1 ∷ []) 7 tt k)
 
 pub not_make : (c : Call) → OneOf (0 ∷ 2 ∷ 3 ∷ 4 ∷ 5 ∷ 6 ∷ 7 ∷ []) (tag_of the_type c) → c ≡ Make → ⊥
 not_make c k e = miss (0 ∷ 2 ∷ 3 ∷ 4 ∷ 5 ∷ 6 ∷ 7 ∷ []) 1 tt (rw e at k)
+
+-- the same, where each is ruled out by itself
+pub bad_only : (c : Call) → (c ≡ Put → ⊥) → (c ≡ Cancel → ⊥) → (c ≡ Show → ⊥) → (c ≡ Span → ⊥) → (c ≡ Seek → ⊥) → (c ≡ Blocks → ⊥) → (c ≡ Make → ⊥) → c ≡ Bad
+bad_only Bad p k s n e b m = refl
+bad_only Make p k s n e b m = absurd (m refl)
+bad_only Put p k s n e b m = absurd (p refl)
+bad_only Cancel p k s n e b m = absurd (k refl)
+bad_only Show p k s n e b m = absurd (s refl)
+bad_only Span p k s n e b m = absurd (n refl)
+bad_only Seek p k s n e b m = absurd (e refl)
+bad_only Blocks p k s n e b m = absurd (b refl)

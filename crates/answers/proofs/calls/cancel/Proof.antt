@@ -5,7 +5,7 @@ use Rattle.answers.proofs.calls.cancel.Statement.{statement}
 use Rattle.answers.proofs.calls.cancel.Tie as tie
 
 returns : tie.Need-returns
-returns c = front_back c.before.before.before.before.before.args.long _ _ _ c.before.before.before.before.before.requires c.before.table.given.0 c.before.before.cancel.ensures
+returns c = front_back c.before.before.before.before.before.args.long _ _ _ c.before.before.before.before.before.requires c.before.table-1.given.0 c.before.before.cancel.ensures
 
 pub cancel_spec : {M : Type 1} → statement M
 cancel_spec = tie.close (tie.spec (λ c. search rules) (λ c. search rules) (λ c. search rules) (λ c κs. search rules) (λ c. search rules) returns)

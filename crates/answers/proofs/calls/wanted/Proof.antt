@@ -7,11 +7,11 @@ use Rattle.answers.proofs.calls.wanted.Tie as tie
 
 ruleset laws = (rules, good_nodes, good_blocks)
 
-returns : tie.Need-returns
-returns c = long_yes _ _ c.before.before.before.sizes-of.ensures _ c.before.before.sizes-allowed.ensures c.before.if1.true _ c.table-length.ensures
+returns : tie.Need-returns-then-sizes_allowed
+returns c = long_yes _ _ c.before.before.before.sizes_of-s.ensures _ c.before.before.sizes_allowed.ensures c.before.if-sizes_allowed.true _ c.table_length.ensures
 
-returns-2 : tie.Need-returns-2
-returns-2 c = long_no _ _ c.before.before.sizes-of.ensures _ c.before.sizes-allowed.ensures c.if1.false
+returns-2 : tie.Need-returns
+returns-2 c = long_no _ _ c.before.before.sizes_of-s.ensures _ c.before.sizes_allowed.ensures c.if-sizes_allowed.false
 
 pub wanted_spec : {M : Type 1} → statement M
 wanted_spec =

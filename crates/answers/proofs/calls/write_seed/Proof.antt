@@ -7,13 +7,13 @@ use Rattle.answers.proofs.calls.write_seed.Tie as tie
 
 ruleset laws = (rules, seeding_start, seeding_more, seeding_end)
 
-abbrev invariant-loop : tie.invariant-loop
-invariant-loop seed₀ pieces i₀ seed i = Seeding pieces seed i
+abbrev invariant-loop-i : tie.invariant-loop-i
+invariant-loop-i seed₀ pieces i₀ seed i = Seeding pieces seed i
 
-abbrev decreases-loop : tie.decreases-loop
-decreases-loop seed₀ pieces i₀ seed i = 10 - i
+abbrev decreases-loop-i : tie.decreases-loop-i
+decreases-loop-i seed₀ pieces i₀ seed i = 10 - i
 
 pub write_seed_spec : {M : Type 1} → statement M
 write_seed_spec =
     tie.close
-    (tie.spec invariant-loop decreases-loop (λ c. search laws) (λ c. search laws) (λ c. search laws) (λ c. search laws) (λ c. search laws) (λ c κs. search laws) (λ c. search laws) (λ c. search laws) (λ c. search laws) (λ c. search laws) (λ c. search laws))
+    (tie.spec invariant-loop-i decreases-loop-i (λ c. search laws) (λ c. search laws) (λ c. search laws) (λ c. search laws) (λ c. search laws) (λ c κs. search laws) (λ c. search laws) (λ c. search laws) (λ c. search laws) (λ c. search laws) (λ c. search laws))

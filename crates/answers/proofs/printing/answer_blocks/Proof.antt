@@ -6,14 +6,14 @@ use Rattle.answers.proofs.Laws.Blocks.{blocks_no, blocks_yes}
 use Rattle.answers.proofs.printing.answer_blocks.Statement.{statement}
 use Rattle.answers.proofs.printing.answer_blocks.Tie as tie
 
-returns : tie.Need-returns
-returns c = blocks_no _ _ c.before.before.before.before.before.check.ensures _ _ _ _ c.if1.true c.before.before.before.say-number.ensures
+returns : tie.Need-returns-then-n-ne0
+returns c = blocks_no _ _ c.before.before.before.before.before.check-n.ensures _ _ _ _ c.if-n-ne0.true c.before.before.before.say_number-used.ensures
 
-say-image-requires : tie.Need-say-image-requires
-say-image-requires c κs = (c.before.before.before.before.before.say-number.ensures.lent, rw sub-zero (checked_yes _ _ c.before.before.before.before.before.before.before.check.ensures c.before.before.if1.false))
+say-image-requires : tie.Need-say_image-requires
+say-image-requires c κs = (c.before.before.before.before.before.say_number-used.ensures.lent, rw sub-zero (checked_yes _ _ c.before.before.before.before.before.before.before.check-n.ensures c.before.before.if-n-ne0.false))
 
-returns-2 : tie.Need-returns-2
-returns-2 c = blocks_yes _ _ c.before.before.before.before.before.before.before.before.before.before.check.ensures _ _ _ _ c.before.before.before.before.before.if1.false _ _ c.before.before.before.before.before.before.before.before.say-number.ensures (rw sub-zero at c.before.before.say-image.ensures)
+returns-2 : tie.Need-returns
+returns-2 c = blocks_yes _ _ c.before.before.before.before.before.before.before.before.before.before.check-n.ensures _ _ _ _ c.before.before.before.before.before.if-n-ne0.false _ _ c.before.before.before.before.before.before.before.before.say_number-used.ensures (rw sub-zero at c.before.before.say_image.ensures)
 
 pub answer_blocks_spec : {M : Type 1} → statement M
 answer_blocks_spec =

@@ -5,7 +5,7 @@ use Rattle.answers.proofs.printing.say_order.Statement.{statement}
 use Rattle.answers.proofs.printing.say_order.Tie as tie
 
 returns : tie.Need-returns
-returns c = order_said _ _ _ _ _ _ _ _ _ c.before.before.before.before.be43.ensures c.before.before.before.before.before.before.before.be4.ensures c.before.before.before.before.before.before.be42.ensures c.before.before.say.ensures
+returns c = order_said _ _ _ _ _ _ _ _ _ c.before.before.before.before.be4-3.ensures c.before.before.before.before.before.before.before.be4.ensures c.before.before.before.before.before.before.be4-2.ensures c.before.before.say.ensures
 
 pub say_order_spec : {M : Type 1} → statement M
 say_order_spec =
