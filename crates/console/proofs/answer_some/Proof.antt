@@ -8,7 +8,7 @@ ruleset laws = (rules, lent_moved)
 
 returns : tie.Need-returns
 returns c =
-    (search laws, search laws, record { run = c.before.before.before.before.before.before.before.before.answer-all.result; taken = c.before.before.before.before.before.before.before.before.answer-all.ensures.2; written = c.written.ensures.2 })
+    (search laws, search laws, record { run = c.before.before.before.before.before.before.before.before.answer_all-run.result; taken = c.before.before.before.before.before.before.before.before.answer_all-run.ensures.2; written = c.written.ensures.2 })
 
 pub answer_some_spec : {M : Type 1} → statement M
 answer_some_spec =

@@ -6,11 +6,11 @@ use mathlib.Core.Path.{refl, sym, ◌∙◌}
 use Rattle.console.proofs.finish.Statement.{statement}
 use Rattle.console.proofs.finish.Tie as tie
 
-returns : tie.Need-returns
-returns c = last_line _ _ _ _ _ _ _ c.before.before.before.before.before.before.before.before.before.before.before.before.before.before.before.is-under-way.ensures c.before.before.before.before.before.before.before.before.before.before.before.before.before.before.if1.true c.before.before.before.before.before.before.before.before.before.before.close.ensures c.before.before.before.before.before.before.before.before.before.answer.ensures
+returns : tie.Need-returns-then-is_under_way
+returns c = last_line _ _ _ _ _ _ _ c.before.before.before.before.before.before.before.before.before.before.before.before.before.before.before.is_under_way.ensures c.before.before.before.before.before.before.before.before.before.before.before.before.before.before.if-is_under_way.true c.before.before.before.before.before.before.before.before.before.before.close.ensures c.before.before.before.before.before.before.before.before.before.answer-lengths.ensures
 
-returns-2 : tie.Need-returns-2
-returns-2 c = nothing (sym c.before.is-under-way.ensures ∙ c.if1.false) refl refl
+returns-2 : tie.Need-returns-else-is_under_way
+returns-2 c = nothing (sym c.before.is_under_way.ensures ∙ c.if-is_under_way.false) refl refl
 
 pub finish_spec : {M : Type 1} → statement M
 finish_spec =
