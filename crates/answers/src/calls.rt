@@ -84,6 +84,7 @@ fn amend(table: &mut [u8], long: usize, o: Order) -> u32
 }
 
 // A put enters a key; one that is held already is amended. The program's orders have no price.
+#[tactic(auto, using(crate::proofs::Laws::Puts::put_entered, crate::proofs::Laws::Puts::put_amended))]
 pub fn put(table: &mut [u8], long: usize, key: u32, total: u32, displayed: u32) -> u32
     requires { long ≤ length table.old }
     ensures { Front long table.old table.new (PutDoes key total displayed result) }
