@@ -7,8 +7,8 @@ use std::io::Stdout;
 
 #[derive(Clone, Copy)]
 pub struct Output {
-    pub stdout: Stdout,
-    pub failed: Option<io::Error>,
+    stdout: Stdout,
+    failed: Option<io::Error>,
 }
 
 impl Output {
