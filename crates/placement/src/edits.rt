@@ -157,6 +157,7 @@ pub fn write_block(table: &mut [u8], s: Sizes, e: u32, l: Label, n: u32, nodes: 
 }
 
 // A new chunk with a label and n nodes, in its place; nothing where no block is empty.
+#[tactic(auto, using(crate::proofs::Laws::Loops::free_at))]
 pub fn insert(table: &mut [u8], s: Sizes, l: Label, n: u32, nodes: &[u8], start: usize) -> Found
     requires { Shaped s table.old × (l.level < 256) × (n ≤ s.nodes) × (start + row s * n ≤ length nodes.now) }
     ensures { (result ≡ free_in (label_in (block_long s) table.old) s.blocks s.blocks (home s l)) × (table.new ≡ inserted s result l n (take (row s * n) (drop start nodes.now)) table.old) }

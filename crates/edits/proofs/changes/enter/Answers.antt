@@ -1,5 +1,6 @@
 -- `edits::changes::enter` meets its contract: 14, 5 and 6 are asked together; then the key is held, or it is free and there are N orders, or fewer.
 use mathlib.Core.Path.{sym, ◌∙◌}
+use native.Mathlib.Omega.{arith}
 use borrow.Author.Rules.{rules}
 use borrow.Author.Tests.{not-true, not-false}
 use Rattle.readings.proofs.Laws.Answers.{known_at, known_long}
@@ -40,7 +41,8 @@ order_of-requires c =
     let i = g in
     let e = i in
     let p = asked_sure _ (sym e.examine-t.ensures.image ∙ not-false _ i.if-not-t.false) _ g.geometry_of-q.ensures.0 _ _ n.asked-n.ensures n.if-n-ne0.false in
-    (known_at _ _ p.image p.sizes_are, g.geometry_of-q.ensures.1, key_some _ p.key)
+    let k = key_some _ p.key in
+    (known_at _ _ p.image p.sizes_are, g.geometry_of-q.ensures.1, omega arith)
 
 pub enum_told-1 : goal.enum_told-1
 enum_told-1 c = search rules
