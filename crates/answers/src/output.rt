@@ -5,7 +5,7 @@ ghost use Rattle.std.specs.Prelude.{◌≡◌, None, Some, MatchOption, IfSome, 
 use std::io;
 use std::io::Stdout;
 
-#[derive(Clone, Copy)]
+#[derive(Drop)]
 pub struct Output {
     stdout: Stdout,
     failed: Option<io::Error>,
