@@ -122,7 +122,8 @@ fn along(table: &[u8], q: Geometry, g: u32, level: u32, y: u32, t: Trail, path: 
             return w;
         }
         w = tread(table, s, i, n, w, path);
-        if n < s.nodes {
+        let ends_here = n < s.nodes;
+        if ends_here {
             return w;
         }
         want.number += 1;

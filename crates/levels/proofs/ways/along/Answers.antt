@@ -46,16 +46,16 @@ returns-then-n-eq0 c =
 pub tread-w-requires : goal.tread-w-requires
 tread-w-requires c = search laws
 
-pub shape_of-path-then-n-s : goal.shape_of-path-then-n-s
-shape_of-path-then-n-s c = search laws
+pub shape_of-path-then-ends_here : goal.shape_of-path-then-ends_here
+shape_of-path-then-ends_here c = search laws
 
-pub returns-then-n-s : goal.returns-then-n-s
-returns-then-n-s c =
+pub returns-then-ends_here : goal.returns-then-ends_here
+returns-then-ends_here c =
     let d = c in
     let e = d in
     let a = e in
     along_last _ _ _ _ _ _ a.requires.0 _ _ _ _ a.loop-want.invariant e.loop-want-test.true _ e.find_past.ensures _ d.in-At.is _
-    d.reached-n.ensures.0 d.if-n-eq0.false _ _ d.tread-w.ensures.0 d.tread-w.ensures.1 d.tread-w.ensures.2 c.if-n-s.true
+    d.reached-n.ensures.0 d.if-n-eq0.false _ _ d.tread-w.ensures.0 d.tread-w.ensures.1 d.tread-w.ensures.2 c.if-ends_here.true
 
 pub overflow_add-want : goal.overflow_add-want
 overflow_add-want c = search laws
@@ -78,7 +78,7 @@ loop-want-preserved c =
     let a = e in
     let x = a in
     along_more _ _ _ _ x.args.t _ x.requires.0 _ _ _ _ a.loop-want.invariant e.loop-want-test.true _ e.find_past.ensures _ d.in-At.is _
-    d.reached-n.ensures.0 d.if-n-eq0.false _ _ d.tread-w.ensures.0 d.tread-w.ensures.1 d.tread-w.ensures.2 c.if-n-s.false
+    d.reached-n.ensures.0 d.if-n-eq0.false _ _ d.tread-w.ensures.0 d.tread-w.ensures.1 d.tread-w.ensures.2 c.if-ends_here.false
     x.requires.3 (search laws) _ c.behind-start.ensures.0 c.behind-start.ensures.1
 
 pub shape_of-path : goal.shape_of-path
