@@ -1,6 +1,7 @@
 // Standard output, which takes the answers. The first write that fails is kept, and no other is tried after it: each answer is put together all the same, and
 // the program asks for the outcome when it has answered what came.
 ghost use Rattle.std.specs.Prelude.{◌≡◌, None, Some, MatchOption, IfSome, IsOk, IsErrOf};
+ghost use Rattle.answers.specs.Failure.{first_failure};
 
 use std::io;
 use std::io::Stdout;
@@ -14,7 +15,7 @@ pub struct Output {
 impl Output {
     // No write has failed.
     pub fn new(stdout: Stdout) -> Output
-        ensures { result.failed ≡ None }
+        ensures { first_failure result ≡ None }
     {
         Output {
             stdout: stdout,
@@ -24,7 +25,7 @@ impl Output {
 
     // Writes the bytes, where no write has failed.
     pub fn write(&mut self, bytes: &[u8])
-        ensures { IfSome self.old.failed (λ e. self.new.failed ≡ Some e) }
+        ensures { IfSome (first_failure self.old) (λ e. first_failure self.new ≡ Some e) }
     {
         if self.failed.is_none() {
             if let Err(e) = self.stdout.write_all(bytes) {
@@ -35,7 +36,7 @@ impl Output {
 
     // The error of the first write that failed.
     pub fn outcome(&self) -> io::Result<()>
-        ensures { MatchOption self.now.failed (IsOk result) (λ e. IsErrOf result e) }
+        ensures { MatchOption (first_failure self.now) (IsOk result) (λ e. IsErrOf result e) }
     {
         match self.failed {
             Some(e) => Err(e),

@@ -16,7 +16,7 @@ pub returns-then-check-ne0 : goal.returns-then-check-ne0
 returns-then-check-ne0 c = amend_no_4 _ _ (checked_no _ _ c.check.ensures.0 c.if-check-ne0.true)
 
 pub geometry_of-q-requires : goal.geometry_of-q-requires
-geometry_of-q-requires c = let i = c in checked_yes _ _ i.check.ensures.0 i.if-check-ne0.false
+geometry_of-q-requires c = checked_yes _ _ c.check.ensures.0 c.if-check-ne0.false
 
 pub asked-n-requires : goal.asked-n-requires
 asked-n-requires c = search rules
@@ -26,17 +26,12 @@ shape_of-table-then-n-ne0 c = search rules
 
 pub returns-then-n-ne0 : goal.returns-then-n-ne0
 returns-then-n-ne0 c =
-    let g = c in
-    let i = g in
-    amend_asked _ (checked_yes _ _ i.check.ensures.0 i.if-check-ne0.false) _ g.geometry_of-q.ensures.0 _ _ c.asked-n.ensures c.if-n-ne0.true
+    amend_asked _ (checked_yes _ _ c.check.ensures.0 c.if-check-ne0.false) _ c.geometry_of-q.ensures.0 _ _ c.asked-n.ensures c.if-n-ne0.true
 
 pub way_down-w-requires : goal.way_down-w-requires
 way_down-w-requires c =
-    let n = c in
-    let g = n in
-    let i = g in
-    let p = asked_sure _ (checked_yes _ _ i.check.ensures.0 i.if-check-ne0.false) _ g.geometry_of-q.ensures.0 _ _ n.asked-n.ensures n.if-n-ne0.false in
-    ((known_at _ _ p.image p.sizes_are).shaped, g.geometry_of-q.ensures.1)
+    let p = asked_sure _ (checked_yes _ _ c.check.ensures.0 c.if-check-ne0.false) _ c.geometry_of-q.ensures.0 _ _ c.asked-n.ensures c.if-n-ne0.false in
+    ((known_at _ _ p.image p.sizes_are).shaped, c.geometry_of-q.ensures.1)
 
 pub order_at-requires : goal.order_at-requires
 order_at-requires c = search rules
@@ -52,13 +47,8 @@ shape_of-table-in_default c = search rules
 
 pub returns-in_default : goal.returns-in_default
 returns-in_default c =
-    let o = c in
-    let x = o in
-    let n = x in
-    let g = n in
-    let i = g in
-    let p = asked_sure _ (checked_yes _ _ i.check.ensures.0 i.if-check-ne0.false) _ g.geometry_of-q.ensures.0 _ _ n.asked-n.ensures n.if-n-ne0.false in
-    amend_no_9 _ _ _ p g.geometry_of-q.ensures.1 _ x.way_down-w.ensures.0 _ o.order_at.ensures (search rules)
+    let p = asked_sure _ (checked_yes _ _ c.check.ensures.0 c.if-check-ne0.false) _ c.geometry_of-q.ensures.0 _ _ c.asked-n.ensures c.if-n-ne0.false in
+    amend_no_9 _ _ _ p c.geometry_of-q.ensures.1 _ c.way_down-w.ensures.0 _ c.order_at.ensures (search rules)
 
 pub write_node-requires : goal.write_node-requires
 write_node-requires c = search rules
@@ -68,10 +58,5 @@ shape_of-table c = search rules
 
 pub returns : goal.returns
 returns c =
-    let o = c in
-    let x = o in
-    let n = x in
-    let g = n in
-    let i = g in
-    let p = asked_sure _ (checked_yes _ _ i.check.ensures.0 i.if-check-ne0.false) _ g.geometry_of-q.ensures.0 _ _ n.asked-n.ensures n.if-n-ne0.false in
-    amend_done _ _ _ p g.geometry_of-q.ensures.1 _ x.way_down-w.ensures.0 _ o.order_at.ensures c.in-Is.was c.in-Is.is _ (search rules)
+    let p = asked_sure _ (checked_yes _ _ c.check.ensures.0 c.if-check-ne0.false) _ c.geometry_of-q.ensures.0 _ _ c.asked-n.ensures c.if-n-ne0.false in
+    amend_done _ _ _ p c.geometry_of-q.ensures.1 _ c.way_down-w.ensures.0 _ c.order_at.ensures c.in-Is.was c.in-Is.is _ (search rules)

@@ -46,7 +46,7 @@ pub returns-in_default : goal.returns-in_default
 returns-in_default c = search laws
 
 pub cancel_sure-requires : goal.cancel_sure-requires
-cancel_sure-requires c = let g = c in (search laws, search laws, search laws, g.geometry_of-q.ensures.0, g.geometry_of-q.ensures.1)
+cancel_sure-requires c = (search laws, search laws, search laws, c.geometry_of-q.ensures.0, c.geometry_of-q.ensures.1)
 
 pub shape_of-table : goal.shape_of-table
 shape_of-table c = search laws

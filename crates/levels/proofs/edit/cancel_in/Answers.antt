@@ -57,9 +57,7 @@ overflow_sub-n c = search laws
 
 pub shift-requires : goal.shift-requires
 shift-requires c =
-    let b = c in
-    let a = b in
-    (a.requires.0, a.requires.1, a.requires.2, omega (arith, c.read-n.ensures.1), search rules, numbers_shift _ a.args.x.below a.args.x.size _ _ a.requires.1 (omega (arith, a.ranges, b.struct_known-1.given)) (omega (arith, a.ranges, b.struct_known-1.given)) refl c.later-count.ensures)
+    (c.requires.0, c.requires.1, c.requires.2, omega (arith, c.read-n.ensures.1), search rules, numbers_shift _ c.args.x.below c.args.x.size _ _ c.requires.1 (omega (arith, c.ranges, c.struct_known-1.given)) (omega (arith, c.ranges, c.struct_known-1.given)) refl c.later-count.ensures)
 
 pub shape_of-table : goal.shape_of-table
 shape_of-table c = search laws

@@ -53,8 +53,7 @@ follow-requires c = search laws
 
 pub overflow_add-number : goal.overflow_add-number
 overflow_add-number c =
-    let a = c in
-    record { fits = omega (arith, number_half _ a.args.x.below a.requires.1, a.ranges) }
+    record { fits = omega (arith, number_half _ c.args.x.below c.requires.1, c.ranges) }
 
 pub slice_bounds-pour-end : goal.slice_bounds-pour-end
 slice_bounds-pour-end c = search laws
@@ -64,10 +63,8 @@ overflow_add-n c = search laws
 
 pub pour-requires : goal.pour-requires
 pour-requires c =
-    let b = c in
-    let a = b in
-    let fit = numbers_fit _ a.args.x.below a.args.x.size _ _ a.requires.1 (omega (arith, a.ranges, b.struct_known-1.given)) (omega (arith, a.ranges, b.struct_known-1.given)) refl _ c.later-count.ensures in
-    (c.store.ensures.0, a.requires.1, a.requires.2, omega (arith, c.read-n.ensures.1, a.requires.1, c.if-n-kept.false), search rules, omega (arith, fit), fit)
+    let fit = numbers_fit _ c.args.x.below c.args.x.size _ _ c.requires.1 (omega (arith, c.ranges, c.struct_known-1.given)) (omega (arith, c.ranges, c.struct_known-1.given)) refl _ c.later-count.ensures in
+    (c.store.ensures.0, c.requires.1, c.requires.2, omega (arith, c.read-n.ensures.1, c.requires.1, c.if-n-kept.false), search rules, omega (arith, fit), fit)
 
 pub shape_of-table : goal.shape_of-table
 shape_of-table c = search laws

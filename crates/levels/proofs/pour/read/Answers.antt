@@ -50,11 +50,9 @@ pub shape_of-carry : goal.shape_of-carry
 shape_of-carry c = search laws
 
 pub returns : goal.returns
-returns c =
-    let d = c in
-    let e = d in (
-      search rules,
-      omega (arith, d.if-s-more.false),
-      read_some _ _ _ _ _ _ e.find.ensures _ d.in-At.is _ d.count_at-more.ensures.0 _ _ _ _ _ c.offset-start.ensures.0 c.row.ensures.0
-          c.rows.ensures.0 c.used.ensures.0 d.if-s-more.false e.requires.1 c.bring.ensures,
-    )
+returns c = (
+  search rules,
+  omega (arith, c.if-s-more.false),
+  read_some _ _ _ _ _ _ c.find.ensures _ c.in-At.is _ c.count_at-more.ensures.0 _ _ _ _ _ c.offset-start.ensures.0 c.row.ensures.0
+      c.rows.ensures.0 c.used.ensures.0 c.if-s-more.false c.requires.1 c.bring.ensures,
+)

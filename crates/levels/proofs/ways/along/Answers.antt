@@ -26,9 +26,7 @@ shape_of-path-in_default c = search laws
 
 pub returns-in_default : goal.returns-in_default
 returns-in_default c =
-    let e = c in
-    let a = e in
-    along_none _ _ _ _ _ _ a.requires.0 _ _ _ _ a.loop-want.invariant e.loop-want-test.true _ e.find_past.ensures c.in_default.is
+    along_none _ _ _ _ _ _ c.requires.0 _ _ _ _ c.loop-want.invariant c.loop-want-test.true _ c.find_past.ensures c.in_default.is
 
 pub reached-n-requires : goal.reached-n-requires
 reached-n-requires c = search laws
@@ -38,9 +36,7 @@ shape_of-path-then-n-eq0 c = search laws
 
 pub returns-then-n-eq0 : goal.returns-then-n-eq0
 returns-then-n-eq0 c =
-    let e = c in
-    let a = e in
-    along_short _ _ _ _ _ _ a.requires.0 _ _ _ _ a.loop-want.invariant e.loop-want-test.true _ e.find_past.ensures _ c.in-At.is _
+    along_short _ _ _ _ _ _ c.requires.0 _ _ _ _ c.loop-want.invariant c.loop-want-test.true _ c.find_past.ensures _ c.in-At.is _
     c.reached-n.ensures.0 c.if-n-eq0.true
 
 pub tread-w-requires : goal.tread-w-requires
@@ -51,40 +47,28 @@ shape_of-path-then-ends_here c = search laws
 
 pub returns-then-ends_here : goal.returns-then-ends_here
 returns-then-ends_here c =
-    let d = c in
-    let e = d in
-    let a = e in
-    along_last _ _ _ _ _ _ a.requires.0 _ _ _ _ a.loop-want.invariant e.loop-want-test.true _ e.find_past.ensures _ d.in-At.is _
-    d.reached-n.ensures.0 d.if-n-eq0.false _ _ d.tread-w.ensures.0 d.tread-w.ensures.1 d.tread-w.ensures.2 c.if-ends_here.true
+    along_last _ _ _ _ _ _ c.requires.0 _ _ _ _ c.loop-want.invariant c.loop-want-test.true _ c.find_past.ensures _ c.in-At.is _
+    c.reached-n.ensures.0 c.if-n-eq0.false _ _ c.tread-w.ensures.0 c.tread-w.ensures.1 c.tread-w.ensures.2 c.if-ends_here.true
 
 pub overflow_add-want : goal.overflow_add-want
 overflow_add-want c = search laws
 
 pub behind-start-requires : goal.behind-start-requires
 behind-start-requires c =
-    let i = c in
-    let e = i in
-    let a = e in
-    let x = a in
-    along_behind _ _ _ _ x.args.t _ x.requires.0 _ _ _ _ a.loop-want.invariant e.loop-want-test.true _ e.find_past.ensures _ i.in-At.is _ x.requires.2 (search laws)
+    along_behind _ _ _ _ c.args.t _ c.requires.0 _ _ _ _ c.loop-want.invariant c.loop-want-test.true _ c.find_past.ensures _ c.in-At.is _ c.requires.2 (search laws)
 
 pub loop-want-smaller : goal.loop-want-smaller
 loop-want-smaller c = search laws
 
 pub loop-want-preserved : goal.loop-want-preserved
 loop-want-preserved c =
-    let d = c in
-    let e = d in
-    let a = e in
-    let x = a in
-    along_more _ _ _ _ x.args.t _ x.requires.0 _ _ _ _ a.loop-want.invariant e.loop-want-test.true _ e.find_past.ensures _ d.in-At.is _
-    d.reached-n.ensures.0 d.if-n-eq0.false _ _ d.tread-w.ensures.0 d.tread-w.ensures.1 d.tread-w.ensures.2 c.if-ends_here.false
-    x.requires.3 (search laws) _ c.behind-start.ensures.0 c.behind-start.ensures.1
+    along_more _ _ _ _ c.args.t _ c.requires.0 _ _ _ _ c.loop-want.invariant c.loop-want-test.true _ c.find_past.ensures _ c.in-At.is _
+    c.reached-n.ensures.0 c.if-n-eq0.false _ _ c.tread-w.ensures.0 c.tread-w.ensures.1 c.tread-w.ensures.2 c.if-ends_here.false
+    c.requires.3 (search laws) _ c.behind-start.ensures.0 c.behind-start.ensures.1
 
 pub shape_of-path : goal.shape_of-path
 shape_of-path c = search laws
 
 pub returns : goal.returns
 returns c =
-    let a = c in
-    along_end _ _ _ _ _ _ a.requires.0 _ _ _ _ a.loop-want.invariant c.loop-want-test.false
+    along_end _ _ _ _ _ _ c.requires.0 _ _ _ _ c.loop-want.invariant c.loop-want-test.false

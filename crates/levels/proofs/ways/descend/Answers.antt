@@ -36,8 +36,7 @@ loop-level-smaller c = search laws
 
 pub loop-level-preserved : goal.loop-level-preserved
 loop-level-preserved c =
-    let d = c in
-    let i = d.loop-level.invariant.1 in
+    let i = c.loop-level.invariant.1 in
     (search laws, elim c.if-t-first.branch [ then-t-first w ↦ w.g-is ∙ w.hash-g-then-t-first.ensures.0 ∙ ap (hash_from 5 5 _) (sym w.first-is) | else-t-first w ↦ w.g-is ∙ i ∙ ap (hash_from 5 5 _) (sym w.first-is) ])
 
 pub shape_of-path : goal.shape_of-path

@@ -27,7 +27,7 @@ pub geometry_of-requires : goal.geometry_of-requires
 geometry_of-requires c = checked_yes _ _ c.check.ensures.0 c.if-check-ne0.false
 
 pub order_of-requires : goal.order_of-requires
-order_of-requires c = let d = c in (known_at _ _ (checked_yes _ _ d.check.ensures.0 d.if-check-ne0.false) c.geometry_of.ensures.0, c.geometry_of.ensures.1, key_least _ _ d.is_key.ensures d.if-not-is_key.false)
+order_of-requires c = (known_at _ _ (checked_yes _ _ c.check.ensures.0 c.if-check-ne0.false) c.geometry_of.ensures.0, c.geometry_of.ensures.1, key_least _ _ c.is_key.ensures c.if-not-is_key.false)
 
 pub enum_known-o : goal.enum_known-o
 enum_known-o c = search rules

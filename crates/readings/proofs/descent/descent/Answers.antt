@@ -44,11 +44,10 @@ pub slice_bounds-descend-end : goal.slice_bounds-descend-end
 slice_bounds-descend-end c = search laws
 
 pub descend-t-requires : goal.descend-t-requires
-descend-t-requires c =
-    let g = c in (
-      ruled_shaped _ _ g.rule_of.ensures g.if-not-rule_of.false _ (g.reckon-q.ensures.0 ∙ g.read-h.ensures.0),
-      g.reckon-q.ensures.1,
-    )
+descend-t-requires c = (
+  ruled_shaped _ _ c.rule_of.ensures c.if-not-rule_of.false _ (c.reckon-q.ensures.0 ∙ c.read-h.ensures.0),
+  c.reckon-q.ensures.1,
+)
 
 pub overflow_cast-t : goal.overflow_cast-t
 overflow_cast-t c = search laws
@@ -60,26 +59,22 @@ pub refused-requires-then-path-t : goal.refused-requires-then-path-t
 refused-requires-then-path-t c = search laws
 
 pub returns-then-path-t : goal.returns-then-path-t
-returns-then-path-t c =
-    let d = c in
-    let g = d in (
-      descent_11 _ _ _ _ _ g.rule_of.ensures g.if-not-rule_of.false _ g.is_key.ensures g.if-not-is_key.false
-          _ (g.reckon-q.ensures.0 ∙ g.read-h.ensures.0) g.reckon-q.ensures.1 _ _ _ d.descend-t.ensures.0 c.if-path-t.true c.refused-then-path-t.ensures,
-      refl,
-    )
+returns-then-path-t c = (
+  descent_11 _ _ _ _ _ c.rule_of.ensures c.if-not-rule_of.false _ c.is_key.ensures c.if-not-is_key.false
+      _ (c.reckon-q.ensures.0 ∙ c.read-h.ensures.0) c.reckon-q.ensures.1 _ _ _ c.descend-t.ensures.0 c.if-path-t.true c.refused-then-path-t.ensures,
+  refl,
+)
 
 pub slice_bounds-write_path-end : goal.slice_bounds-write_path-end
 slice_bounds-write_path-end c = search laws
 
 pub write_path-requires : goal.write_path-requires
-write_path-requires c =
-    let d = c in
-    let g = d in (
-      ruled_shaped _ _ g.rule_of.ensures g.if-not-rule_of.false _ (g.reckon-q.ensures.0 ∙ g.read-h.ensures.0),
-      g.reckon-q.ensures.1,
-      record { output = _; number = ap (λ (x : Trek). x.trail.count) d.descend-t.ensures.0; is = ap (λ (x : Trek). x.path) d.descend-t.ensures.0 },
-      c.if-path-t.false,
-    )
+write_path-requires c = (
+  ruled_shaped _ _ c.rule_of.ensures c.if-not-rule_of.false _ (c.reckon-q.ensures.0 ∙ c.read-h.ensures.0),
+  c.reckon-q.ensures.1,
+  record { output = _; number = ap (λ (x : Trek). x.trail.count) c.descend-t.ensures.0; is = ap (λ (x : Trek). x.path) c.descend-t.ensures.0 },
+  c.if-path-t.false,
+)
 
 pub order_at-requires : goal.order_at-requires
 order_at-requires c = search laws
@@ -97,17 +92,12 @@ pub shape_of-path-in_default : goal.shape_of-path-in_default
 shape_of-path-in_default c = search laws
 
 pub returns-in_default : goal.returns-in_default
-returns-in_default c =
-    let m = c in
-    let w = m in
-    let i = w in
-    let d = i in
-    let g = d in (
-      descent_9 _ _ _ _ _ g.rule_of.ensures g.if-not-rule_of.false _ g.is_key.ensures g.if-not-is_key.false
-          _ (g.reckon-q.ensures.0 ∙ g.read-h.ensures.0) g.reckon-q.ensures.1 _ _ _ d.descend-t.ensures.0 i.if-path-t.false _ w.write_path.ensures
-          _ m.order_at.ensures c.in_default.is c.refused-in_default.ensures,
-      refl,
-    )
+returns-in_default c = (
+  descent_9 _ _ _ _ _ c.rule_of.ensures c.if-not-rule_of.false _ c.is_key.ensures c.if-not-is_key.false
+      _ (c.reckon-q.ensures.0 ∙ c.read-h.ensures.0) c.reckon-q.ensures.1 _ _ _ c.descend-t.ensures.0 c.if-path-t.false _ c.write_path.ensures
+      _ c.order_at.ensures c.in_default.is c.refused-in_default.ensures,
+  refl,
+)
 
 pub answered-requires : goal.answered-requires
 answered-requires c = search laws
@@ -116,14 +106,9 @@ pub shape_of-path : goal.shape_of-path
 shape_of-path c = search laws
 
 pub returns : goal.returns
-returns c =
-    let m = c in
-    let w = m in
-    let i = w in
-    let d = i in
-    let g = d in (
-      descent_found _ _ _ _ _ g.rule_of.ensures g.if-not-rule_of.false _ g.is_key.ensures g.if-not-is_key.false
-          _ (g.reckon-q.ensures.0 ∙ g.read-h.ensures.0) g.reckon-q.ensures.1 _ _ _ d.descend-t.ensures.0 i.if-path-t.false _ w.write_path.ensures
-          _ m.order_at.ensures _ c.in-Is.is c.answered.ensures,
-      refl,
-    )
+returns c = (
+  descent_found _ _ _ _ _ c.rule_of.ensures c.if-not-rule_of.false _ c.is_key.ensures c.if-not-is_key.false
+      _ (c.reckon-q.ensures.0 ∙ c.read-h.ensures.0) c.reckon-q.ensures.1 _ _ _ c.descend-t.ensures.0 c.if-path-t.false _ c.write_path.ensures
+      _ c.order_at.ensures _ c.in-Is.is c.answered.ensures,
+  refl,
+)

@@ -29,10 +29,8 @@ visit_nodes-overflow_sub-k t c = search laws
 
 pub visit_nodes-visit_orders-requires : goal.visit_nodes-visit_orders-requires
 visit_nodes-visit_orders-requires t c =
-    let d = c in
-    let a = d in
-    let p = a.requires in
-    let b = begun _ _ _ _ _ (scan 0 a.args.v []) p.0 p.1 p.3 p.4 p.5 _ d.row-long.ensures.0 _ d.skipped-n.ensures.0 _ d.rows.ensures.0 in
+    let p = c.requires in
+    let b = begun _ _ _ _ _ (scan 0 c.args.v []) p.0 p.1 p.3 p.4 p.5 _ c.row-long.ensures.0 _ c.skipped-n.ensures.0 _ c.rows.ensures.0 in
     (p.0, b.nodes.room, row_one _ _ _ _ c.if-level-eq1.true b.listed)
 
 pub visit_nodes-shape_of-output-then-level-eq1 : goal.visit_nodes-shape_of-output-then-level-eq1
@@ -40,15 +38,13 @@ visit_nodes-shape_of-output-then-level-eq1 t c = length_kept _ _ _ _ _ _ c.visit
 
 pub visit_nodes-returns-then-level-eq1 : goal.visit_nodes-returns-then-level-eq1
 visit_nodes-returns-then-level-eq1 t c =
-    let d = c in
-    let p = d.requires in
-    nodding_orders _ _ _ _ _ _ _ _ _ (begun _ _ _ _ _ _ p.0 p.1 p.3 p.4 p.5 _ d.row-long.ensures.0 _ d.skipped-n.ensures.0 _ d.rows.ensures.0).nodes c.if-level-eq1.true _ c.visit_orders.ensures
+    let p = c.requires in
+    nodding_orders _ _ _ _ _ _ _ _ _ (begun _ _ _ _ _ _ p.0 p.1 p.3 p.4 p.5 _ c.row-long.ensures.0 _ c.skipped-n.ensures.0 _ c.rows.ensures.0).nodes c.if-level-eq1.true _ c.visit_orders.ensures
 
 pub visit_nodes-loop-k-init : goal.visit_nodes-loop-k-init
 visit_nodes-loop-k-init t c =
-    let d = c in
-    let p = d.requires in
-    (begun _ _ _ _ _ _ p.0 p.1 p.3 p.4 p.5 _ d.row-long.ensures.0 _ d.skipped-n.ensures.0 _ d.rows.ensures.0).nodes
+    let p = c.requires in
+    (begun _ _ _ _ _ _ p.0 p.1 p.3 p.4 p.5 _ c.row-long.ensures.0 _ c.skipped-n.ensures.0 _ c.rows.ensures.0).nodes
 
 pub visit_nodes-shape_of-output-then-w : goal.visit_nodes-shape_of-output-then-w
 visit_nodes-shape_of-output-then-w t c = c.loop-k.invariant.left.keeps.long
@@ -64,9 +60,8 @@ visit_nodes-node_of-requires t c = nodding_room _ _ _ _ _ _ _ _ _ c.loop-k.invar
 
 pub visit_nodes-visit_partition-w-requires : goal.visit_nodes-visit_partition-w-requires
 visit_nodes-visit_partition-w-requires t c =
-    let d = c in
-    let p = d.requires in
-    (omega (arith, c.decreases, p.1), (p.0, omega (arith, p.1, d.if-level-eq1.false), omega (arith, p.2), omega (arith, p.3, d.loop-k.invariant.left.keeps.lo, d.loop-k.invariant.left.keeps.hi)))
+    let p = c.requires in
+    (omega (arith, c.decreases, p.1), (p.0, omega (arith, p.1, c.if-level-eq1.false), omega (arith, p.2), omega (arith, p.3, c.loop-k.invariant.left.keeps.lo, c.loop-k.invariant.left.keeps.hi)))
 
 pub visit_nodes-overflow_add-place-in-loop-k : goal.visit_nodes-overflow_add-place-in-loop-k
 visit_nodes-overflow_add-place-in-loop-k t c = search laws
@@ -79,8 +74,7 @@ visit_nodes-loop-k-smaller t c = search laws
 
 pub visit_nodes-loop-k-preserved : goal.visit_nodes-loop-k-preserved
 visit_nodes-loop-k-preserved t c =
-    let d = c in
-    nodding_more _ _ _ _ _ _ _ _ _ d.loop-k.invariant c.loop-k-test.true _ d.row-long.ensures.0 _ c.node_of.ensures _ c.visit_partition-w.ensures
+    nodding_more _ _ _ _ _ _ _ _ _ c.loop-k.invariant c.loop-k-test.true _ c.row-long.ensures.0 _ c.node_of.ensures _ c.visit_partition-w.ensures
 
 pub visit_nodes-shape_of-output : goal.visit_nodes-shape_of-output
 visit_nodes-shape_of-output t c = c.loop-k.invariant.left.keeps.long
@@ -125,22 +119,19 @@ visit_partition-overflow_add-at t c = search laws
 
 pub visit_partition-visit_nodes-w-requires : goal.visit_partition-visit_nodes-w-requires
 visit_partition-visit_nodes-w-requires t c =
-    let d = c in
-    let p = d.requires in
-    let m = chunk_met _ _ _ _ _ _ _ d.loop-number.invariant p.0 p.2 _ c.find.ensures _ c.in-At.is
+    let p = c.requires in
+    let m = chunk_met _ _ _ _ _ _ _ c.loop-number.invariant p.0 p.2 _ c.find.ensures _ c.in-At.is
     _ _ c.offset-at.ensures.0 c.count_at-n.ensures.0 c.offset-at.ensures.1 in
-    (omega (arith, c.decreases), (p.0, p.1, p.2, omega (arith, p.3, d.loop-number.invariant.left.keeps.lo, d.loop-number.invariant.left.keeps.hi), m.0, m.1))
+    (omega (arith, c.decreases), (p.0, p.1, p.2, omega (arith, p.3, c.loop-number.invariant.left.keeps.lo, c.loop-number.invariant.left.keeps.hi), m.0, m.1))
 
 pub visit_partition-shape_of-output-then-n-s : goal.visit_partition-shape_of-output-then-n-s
 visit_partition-shape_of-output-then-n-s t c = length_kept _ _ _ _ _ _ c.visit_nodes-w.ensures ∙ c.loop-number.invariant.left.keeps.long
 
 pub visit_partition-returns-then-n-s : goal.visit_partition-returns-then-n-s
 visit_partition-returns-then-n-s t c =
-    let e = c in
-    let d = e in
-    let p = d.requires in
-    going_stop _ _ _ _ _ _ _ d.loop-number.invariant p.0 p.2 _ e.find.ensures _ e.in-At.is
-    _ _ e.offset-at.ensures.0 e.count_at-n.ensures.0 _ c.visit_nodes-w.ensures c.if-n-s.true
+    let p = c.requires in
+    going_stop _ _ _ _ _ _ _ c.loop-number.invariant p.0 p.2 _ c.find.ensures _ c.in-At.is
+    _ _ c.offset-at.ensures.0 c.count_at-n.ensures.0 _ c.visit_nodes-w.ensures c.if-n-s.true
 
 pub visit_partition-overflow_add-number : goal.visit_partition-overflow_add-number
 visit_partition-overflow_add-number t c = search laws
@@ -150,11 +141,9 @@ visit_partition-loop-number-smaller t c = search laws
 
 pub visit_partition-loop-number-preserved : goal.visit_partition-loop-number-preserved
 visit_partition-loop-number-preserved t c =
-    let e = c in
-    let d = e in
-    let p = d.requires in
-    going_more _ _ _ _ _ _ _ d.loop-number.invariant p.0 p.2 _ e.find.ensures _ e.in-At.is
-    _ _ e.offset-at.ensures.0 e.count_at-n.ensures.0 _ c.visit_nodes-w.ensures
+    let p = c.requires in
+    going_more _ _ _ _ _ _ _ c.loop-number.invariant p.0 p.2 _ c.find.ensures _ c.in-At.is
+    _ _ c.offset-at.ensures.0 c.count_at-n.ensures.0 _ c.visit_nodes-w.ensures
 
 pub visit_partition-shape_of-output : goal.visit_partition-shape_of-output
 visit_partition-shape_of-output t c = c.loop-number.invariant.left.keeps.long

@@ -51,11 +51,9 @@ walk_nodes-wrong-requires-then-absent t c = search laws
 
 pub walk_nodes-returns-then-absent : goal.walk_nodes-returns-then-absent
 walk_nodes-returns-then-absent t c =
-    let b = c in
-    let r = b in
-    let p = r.requires in
+    let p = c.requires in
     noding_gone _ _ _ _ _ _ _ _ _ _ _ _ _
-    (noding_more _ _ _ _ _ _ _ _ _ _ _ _ _ b.loop-k.invariant.0 _ b.comes_by.ensures b.loop-k-test.true _ r.row-w.ensures.0 b.if-not-comes_by.false _ refl _ refl)
+    (noding_more _ _ _ _ _ _ _ _ _ _ _ _ _ c.loop-k.invariant.0 _ c.comes_by.ensures c.loop-k-test.true _ c.row-w.ensures.0 c.if-not-comes_by.false _ refl _ refl)
     _ c.wrong-then-absent.ensures (omega (arith, c.if-k-gt1.true))
     (ahead _ _ _ _ _ p.0.shaped (omega (arith, p.2)) _ c.be4-key.ensures _ c.absent.ensures c.if-absent.true)
 
@@ -74,8 +72,7 @@ walk_nodes-walk_partition-y-requires t c =
 
 pub walk_nodes-overflow_add-place-in-loop-k : goal.walk_nodes-overflow_add-place-in-loop-k
 walk_nodes-overflow_add-place-in-loop-k t c =
-    let r = c in
-    record { fits = omega (arith, noding_room _ _ _ _ _ _ _ _ _ _ _ _ _ c.loop-k.invariant.0 c.loop-k-test.true, r.row-w.ensures.0, r.well_formed.0) }
+    record { fits = omega (arith, noding_room _ _ _ _ _ _ _ _ _ _ _ _ _ c.loop-k.invariant.0 c.loop-k-test.true, c.row-w.ensures.0, c.well_formed.0) }
 
 pub walk_nodes-overflow_sub-k : goal.walk_nodes-overflow_sub-k
 walk_nodes-overflow_sub-k t c = search laws
@@ -151,14 +148,11 @@ walk_partition-entered-requires t c = enters_chunks _ _ _ _ c.enters.ensures c.i
 
 pub walk_partition-walk_nodes-seen-requires : goal.walk_partition-walk_nodes-seen-requires
 walk_partition-walk_nodes-seen-requires t c =
-    let b = c in
-    let o = b in
-    let l = o in
-    let p = l.requires in
-    let e = b.enters.ensures in
+    let p = c.requires in
+    let e = c.enters.ensures in
     let h = c.if-not-enters.false in (
       omega (arith, c.decreases),
-      (p.0, p.1, omega (arith, l.if-level-eq1.false, p.2), p.3, enters_some _ _ _ _ e h, chunk_room _ _ p.0 _ _ _ e h _ o.offset-at.ensures.1),
+      (p.0, p.1, omega (arith, c.if-level-eq1.false, p.2), p.3, enters_some _ _ _ _ e h, chunk_room _ _ p.0 _ _ _ e h _ c.offset-at.ensures.1),
     )
 
 pub walk_partition-stops-requires : goal.walk_partition-stops-requires
@@ -166,29 +160,22 @@ walk_partition-stops-requires t c = search laws
 
 pub walk_partition-returns-then-stops : goal.walk_partition-returns-then-stops
 walk_partition-returns-then-stops t c =
-    let b = c in
-    let o = b in
-    let k = o in
     entering_stop _ _ _ _ _ _ _ _ _
-    (entering_made _ _ _ _ _ _ _ k.loop-number.invariant k.loop-number-test.true _ k.chunk.ensures _ o.in-At.is _ _ o.offset-at.ensures.0 b.wide-n.ensures.0 _ b.enters.ensures
+    (entering_made _ _ _ _ _ _ _ c.loop-number.invariant c.loop-number-test.true _ c.chunk.ensures _ c.in-At.is _ _ c.offset-at.ensures.0 c.wide-n.ensures.0 _ c.enters.ensures
     c.if-not-enters.false)
     _ (higher_nodes _ _ _ _ _ _ _ _ _ _ c.walk_nodes-seen.ensures c.entered.ensures) _ c.stops.ensures c.if-stops.true
 
 pub walk_partition-overflow_add-number : goal.walk_partition-overflow_add-number
 walk_partition-overflow_add-number t c =
-    let k = c in
-    record { fits = omega (arith, k.loop-number-test.true, k.requires.0.shaped.most) }
+    record { fits = omega (arith, c.loop-number-test.true, c.requires.0.shaped.most) }
 
 pub walk_partition-loop-number-smaller : goal.walk_partition-loop-number-smaller
 walk_partition-loop-number-smaller t c = search laws
 
 pub walk_partition-loop-number-preserved : goal.walk_partition-loop-number-preserved
 walk_partition-loop-number-preserved t c =
-    let b = c in
-    let o = b in
-    let k = o in
     entering_more _ _ _ _ _ _ _ _ _
-    (entering_made _ _ _ _ _ _ _ k.loop-number.invariant k.loop-number-test.true _ k.chunk.ensures _ o.in-At.is _ _ o.offset-at.ensures.0 b.wide-n.ensures.0 _ b.enters.ensures
+    (entering_made _ _ _ _ _ _ _ c.loop-number.invariant c.loop-number-test.true _ c.chunk.ensures _ c.in-At.is _ _ c.offset-at.ensures.0 c.wide-n.ensures.0 _ c.enters.ensures
     c.if-not-enters.false)
     _ (higher_nodes _ _ _ _ _ _ _ _ _ _ c.walk_nodes-seen.ensures c.entered.ensures) _ c.stops.ensures c.if-stops.false
 

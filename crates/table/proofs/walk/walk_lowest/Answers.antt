@@ -55,9 +55,7 @@ wrong-requires c = search laws
 
 pub returns-then-not-enters_lowest : goal.returns-then-not-enters_lowest
 returns-then-not-enters_lowest c =
-    let o = c in
-    let k = o in
-    lowest_refused _ _ _ _ _ _ k.blocks-2.invariant.0 k.blocks-2-test.true _ k.chunk_from.ensures _ o.in-At.is _ _ o.offset-at.ensures.0
+    lowest_refused _ _ _ _ _ _ c.blocks-2.invariant.0 c.blocks-2-test.true _ c.chunk_from.ensures _ c.in-At.is _ _ c.offset-at.ensures.0
     c.wide-n.ensures.0 _ c.enters_lowest.ensures c.if-not-enters_lowest.true _ c.wrong.ensures
 
 pub overflow_add-place : goal.overflow_add-place
@@ -65,12 +63,11 @@ overflow_add-place c = search laws
 
 pub loop-k-init : goal.loop-k-init
 loop-k-init c =
-    let o = c in
-    let p = o.requires in
+    let p = c.requires in
     let e = c.enters_lowest.ensures in
     let h = not-false _ c.if-not-enters_lowest.false-raw in
     let t = lowest_enters _ _ _ _ e h in
-    (refl, lowering_start _ _ _ _ _ _ _ (enters_good _ _ _ _ t refl) (lowest_few _ _ _ _ e h) (chunk_room _ _ p.0 _ _ _ t refl _ o.offset-at.ensures.1))
+    (refl, lowering_start _ _ _ _ _ _ _ (enters_good _ _ _ _ t refl) (lowest_few _ _ _ _ e h) (chunk_room _ _ p.0 _ _ _ t refl _ c.offset-at.ensures.1))
 
 pub comes-requires : goal.comes-requires
 comes-requires c =
@@ -88,8 +85,7 @@ overflow_add-low c = search laws
 
 pub overflow_add-place-in-loop-k : goal.overflow_add-place-in-loop-k
 overflow_add-place-in-loop-k c =
-    let o = c in
-    record { fits = omega (arith, lowering_room _ _ _ _ _ _ _ _ _ _ _ c.loop-k.invariant.1 c.loop-k-test.true, o.row-w.ensures.0, o.well_formed.0) }
+    record { fits = omega (arith, lowering_room _ _ _ _ _ _ _ _ _ _ _ c.loop-k.invariant.1 c.loop-k-test.true, c.row-w.ensures.0, c.well_formed.0) }
 
 pub overflow_sub-k : goal.overflow_sub-k
 overflow_sub-k c = search laws
@@ -107,36 +103,28 @@ passed-seen-requires c = lowest_holds _ _ _ _ c.enters_lowest.ensures c.if-not-e
 
 pub returns-then-n-q : goal.returns-then-n-q
 returns-then-n-q c =
-    let l = c in
-    lowest_stop _ _ _ _ _ _ _ _ (entering_made _ _ _ _ _ _ _ c.blocks-2.invariant.0 c.blocks-2-test.true _ c.chunk_from.ensures _ c.in-At.is _ _ c.offset-at.ensures.0 c.wide-n.ensures.0 true (lowest_enters _ _ _ _ c.enters_lowest.ensures c.if-not-enters_lowest.false) refl) _ _ _ _ l.loop-k.invariant.1 _ _ l.loop-k.invariant.0 c.passed-seen.ensures (omega (arith, c.loop-k-test.false)) c.if-n-q.true
+    lowest_stop _ _ _ _ _ _ _ _ (entering_made _ _ _ _ _ _ _ c.blocks-2.invariant.0 c.blocks-2-test.true _ c.chunk_from.ensures _ c.in-At.is _ _ c.offset-at.ensures.0 c.wide-n.ensures.0 true (lowest_enters _ _ _ _ c.enters_lowest.ensures c.if-not-enters_lowest.false) refl) _ _ _ _ c.loop-k.invariant.1 _ _ c.loop-k.invariant.0 c.passed-seen.ensures (omega (arith, c.loop-k-test.false)) c.if-n-q.true
 
 pub overflow_add-number : goal.overflow_add-number
 overflow_add-number c = search laws
 
 pub goes_on-start-requires : goal.goes_on-start-requires
 goes_on-start-requires c =
-    let k = c in
-    let r = k in
-    let p = r.requires in
-    (chunk_below _ _ _ _ _ _ _ k.in-At.is r.chunk_from.ensures p.0.shaped, search laws, omega (arith, r.blocks-2-test.true, p.0.shaped.most))
+    let p = c.requires in
+    (chunk_below _ _ _ _ _ _ _ c.in-At.is c.chunk_from.ensures p.0.shaped, search laws, omega (arith, c.blocks-2-test.true, p.0.shaped.most))
 
 pub blocks-2-smaller : goal.blocks-2-smaller
 blocks-2-smaller c = search laws
 
 pub blocks-2-preserved : goal.blocks-2-preserved
-blocks-2-preserved c =
-    let d = c in
-    let l = d in
-    let k = d in
-    let r = k in (
-      lowest_more _ _ _ _ _ _ _ _ (entering_made _ _ _ _ _ _ _ c.blocks-2.invariant.0 c.blocks-2-test.true _ c.chunk_from.ensures _ c.in-At.is _ _ c.offset-at.ensures.0 c.wide-n.ensures.0 true (lowest_enters _ _ _ _ c.enters_lowest.ensures c.if-not-enters_lowest.false) refl) _ _ _ _ l.loop-k.invariant.1 _ _ l.loop-k.invariant.0 d.passed-seen.ensures (omega (arith, d.loop-k-test.false)) (omega (arith, d.if-n-q.false)),
-      starting_next _ _ _ _ _ _ r.chunk_from.ensures k.in-At.is (omega (arith, r.blocks-2-test.true, r.requires.0.shaped.most)) _ c.goes_on-start.ensures.0 c.goes_on-start.ensures.1,
-    )
+blocks-2-preserved c = (
+  lowest_more _ _ _ _ _ _ _ _ (entering_made _ _ _ _ _ _ _ c.blocks-2.invariant.0 c.blocks-2-test.true _ c.chunk_from.ensures _ c.in-At.is _ _ c.offset-at.ensures.0 c.wide-n.ensures.0 true (lowest_enters _ _ _ _ c.enters_lowest.ensures c.if-not-enters_lowest.false) refl) _ _ _ _ c.loop-k.invariant.1 _ _ c.loop-k.invariant.0 c.passed-seen.ensures (omega (arith, c.loop-k-test.false)) (omega (arith, c.if-n-q.false)),
+  starting_next _ _ _ _ _ _ c.chunk_from.ensures c.in-At.is (omega (arith, c.blocks-2-test.true, c.requires.0.shaped.most)) _ c.goes_on-start.ensures.0 c.goes_on-start.ensures.1,
+)
 
 pub returns-after-blocks-2 : goal.returns-after-blocks-2
 returns-after-blocks-2 c = search laws
 
 pub returns-then-not-comes : goal.returns-then-not-comes
 returns-then-not-comes c =
-    let l = c in
-    lowest_wrong _ _ _ _ _ _ _ _ (entering_made _ _ _ _ _ _ _ c.blocks-2.invariant.0 c.blocks-2-test.true _ c.chunk_from.ensures _ c.in-At.is _ _ c.offset-at.ensures.0 c.wide-n.ensures.0 true (lowest_enters _ _ _ _ c.enters_lowest.ensures c.if-not-enters_lowest.false) refl) _ _ _ _ l.loop-k.invariant.1 c.loop-k-test.true _ c.comes.ensures c.if-not-comes.true _ c.wrong-seen.ensures
+    lowest_wrong _ _ _ _ _ _ _ _ (entering_made _ _ _ _ _ _ _ c.blocks-2.invariant.0 c.blocks-2-test.true _ c.chunk_from.ensures _ c.in-At.is _ _ c.offset-at.ensures.0 c.wide-n.ensures.0 true (lowest_enters _ _ _ _ c.enters_lowest.ensures c.if-not-enters_lowest.false) refl) _ _ _ _ c.loop-k.invariant.1 c.loop-k-test.true _ c.comes.ensures c.if-not-comes.true _ c.wrong-seen.ensures
