@@ -15,7 +15,7 @@ use levels::spots::scan;
 use levels::ways::way_down;
 use placement::Order;
 use placement::rows::write_node;
-use readings::calls::{Sought, is_key};
+use readings::calls::is_key;
 use readings::descent::{geometry_of, order_at, order_of};
 use sizes::hash::level_of;
 use sizes::header::{Header, field};
@@ -121,7 +121,7 @@ pub fn enter(table: &mut [u8], o: Order) -> u32
     if n != 0 {
         return n;
     }
-    let Sought::Nothing = order_of(table, q, o.key) else {
+    let None = order_of(table, q, o.key) else {
         return 13;
     };
     let held = field(table, Header::HELD_FIELD);
@@ -144,7 +144,7 @@ pub fn amend(table: &mut [u8], o: Order) -> u32
         return n;
     }
     let w = way_down(table, q, 0, o.key);
-    let Sought::Is(was) = order_at(table, q.sizes, w.at, o.key) else {
+    let Some(was) = order_at(table, q.sizes, w.at, o.key) else {
         return 9;
     };
     write_node(table, q.sizes, w.at, o);
@@ -202,7 +202,7 @@ pub fn cancel(table: &mut [u8], key: u32) -> u32
         return 5;
     }
     let q = geometry_of(table);
-    let Sought::Is(o) = order_of(table, q, key) else {
+    let Some(o) = order_of(table, q, key) else {
         return 9;
     };
     cancel_sure(table, q, o.key);

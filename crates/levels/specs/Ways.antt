@@ -1,5 +1,5 @@
 -- The way down to a key in bytes that are as long as a table, an image or not.
-use Rattle.std.specs.Prelude.{cond, List, [], ◌∷◌, ℕ, zero, suc, ◌+◌, ◌*◌, ◌-◌, ltb, leb, eqb, length, get_or}
+use Rattle.std.specs.Prelude.{cond, List, [], ◌∷◌, ℕ, zero, suc, ◌+◌, ◌*◌, ◌-◌, ltb, leb, eqb, length, get_or, Option, Some, None}
 use Rattle.std.proofs.lemmas.List.Edits.{sets}
 use Rattle.sizes.specs.Numbers.{big, field}
 use Rattle.sizes.specs.Sizes.{row}
@@ -7,8 +7,6 @@ use Rattle.sizes.specs.Header.{block_long}
 use Rattle.placement.specs.Labels.{label}
 use Rattle.placement.specs.Place.{search_in}
 use Rattle.sizes.specs.declared.Sizes.{Sizes}
-use Rattle.placement.specs.declared.Found.{Found}
-use Rattle.placement.specs.declared.Found.TheVariants.{At, Nothing}
 use Rattle.levels.specs.declared.Trail.{Trail}
 
 -- the way so far, and the output that the path is written to
@@ -47,13 +45,13 @@ reached_in s bs i y =
     cond (ltb s.nodes n) 0 (cond (ltb n s.nodes) (upto_in (row s) bs n a y) (passed_in (row s) bs n a y))
 
 -- .. of the chunk that a search found, and its block
-unfoldable pub found_upto : Sizes → List ℕ → (y : ℕ) → Found → ℕ
-found_upto s bs y (At i) = reached_in s bs i y
-found_upto s bs y Nothing = 0
+unfoldable pub found_upto : Sizes → List ℕ → (y : ℕ) → Option ℕ → ℕ
+found_upto s bs y (Some i) = reached_in s bs i y
+found_upto s bs y None = 0
 
-unfoldable pub found_block : Found → ℕ
-found_block (At i) = i
-found_block Nothing = 0
+unfoldable pub found_block : Option ℕ → ℕ
+found_block (Some i) = i
+found_block None = 0
 
 -- node n of block i, counted from 1
 unfoldable pub node_place : Sizes → (i n : ℕ) → ℕ

@@ -10,7 +10,7 @@ ghost use Rattle.levels.specs.Pour.{poured, Kept, Reads, Takes, Flushes, Puts, P
 use placement::edits::{insert, remove};
 use placement::labels::offset;
 use placement::search::{count_at, find};
-use placement::{Found, Label};
+use placement::Label;
 use sizes::Sizes;
 use sizes::header::{row, rows, used};
 use sizes::numbers::{bring, copy};
@@ -28,7 +28,7 @@ pub fn read(
     requires { Shaped s table.now × (16 * (n + s.nodes) ≤ length carry.old) × (length carry.old ≤ 1040) }
     ensures { (length carry.new ≡ length carry.old) × (result ≤ n + s.nodes) × Reads s (label level first number) n table.now carry.old carry.new result }
 {
-    let Found::At(i) = find(
+    let Some(i) = find(
         table,
         s,
         Label {

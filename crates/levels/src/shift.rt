@@ -8,7 +8,7 @@ ghost use Rattle.levels.specs.Shift.{shifted, Stores, Renews, Shifts};
 use crate::pour::{advance, read, write_some};
 use placement::edits::{pull_back, write_block};
 use placement::search::find;
-use placement::{Found, Label};
+use placement::Label;
 use sizes::Sizes;
 
 // The first n of some nodes are a chunk: over the one that is there, or in its place among the others; none where n is 0.
@@ -21,7 +21,7 @@ pub fn store(table: &mut [u8], s: Sizes, level: u32, first: u32, number: u32, n:
         first: first,
         number: number,
     };
-    let Found::At(i) = find(table, s, label) else {
+    let Some(i) = find(table, s, label) else {
         write_some(table, s, level, first, number, n, nodes);
         return;
     };

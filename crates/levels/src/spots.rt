@@ -12,7 +12,7 @@ use crate::Spot;
 use crate::ways::key_at;
 use placement::labels::offset;
 use placement::search::{count_at, find_high};
-use placement::{Found, Label};
+use placement::Label;
 use sizes::Geometry;
 use sizes::hash::hash;
 use sizes::header::row;
@@ -52,7 +52,7 @@ fn pass_nodes(table: &[u8], w: usize, at: usize, n: u32, y: u32, x: Spot) -> Spo
 }
 
 // A chunk's block, by the hash g of the first key.
-fn chunk(table: &[u8], q: Geometry, g: u32, level: u32, first: u32, number: u32) -> Found
+fn chunk(table: &[u8], q: Geometry, g: u32, level: u32, first: u32, number: u32) -> Option<u32>
     requires { Shaped q.sizes table.now × Reckoned q × (g ≡ hash_from 5 5 q.sizes.seed first) × (level ≤ q.top) × (number ≤ 65535) }
     ensures { result ≡ search_in q.sizes table.now (label level first number) }
 {
@@ -83,7 +83,7 @@ pub fn scan(table: &[u8], q: Geometry, level: u32, first: u32, y: u32) -> Spot
     };
     let mut number: u32 = 0;
     while number < s.blocks {
-        let Found::At(i) = chunk(table, q, g, level, first, number) else {
+        let Some(i) = chunk(table, q, g, level, first, number) else {
             return spot;
         };
         let n = count_at(table, s, i);

@@ -11,7 +11,7 @@ ghost use Rattle.levels.specs.Ways.{starting, trek, number_in, upto_in, passed_i
 use crate::Trail;
 use placement::labels::{home_over, offset};
 use placement::search::{behind, count_at, find_past};
-use placement::{Found, Label};
+use placement::Label;
 use sizes::hash::hash;
 use sizes::header::{row, rows, used};
 use sizes::numbers::{be4, put2};
@@ -114,7 +114,7 @@ fn along(table: &[u8], q: Geometry, g: u32, level: u32, y: u32, t: Trail, path: 
     };
     let mut start = home_over(s, q.round, g, want);
     while want.number < s.blocks {
-        let Found::At(i) = find_past(table, s, start, want) else {
+        let Some(i) = find_past(table, s, start, want) else {
             return w;
         };
         let n = reached(table, s, i, y);

@@ -1,5 +1,5 @@
 -- What placement promises the layer above: a table told as a map from labels to nodes, [] for a label that is absent, and the bytes that keep one.
-use Rattle.std.specs.Prelude.{◌≡◌, ℕ, ◌-◌, ◌^◌, ◌<◌, ◌≤◌, true, ◌≢◌, List, [], ◌++◌, length}
+use Rattle.std.specs.Prelude.{◌≡◌, ℕ, ◌-◌, ◌^◌, ◌<◌, ◌≤◌, true, ◌≢◌, List, [], ◌++◌, length, Option, Some, None}
 use Rattle.placement.specs.Blocks.{Block, holds}
 use Rattle.sizes.specs.Numbers.{Each}
 use Rattle.placement.specs.Kinds.{Kind}
@@ -12,8 +12,6 @@ use Rattle.sizes.specs.Parts.{block_in}
 use Rattle.sizes.specs.declared.Sizes.{Sizes}
 use Rattle.placement.specs.declared.Order.{Order}
 use Rattle.placement.specs.declared.Label.{Label}
-use Rattle.placement.specs.declared.Found.{Found}
-use Rattle.placement.specs.declared.Found.TheVariants.{At, Nothing}
 
 -- THE TABLE'S CHUNKS: labels of level, first key and chunk number, and rows that are orders. A map takes the three parts of a label
 abbrev pub Map : Type 0
@@ -93,6 +91,6 @@ pub record Table (s : Sizes) (F : Map) (n : ℕ) (hd bs : List ℕ) : Type 0 whe
   pub keeps : Keeps s blocks F n
 
 -- WHAT A SEARCH FINDS: the block with the label and its nodes, or nothing where the map has nothing
-pub data Finds (s : Sizes) (F : Map) (w : Label) (bs : List ℕ) : Found → Type 0 where
-  is_at : {i : ℕ} → i < s.blocks → nodes_of F w ≢ [] → block_in (block_long s) bs i ≡ block_bytes s (holds (labelled w (nodes_of F w))) → Finds s F w bs (At i)
-  is_none : nodes_of F w ≡ [] → Finds s F w bs Nothing
+pub data Finds (s : Sizes) (F : Map) (w : Label) (bs : List ℕ) : Option ℕ → Type 0 where
+  is_at : {i : ℕ} → i < s.blocks → nodes_of F w ≢ [] → block_in (block_long s) bs i ≡ block_bytes s (holds (labelled w (nodes_of F w))) → Finds s F w bs (Some i)
+  is_none : nodes_of F w ≡ [] → Finds s F w bs None

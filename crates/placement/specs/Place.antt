@@ -1,5 +1,5 @@
 -- Labels in the bytes of a table: the search for one, the removal and the insertion of a chunk. Document 01, "When bytes are an image".
-use Rattle.std.specs.Prelude.{◌≡◌, ℕ, zero, suc, ◌+◌, ◌-◌, ◌*◌, ◌%◌, ◌^◌, ◌<◌, ◌≤◌, Bool, true, false, cond, not, ◌&&◌, ◌||◌, List, ◌∷◌, ◌++◌, length, replicate, ◌==◌, ◌≢◌, nat_le, nat_lt, slice_index}
+use Rattle.std.specs.Prelude.{◌≡◌, ℕ, zero, suc, ◌+◌, ◌-◌, ◌*◌, ◌%◌, ◌^◌, ◌<◌, ◌≤◌, Bool, true, false, cond, not, ◌&&◌, ◌||◌, List, ◌∷◌, ◌++◌, length, replicate, ◌==◌, ◌≢◌, nat_le, nat_lt, slice_index, Option, Some, None}
 use Rattle.sizes.specs.Numbers.{field, big}
 use Rattle.sizes.specs.Sizes.{prime, row, seed_good}
 use Rattle.sizes.specs.Hash.{g}
@@ -11,8 +11,6 @@ use Rattle.placement.specs.declared.Label.{Label}
 use Rattle.placement.specs.declared.Ahead.{Ahead}
 use Rattle.placement.specs.declared.Met.{Met}
 use Rattle.placement.specs.declared.Met.TheVariants.{Past, Here, Other}
-use Rattle.placement.specs.declared.Found.{Found}
-use Rattle.placement.specs.declared.Found.TheVariants.{At, Nothing}
 
 -- the bytes are as long as those of a table of sizes s, and the sizes and seed are small enough to compute with
 pub record Shaped (s : Sizes) (bs : List ℕ) : Type 0 where
@@ -41,17 +39,17 @@ unfoldable pub meeting : (before : Label → Label → Bool) → Label → Label
 meeting before l w = met (passes_label before l w) (same_label l w)
 
 -- THE SEARCH over the labels of blocks, from block i % m on
-unfoldable pub probe : (before : Label → Label → Bool) → (look : ℕ → Label) → (m : ℕ) → (want : Label) → (fuel i : ℕ) → Found
-probe before look m w zero i = Nothing
+unfoldable pub probe : (before : Label → Label → Bool) → (look : ℕ → Label) → (m : ℕ) → (want : Label) → (fuel i : ℕ) → Option ℕ
+probe before look m w zero i = None
 probe before look m w (suc k) i =
-    cond (passes_label before (look (i % m)) w) (probe before look m w k (suc i)) (cond (same_label (look (i % m)) w) (At (i % m)) Nothing)
+    cond (passes_label before (look (i % m)) w) (probe before look m w k (suc i)) (cond (same_label (look (i % m)) w) (Some (i % m)) None)
 
 -- which levels `a` tells to come before level l: v is one if, less `from` and counted round, it is below `many`
 pub record Leading (s : Sizes) (l : ℕ) (a : Ahead) : Type 0 where
   pub told : (v d : ℕ) → v < 256 → (v ≢ l) → d < 2 ^ 32 → (d + a.from) % 2 ^ 32 ≡ v → nat_lt d a.many ≡ (nat_lt 0 v && level_before s v l)
 
 -- the search for a label in the bytes of a table
-unfoldable pub search_in : Sizes → List ℕ → Label → Found
+unfoldable pub search_in : Sizes → List ℕ → Label → Option ℕ
 search_in s bs w = probe (before s) (label_in (block_long s) bs) s.blocks w s.blocks (home s w)
 
 -- .. may start at block a: round the whole table from there, it comes to what it comes to from home
@@ -113,18 +111,18 @@ settle st before m (suc k) e i x =
     settle st before m k e (suc i) (cond (before (st.look x e) (st.look x (i % m))) (st.swap x (i % m) e) x)
 
 -- what a search found: a block, and the table without the chunk that stands there
-unfoldable pub found_at : Found → Bool
-found_at (At i) = true
-found_at Nothing = false
+unfoldable pub found_at : Option ℕ → Bool
+found_at (Some i) = true
+found_at None = false
 
-unfoldable pub taken_out : Sizes → Found → List ℕ → List ℕ
-taken_out s (At i) bs = pull (bytes (block_long s)) (home s) s.blocks (s.blocks - 1) i (i + 1) bs
-taken_out s Nothing bs = bs
+unfoldable pub taken_out : Sizes → Option ℕ → List ℕ → List ℕ
+taken_out s (Some i) bs = pull (bytes (block_long s)) (home s) s.blocks (s.blocks - 1) i (i + 1) bs
+taken_out s None bs = bs
 
 -- the first empty block from block i % m on
-unfoldable pub free_in : (look : ℕ → Label) → (m : ℕ) → (fuel i : ℕ) → Found
-free_in look m zero i = Nothing
-free_in look m (suc k) i = cond ((look (i % m)).level == 0) (At (i % m)) (free_in look m k (suc i))
+unfoldable pub free_in : (look : ℕ → Label) → (m : ℕ) → (fuel i : ℕ) → Option ℕ
+free_in look m zero i = None
+free_in look m (suc k) i = cond ((look (i % m)).level == 0) (Some (i % m)) (free_in look m k (suc i))
 
 -- the bytes of a block: a label, n nodes whose bytes are given, and zeros up to w
 unfoldable pub head_bytes : Label → (n : ℕ) → List ℕ
@@ -134,7 +132,7 @@ unfoldable pub block_with : (w : ℕ) → Label → (n : ℕ) → (nodes : List 
 block_with w l n xs = head_bytes l n ++ xs ++ replicate (w - 8 - length xs) 0
 
 -- a new chunk: it goes to the empty block, and from there to its place
-unfoldable pub inserted : Sizes → Found → Label → (n : ℕ) → (nodes : List ℕ) → List ℕ → List ℕ
-inserted s (At e) l n xs bs =
+unfoldable pub inserted : Sizes → Option ℕ → Label → (n : ℕ) → (nodes : List ℕ) → List ℕ → List ℕ
+inserted s (Some e) l n xs bs =
     settle (bytes (block_long s)) (before s) s.blocks (distance_of s.blocks (home s l) e) e (home s l) (put_block (block_long s) bs e (block_with (block_long s) l n xs))
-inserted s Nothing l n xs bs = bs
+inserted s None l n xs bs = bs

@@ -9,7 +9,7 @@ ghost use Rattle.placement.specs.Place.{Shaped, label_in, search_in, distance_of
 
 use crate::labels::{before, home, label_at, offset};
 use crate::search::{find, free};
-use crate::{Found, Label};
+use crate::Label;
 use sizes::Sizes;
 use sizes::header::{block_length, used};
 use sizes::numbers::{bring, copy, exchange, fill, put2, put4};
@@ -102,7 +102,7 @@ pub fn remove(table: &mut [u8], s: Sizes, want: Label) -> bool
     requires { Shaped s table.old }
     ensures { (result ≡ found_at (search_in s table.old want)) × (table.new ≡ taken_out s (search_in s table.old want) table.old) }
 {
-    let Found::At(i) = find(table, s, want) else {
+    let Some(i) = find(table, s, want) else {
         return false;
     };
     pull_back(table, s, i);
@@ -158,15 +158,15 @@ pub fn write_block(table: &mut [u8], s: Sizes, e: u32, l: Label, n: u32, nodes: 
 
 // A new chunk with a label and n nodes, in its place; nothing where no block is empty.
 #[tactic(auto, using(crate::proofs::Laws::Loops::free_at))]
-pub fn insert(table: &mut [u8], s: Sizes, l: Label, n: u32, nodes: &[u8], start: usize) -> Found
+pub fn insert(table: &mut [u8], s: Sizes, l: Label, n: u32, nodes: &[u8], start: usize) -> Option<u32>
     requires { Shaped s table.old × (l.level < 256) × (n ≤ s.nodes) × (start + row s * n ≤ length nodes.now) }
     ensures { (result ≡ free_in (label_in (block_long s) table.old) s.blocks s.blocks (home s l)) × (table.new ≡ inserted s result l n (take (row s * n) (drop start nodes.now)) table.old) }
 {
     let first = home(s, l);
-    let Found::At(e) = free(table, s, first) else {
-        return Found::Nothing;
+    let Some(e) = free(table, s, first) else {
+        return None;
     };
     write_block(table, s, e, l, n, nodes, start);
     settle_in(table, s, e, first, distance(s.blocks, first, e));
-    Found::At(e)
+    Some(e)
 }

@@ -40,9 +40,3 @@ pub enum Met {
     Other,
 }
 
-// A block, or none.
-#[derive(Clone, Copy)]
-pub enum Found {
-    At(u32),
-    Nothing,
-}

@@ -7,7 +7,7 @@ ghost use Rattle.placement.specs.Labels.{before, home};
 ghost use Rattle.placement.specs.Place.{Shaped, label_in, probe, GoesOn, is_lower, four_lower, search_in, behind, free_in};
 
 use crate::labels::{ahead, home, home_over, label_at, meets, offset};
-use crate::{Found, Label, Met};
+use crate::{Label, Met};
 use sizes::Sizes;
 
 // Block i of m, going round: behind the last comes the first.
@@ -22,7 +22,7 @@ fn around(i: u32, m: u32) -> u32
 }
 
 // The search for a label from a block on, going round: to the first block that is empty or has that label or a larger one, over so many blocks at most.
-pub fn find_from(table: &[u8], s: Sizes, start: u32, most: u32, want: Label) -> Found
+pub fn find_from(table: &[u8], s: Sizes, start: u32, most: u32, want: Label) -> Option<u32>
     requires { Shaped s table.now × (start < s.blocks) }
     ensures { result ≡ probe (before s) (label_in (block_long s) table.now) s.blocks want most start }
 {
@@ -31,14 +31,14 @@ pub fn find_from(table: &[u8], s: Sizes, start: u32, most: u32, want: Label) -> 
     let mut left = most;
     let found = loop {
         if left == 0 {
-            break Found::Nothing;
+            break None;
         }
         let met = meets(table, s, i, a, want);
         if let Met::Here = met {
-            break Found::At(i);
+            break Some(i);
         }
         if let Met::Other = met {
-            break Found::Nothing;
+            break None;
         }
         i = around(i + 1, s.blocks);
         left -= 1;
@@ -111,7 +111,7 @@ fn passed(table: &[u8], s: Sizes, start: u32, want: Label) -> u32
 
 // The search for a label from a block on, once around at most, on a way down, where most labels are of high levels. In version 1 such a chunk may stand far
 // behind its home, and all chunks of lower levels in between are passed first; else it is among the first to have its home.
-pub fn find_past(table: &[u8], s: Sizes, start: u32, want: Label) -> Found
+pub fn find_past(table: &[u8], s: Sizes, start: u32, want: Label) -> Option<u32>
     requires { Shaped s table.now × (start < s.blocks) }
     ensures { result ≡ probe (before s) (label_in (block_long s) table.now) s.blocks want s.blocks start }
 {
@@ -120,7 +120,7 @@ pub fn find_past(table: &[u8], s: Sizes, start: u32, want: Label) -> Found
 }
 
 // The block with a label, or nothing: from home on, once around at most.
-pub fn find(table: &[u8], s: Sizes, want: Label) -> Found
+pub fn find(table: &[u8], s: Sizes, want: Label) -> Option<u32>
     requires { Shaped s table.now }
     ensures { result ≡ search_in s table.now want }
 {
@@ -128,7 +128,7 @@ pub fn find(table: &[u8], s: Sizes, want: Label) -> Found
 }
 
 // The same from the hash g of the first key, without a division: `round` is 2^32 over the number of blocks, rounded up.
-pub fn find_over(table: &[u8], s: Sizes, round: u64, g: u32, want: Label) -> Found
+pub fn find_over(table: &[u8], s: Sizes, round: u64, g: u32, want: Label) -> Option<u32>
     requires { Shaped s table.now × (round ≡ over s.blocks) × (g ≡ hash_from 5 5 s.seed want.first) × (want.level ≤ 19) × (want.number ≤ 65535) }
     ensures { result ≡ search_in s table.now want }
 {
@@ -136,7 +136,7 @@ pub fn find_over(table: &[u8], s: Sizes, round: u64, g: u32, want: Label) -> Fou
 }
 
 // The same on a way down.
-pub fn find_high(table: &[u8], s: Sizes, round: u64, g: u32, want: Label) -> Found
+pub fn find_high(table: &[u8], s: Sizes, round: u64, g: u32, want: Label) -> Option<u32>
     requires { Shaped s table.now × (round ≡ over s.blocks) × (g ≡ hash_from 5 5 s.seed want.first) × (want.level ≤ 19) × (want.number ≤ 65535) }
     ensures { result ≡ search_in s table.now want }
 {
@@ -164,7 +164,7 @@ pub fn ends_at_once(table: &[u8], s: Sizes, round: u64, g: u32, want: Label) -> 
 }
 
 // The first empty block from one on, going round.
-pub fn free(table: &[u8], s: Sizes, start: u32) -> Found
+pub fn free(table: &[u8], s: Sizes, start: u32) -> Option<u32>
     requires { Shaped s table.now × (start < s.blocks) }
     ensures { result ≡ free_in (label_in (block_long s) table.now) s.blocks s.blocks start }
 {
@@ -172,12 +172,12 @@ pub fn free(table: &[u8], s: Sizes, start: u32) -> Found
     let mut k: u32 = 0;
     let found = loop {
         if m <= k {
-            break Found::Nothing;
+            break None;
         }
         let i = (start + k) % m;
         let l = label_at(table, s, i);
         if l.level == 0 {
-            break Found::At(i);
+            break Some(i);
         }
         k += 1;
     };

@@ -1,6 +1,6 @@
 -- What a visit does with the orders that come by, one after the other by rising keys: it counts those in lo..hi, writes their rows,
 -- or stops at the first that has a reserve.
-use Rattle.std.specs.Prelude.{◌≡◌, Bool, true, false, ◌&&◌, cond, List, [], ◌∷◌, ◌++◌, map, ℕ, zero, suc, ◌+◌, ◌*◌, ◌-◌, ◌≤◌, ◌<◌, ltb, leb, length}
+use Rattle.std.specs.Prelude.{◌≡◌, Bool, true, false, ◌&&◌, cond, List, [], ◌∷◌, ◌++◌, map, ℕ, zero, suc, ◌+◌, ◌*◌, ◌-◌, ◌≤◌, ◌<◌, ltb, leb, length, Option, Some, None}
 use Rattle.std.proofs.lemmas.List.Edits.{sets}
 use Rattle.sizes.specs.Numbers.{field}
 use Rattle.sizes.specs.Sizes.{made}
@@ -14,8 +14,6 @@ use Rattle.skiplist.specs.Questions.{reserve}
 use Rattle.skiplist.specs.Parts.{each, spread}
 use Rattle.levels.specs.Ways.{upto_in}
 use Rattle.readings.specs.declared.Visit.{Visit}
-use Rattle.readings.specs.declared.calls.Sought.{Sought}
-use Rattle.readings.specs.declared.calls.Sought.TheVariants.{Is, Nothing}
 
 -- a visit under way, the bytes of a row, and the output
 pub record Scan : Type 0 where
@@ -113,6 +111,6 @@ unfoldable pub all_under : Sizes → List ℕ → (level : ℕ) → List Order �
 all_under s bs l ns = each (spread s (orders_in bs) l) ns
 
 -- THE FIRST of some orders, if there is one
-unfoldable pub first_of : List Order → Sought
-first_of [] = Nothing
-first_of (o ∷ os) = Is o
+unfoldable pub first_of : List Order → Option Order
+first_of [] = None
+first_of (o ∷ os) = Some o

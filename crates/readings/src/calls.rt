@@ -116,15 +116,8 @@ fn range(table: &[u8], lo: u32, hi: u32) -> u32
     0
 }
 
-// What a search for an order finds.
-#[derive(Clone, Copy)]
-pub enum Sought {
-    Is(Order),
-    Nothing,
-}
-
 // The first order in lo..hi that has the reserve: a visit goes by rising keys, so it has the smallest.
-pub fn first_with(table: &[u8], lo: u32, hi: u32, least: u32) -> Sought
+pub fn first_with(table: &[u8], lo: u32, hi: u32, least: u32) -> Option<Order>
     requires { (is_image table.now ≡ true) × (1 ≤ lo) × (lo ≤ hi) }
     ensures { result ≡ first_of (enough least (between lo hi (orders_in table.now))) }
 {
@@ -132,9 +125,9 @@ pub fn first_with(table: &[u8], lo: u32, hi: u32, least: u32) -> Sought
     let h = Header::read(table);
     let v = visit_all(table, h.sizes, lo, hi, least, false, true, &mut none);
     if v.found == 0 {
-        return Sought::Nothing;
+        return None;
     }
-    Sought::Is(Order {
+    Some(Order {
         key: v.key,
         total: v.total,
         displayed: v.displayed,
@@ -152,7 +145,7 @@ pub fn lookup(table: &[u8], key: u32) -> Reply
     if !is_key(key) {
         return refused(5, 0);
     }
-    let Sought::Is(o) = order_of(table, geometry_of(table), key) else {
+    let Some(o) = order_of(table, geometry_of(table), key) else {
         return refused(9, 0);
     };
     answered(o, 0)
@@ -190,7 +183,7 @@ pub fn seek(table: &[u8], lo: u32, hi: u32, reserve: u32) -> Reply
     if n != 0 {
         return refused(n, 0);
     }
-    let Sought::Is(o) = first_with(table, lo, hi, reserve) else {
+    let Some(o) = first_with(table, lo, hi, reserve) else {
         return refused(12, 0);
     };
     answered(o, 0)

@@ -10,7 +10,7 @@ ghost use Rattle.table.specs.Calls.{DescentSays};
 ghost use Rattle.readings.specs.Visit.{Known, first_of};
 ghost use Rattle.readings.specs.Descent.{way, landed, Written};
 
-use crate::calls::{Sought, answered, is_key, refused};
+use crate::calls::{answered, is_key, refused};
 use levels::ways::{descend, way_down};
 use placement::rows::node_of;
 use sizes::hash::reckon;
@@ -29,22 +29,22 @@ pub fn geometry_of(table: &[u8]) -> Geometry
 }
 
 // The order at the place where a way has ended, if it has the key.
-pub fn order_at(table: &[u8], s: Sizes, at: usize, key: u32) -> Sought
+pub fn order_at(table: &[u8], s: Sizes, at: usize, key: u32) -> Option<Order>
     requires { at + row s ≤ length table.now }
     ensures { result ≡ landed (row s) table.now at key }
 {
     if at == 0 {
-        return Sought::Nothing;
+        return None;
     }
     let o = node_of(table, s, at);
     if o.key != key {
-        return Sought::Nothing;
+        return None;
     }
-    Sought::Is(o)
+    Some(o)
 }
 
 // The order with a key.
-pub fn order_of(table: &[u8], q: Geometry, key: u32) -> Sought
+pub fn order_of(table: &[u8], q: Geometry, key: u32) -> Option<Order>
     requires { Known q.sizes table.now × Reckoned q × (1 ≤ key) }
     ensures { result ≡ first_of (between key key (orders_in table.now)) }
 {
@@ -86,7 +86,7 @@ pub fn descent(table: &[u8], key: u32, path: &mut [u8]) -> Reply
         return refused(11, 0);
     }
     write_path(table, q, key, t.count, &short, path);
-    let Sought::Is(o) = order_at(table, q.sizes, t.at, key) else {
+    let Some(o) = order_at(table, q.sizes, t.at, key) else {
         return refused(9, t.count);
     };
     answered(o, t.count)

@@ -9,7 +9,7 @@ ghost use Rattle.readings.specs.Visit.{most_rows, scan, next_found, more_found, 
 use crate::Visit;
 use levels::ways::{key_at, upto};
 use placement::rows::{node_of, write_node};
-use placement::{Found, Label, Order};
+use placement::{Label, Order};
 use sizes::Sizes;
 use sizes::header::{row, rows};
 
@@ -208,7 +208,7 @@ pub fn visit_partition(
         if w.ended {
             return w;
         }
-        let Found::At(i) = placement::search::find(
+        let Some(i) = placement::search::find(
             table,
             s,
             Label {

@@ -1,6 +1,6 @@
 -- What the walk of a check gives, over the bytes of a table. These are the steps that the code takes; that they decide whether the bytes are
 -- an image is proved in proofs/.
-use Rattle.std.specs.Prelude.{Bool, true, false, ◌&&◌, not, cond, List, ℕ, zero, suc, ◌+◌, ◌*◌, ◌-◌, ◌≤◌, ltb, leb, eqb, get_or}
+use Rattle.std.specs.Prelude.{Bool, true, false, ◌&&◌, not, cond, List, ℕ, zero, suc, ◌+◌, ◌*◌, ◌-◌, ◌≤◌, ltb, leb, eqb, get_or, Option, Some, None}
 use Rattle.sizes.specs.Sizes.{prime, row}
 use Rattle.sizes.specs.Hash.{level}
 use Rattle.sizes.specs.Header.{block_long}
@@ -10,8 +10,6 @@ use Rattle.placement.specs.Place.{Shaped, label_in, search_in, found_at}
 use Rattle.sizes.specs.declared.Sizes.{Sizes}
 use Rattle.placement.specs.declared.Order.{Order}
 use Rattle.skiplist.specs.Image.{price_good}
-use Rattle.placement.specs.declared.Found.{Found}
-use Rattle.placement.specs.declared.Found.TheVariants.{At, Nothing}
 use Rattle.table.specs.declared.Seen.{Seen}
 
 -- bytes that can be walked
@@ -87,11 +85,11 @@ unfoldable pub passed_seen : (n low : ℕ) → Seen → Seen
 passed_seen n y x = record { ok = true; low = y; orders = x.orders - n; chunks = x.chunks - 1 }
 
 -- THE CHUNKS of a partition, from a number on
-unfoldable pub spot : Found → ℕ
-spot (At i) = i
-spot Nothing = 0
+unfoldable pub spot : Option ℕ → ℕ
+spot (Some i) = i
+spot None = 0
 
-unfoldable pub chunk_spot : Sizes → List ℕ → (level first number : ℕ) → Found
+unfoldable pub chunk_spot : Sizes → List ℕ → (level first number : ℕ) → Option ℕ
 chunk_spot s bs l f i = search_in s bs (record { level = l; first = f; number = i })
 
 -- the search for a partition's first chunk starts at an empty block

@@ -10,7 +10,7 @@ ghost use Rattle.table.specs.Walk.{Walkable, wrong_seen, nothing_in, quantities_
 
 use crate::Seen;
 use placement::rows::node_of;
-use placement::{Found, Label, Order};
+use placement::{Label, Order};
 use sizes::header::row;
 use sizes::numbers::be4;
 use sizes::{Geometry, PRIME, Sizes};
@@ -209,7 +209,7 @@ fn passed(n: u32, low: u32, x: Seen) -> Seen
 }
 
 // The block of a chunk; `g` is the hash g of its first key.
-fn chunk(table: &[u8], q: Geometry, level: u32, first: u32, g: u32, number: u32) -> Found
+fn chunk(table: &[u8], q: Geometry, level: u32, first: u32, g: u32, number: u32) -> Option<u32>
     requires { Walkable q.sizes table.now × Reckoned q × (level ≤ 19) × (g ≡ hash_from 5 5 q.sizes.seed first) × (number ≤ 65535) }
     ensures { result ≡ chunk_spot q.sizes table.now level first number }
 {
@@ -227,7 +227,7 @@ fn chunk(table: &[u8], q: Geometry, level: u32, first: u32, g: u32, number: u32)
 }
 
 // The block of a chunk of level 1, where the search for it may start at another block than its home.
-fn chunk_from(table: &[u8], s: Sizes, start: u32, first: u32, number: u32) -> Found
+fn chunk_from(table: &[u8], s: Sizes, start: u32, first: u32, number: u32) -> Option<u32>
     requires { Walkable s table.now × Starts s table.now (label 1 first number) start }
     ensures { result ≡ chunk_spot s table.now 1 first number }
 {
@@ -307,7 +307,7 @@ fn walk_lowest(table: &[u8], q: Geometry, first: u32, g: u32, x: Seen) -> Seen
     let mut number: u32 = 0;
     let mut start = starts(q, first, g);
     'blocks: while number < q.sizes.blocks {
-        let Found::At(i) = chunk_from(table, q.sizes, start, first, number) else {
+        let Some(i) = chunk_from(table, q.sizes, start, first, number) else {
             return ended(number, seen);
         };
         let at = placement::labels::offset(q.sizes, i);
@@ -351,7 +351,7 @@ pub fn walk_partition(table: &[u8], q: Geometry, level: u32, first: u32, g: u32,
     let mut seen = x;
     let mut number: u32 = 0;
     while number < q.sizes.blocks {
-        let Found::At(i) = chunk(table, q, level, first, g, number) else {
+        let Some(i) = chunk(table, q, level, first, g, number) else {
             return ended(number, seen);
         };
         let at = placement::labels::offset(q.sizes, i);

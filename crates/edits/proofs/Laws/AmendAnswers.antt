@@ -1,4 +1,5 @@
 -- An amend's last question, 9, and what it leaves.
+use Rattle.std.proofs.Common.{Option, Some, None}
 use mathlib.Core.Path.{◌≡◌, refl, sym, ap, ◌∙◌, subst}
 use mathlib.Core.Bool.{true}
 use mathlib.Core.List.{List, ◌∷◌, ◌++◌}
@@ -23,8 +24,6 @@ use Rattle.levels.specs.declared.Trail.{Trail}
 use Rattle.levels.specs.Ways.{way_down}
 use Rattle.readings.specs.Visit.{Known, first_of}
 use Rattle.readings.specs.Descent.{landed}
-use Rattle.readings.specs.declared.calls.Sought.{Sought}
-use Rattle.readings.specs.declared.calls.Sought.TheVariants.{Is, Nothing}
 use Rattle.readings.proofs.Laws.Answers.{known_at}
 use Rattle.readings.proofs.Laws.Replies.{key_least, sought_absent, sought_there}
 use Rattle.readings.proofs.Laws.Descents.{order_alone}
@@ -34,7 +33,7 @@ use Rattle.edits.proofs.Laws.Helds.{held_done}
 
 -- the way down to the key has ended at a place, and r is the order there if it has the key
 module _ (bs : List ℕ) (new : Order) (q : Geometry) (p : Sure bs q.sizes new) (rk : Reckoned q) (x : Trail) (ex : x ≡ way_down q.sizes bs q.top 0 new.key)
-    (r : Sought) (er : r ≡ landed (row q.sizes) bs x.at new.key) where
+    (r : Option Order) (er : r ≡ landed (row q.sizes) bs x.at new.key) where
   abbrev s : Sizes
   s = q.sizes
 
@@ -53,11 +52,11 @@ module _ (bs : List ℕ) (new : Order) (q : Geometry) (p : Sure bs q.sizes new) 
   sought : r ≡ first_of (between k k os)
   sought = order_alone s bs w k (key_least k (is_key k) refl p.key) q refl rk x ex r er
 
-  pub amend_no_9 : r ≡ Nothing → AmendSays new.key new.total new.displayed new.price 9 bs bs
+  pub amend_no_9 : r ≡ None → AmendSays new.key new.total new.displayed new.price 9 bs bs
   unfolding AmendSays refusal asks first_no asks_image asks_amend asks_order
   amend_no_9 z = refused amending 9 bs (rw (p.image, ← p.sizes_are, p.price, p.key, p.quantities, sought_absent k os r sought z)) (λ y. omega arith)
 
-  module _ (y : Order) (z : r ≡ Is y) where
+  module _ (y : Order) (z : r ≡ Some y) where
     there : held k os ≡ true
     there = (sought_there k os r sought y z).0
 

@@ -1,4 +1,5 @@
 -- A cancel's questions, 4, 5 and 9, and what it leaves. The order that was found has the key that was asked for.
+use Rattle.std.proofs.Common.{Option, Some}
 use mathlib.Core.Path.{◌≡◌, sym, ap, ◌∙◌, subst}
 use mathlib.Core.Bool.{Bool, true, false}
 use mathlib.Core.List.{List, ◌∷◌, ◌++◌}
@@ -19,15 +20,13 @@ use Rattle.skiplist.proofs.Laws.Edits.{level_most}
 use Rattle.table.specs.Calls.{CancelSays}
 use Rattle.levels.specs.Edit.{Leads}
 use Rattle.readings.specs.Visit.{first_of}
-use Rattle.readings.specs.declared.calls.Sought.{Sought}
-use Rattle.readings.specs.declared.calls.Sought.TheVariants.{Is}
 use Rattle.readings.proofs.Laws.Answers.{known_image, known_at}
 use Rattle.readings.proofs.Laws.Replies.{sought_there, sought_key}
 use Rattle.edits.specs.Change.{Setting, CancelHeld}
 use Rattle.edits.proofs.Laws.Settings.{held_way}
 use Rattle.edits.proofs.Laws.EditAnswers.{refused_4, refused, accepted, image_held, HeldAt, held_at}
 
-module _ (k : ℕ) (os : List Order) (q : Sought) (e : q ≡ first_of (between k k os)) (o : Order) (z : q ≡ Is o) where
+module _ (k : ℕ) (os : List Order) (q : Option Order) (e : q ≡ first_of (between k k os)) (o : Order) (z : q ≡ Some o) where
   pub seen_held : held o.key os ≡ true
   seen_held = ap (λ (i : ℕ). held i os) (sought_key k os q e o z) ∙ (sought_there k os q e o z).0
 

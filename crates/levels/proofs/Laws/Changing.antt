@@ -1,4 +1,5 @@
 -- One node changed in place.
+use Rattle.std.proofs.Common.{Some}
 use mathlib.Core.Path.{◌≡◌, refl, sym, ap, ◌∙◌}
 use mathlib.Core.List.{List, [], ◌∷◌, ◌++◌, append_assoc}
 use Prim.Native.Nat.{ℕ, zero, suc, ◌+◌, ◌*◌, ◌-◌, ◌/◌, ◌%◌, ◌≤◌, ◌<◌}
@@ -17,7 +18,6 @@ use Rattle.placement.specs.Place.{block_with, head_bytes}
 use Rattle.placement.specs.Maps.{Map, Table, Fine, with_nodes}
 use Rattle.sizes.specs.declared.Sizes.{Sizes}
 use Rattle.placement.specs.declared.Order.{Order}
-use Rattle.placement.specs.declared.Found.TheVariants.{At}
 use Rattle.sizes.proofs.Laws.Parts.{take_sets, drop_sets_add}
 use Rattle.sizes.proofs.Laws.Sizes.{row_least}
 use Rattle.sizes.proofs.Laws.HeaderLoops.{row_room}
@@ -180,4 +180,4 @@ module _ (s : Sizes) (f m : ℕ) (o : Order) (bs : List ℕ) (two : 2 ≤ s.node
 
   pub replace_at : Replaces s f m o bs bs₂
   unfolding Replaces
-  replace_at F n hd ps y qs t fo em p = comes F n hd ps y qs t fo p (place F ps y qs em p) (some_found s F n hd bs t (label 1 f i) (omega arith) (At j) (sym w.found) j refl)
+  replace_at F n hd ps y qs t fo em p = comes F n hd ps y qs t fo p (place F ps y qs em p) (some_found s F n hd bs t (label 1 f i) (omega arith) (Some j) (sym w.found) j refl)

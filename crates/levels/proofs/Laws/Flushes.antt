@@ -1,4 +1,5 @@
 -- A full chunk written from a carry.
+use Rattle.std.proofs.Common.{Option}
 use mathlib.Core.Path.{◌≡◌, refl, sym, ◌∙◌, subst}
 use mathlib.Core.Logic.{◌≢◌}
 use mathlib.Core.Bool.{true≢false}
@@ -15,7 +16,6 @@ use Rattle.placement.specs.Maps.{Map, Table, Fines, with_nodes}
 use Rattle.sizes.specs.declared.Sizes.{Sizes}
 use Rattle.placement.specs.declared.Order.{Order}
 use Rattle.placement.specs.declared.Label.{Label}
-use Rattle.placement.specs.declared.Found.{Found}
 use Rattle.placement.proofs.Laws.Tables.{insert_keeps}
 use Rattle.sizes.proofs.Laws.Sizes.{row_most, some_nodes}
 use Rattle.sizes.proofs.Laws.HeaderLoops.{rows_most}
@@ -63,7 +63,7 @@ module _ (s : Sizes) (w : Label) (n : ℕ) (bs cs : List ℕ) where
       let e : n ≡ 0 = omega arith in
       rw e (record { full = m; table = subst (λ (G : Map). Table s G m hd bs) (sym (with_none w F gone)) t; count = omega arith })
 
-  pub put_some : (bs' : List ℕ) (r : Found) → 0 < n → n ≤ s.nodes → r ≡ free_in (label_in (block_long s) bs) s.blocks s.blocks (home s w)
+  pub put_some : (bs' : List ℕ) (r : Option ℕ) → 0 < n → n ≤ s.nodes → r ≡ free_in (label_in (block_long s) bs) s.blocks s.blocks (home s w)
       → bs' ≡ inserted s r w n (take (row s * n) (drop 0 cs)) bs → Puts s w n bs bs' cs
   unfolding Puts
   put_some bs' r pos few er eb F m hd c t f k fine gone can =

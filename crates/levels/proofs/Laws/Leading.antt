@@ -1,4 +1,5 @@
 -- The way down in a table: the blocks that come on it, and the node where it ends.
+use Rattle.std.proofs.Common.{Option, Some, None}
 use mathlib.Core.Path.{◌≡◌, refl, sym, ap, ◌∙◌, subst}
 use mathlib.Core.Bool.{Bool, true, false, cond}
 use mathlib.Core.List.{List, [], ◌∷◌, ◌++◌, map}
@@ -21,8 +22,6 @@ use Rattle.placement.specs.Place.{search_in}
 use Rattle.placement.specs.Maps.{Map, Table}
 use Rattle.sizes.specs.declared.Sizes.{Sizes}
 use Rattle.placement.specs.declared.Order.{Order}
-use Rattle.placement.specs.declared.Found.{Found}
-use Rattle.placement.specs.declared.Found.TheVariants.{At, Nothing}
 use Rattle.sizes.proofs.Laws.Sizes.{some_nodes}
 use Rattle.placement.proofs.Laws.Cells.{cond_valid}
 use Rattle.placement.proofs.Laws.Reading.{node_at, key_of, nodes_read, node_read}
@@ -120,7 +119,7 @@ module _ (w : ℕ) (bs : List ℕ) (y : ℕ) (ps qs : List Order) (a : ℕ) (u :
 
 -- A CHUNK of a table
 module _ (s : Sizes) (F : Map) (n : ℕ) (hd bs : List ℕ) (t : Table s F n hd bs) (k f : ℕ) (pos : 0 < k) where
-  abbrev sought : (j : ℕ) → Found
+  abbrev sought : (j : ℕ) → Option ℕ
   sought j = search_in s bs (label k f j)
 
   module _ (j : ℕ) where
@@ -133,11 +132,11 @@ module _ (s : Sizes) (F : Map) (n : ℕ) (hd bs : List ℕ) (t : Table s F n hd 
             → node_of (row s) bs (53 + b * block_long s + 8 + row s * (length (F k f j) - 1)) ≡ node_at (F k f j) (length (F k f j) - 1)
         last b v p = node_read s bs b (label k f j) (F k f j) v.is v.held.fine (length (F k f j) - 1) (omega arith)
 
-        go : (r : Found) → r ≡ sought j → found_upto s bs y r ≡ length ps
-        go Nothing er = omega (arith, ap length (sym e ∙ none_found s F n hd bs t (label k f j) pos Nothing er refl), length-append ps qs)
-        go (At b) er =
-            let v = some_found s F n hd bs t (label k f j) pos (At b) er b refl in
-            let c : get_or bs (53 + b * block_long s + 1) 0 ≡ length (ps ++ qs) = counted s F n hd bs t (label k f j) pos (At b) er b refl _ refl ∙ ap length e in
+        go : (r : Option ℕ) → r ≡ sought j → found_upto s bs y r ≡ length ps
+        go None er = omega (arith, ap length (sym e ∙ none_found s F n hd bs t (label k f j) pos None er refl), length-append ps qs)
+        go (Some b) er =
+            let v = some_found s F n hd bs t (label k f j) pos (Some b) er b refl in
+            let c : get_or bs (53 + b * block_long s + 1) 0 ≡ length (ps ++ qs) = counted s F n hd bs t (label k f j) pos (Some b) er b refl _ refl ∙ ap length e in
             let front = upto_read (row s) bs y ps qs (53 + b * block_long s + 8) l u (rw e at (nodes_read s bs b (label k f j) (F k f j) v.is v.held.fine)) in
             rw (c, le-ltb s.nodes (length (ps ++ qs)) (omega (arith, v.held.nodes, ap length e)))
             (cond_valid (λ (z : ℕ). z ≡ length ps) (ltb (length (ps ++ qs)) s.nodes) front
@@ -145,16 +144,16 @@ module _ (s : Sizes) (F : Map) (n : ℕ) (hd bs : List ℕ) (t : Table s F n hd 
             (λ p. sym (key_of (row s) bs _) ∙ ap (λ (o : Order). o.key) (rw e at (last b v (rw e p)))) front))
 
     module _ (full : 0 < length (F k f j)) where
-      there : (b : ℕ) × (sought j ≡ At b)
+      there : (b : ℕ) × (sought j ≡ Some b)
       there = go (sought j) refl
         where
-          go : (r : Found) → r ≡ sought j → (b : ℕ) × (sought j ≡ At b)
-          go Nothing er = absurd (omega (arith, ap length (none_found s F n hd bs t (label k f j) pos Nothing er refl)))
-          go (At b) er = (b, sym er)
+          go : (r : Option ℕ) → r ≡ sought j → (b : ℕ) × (sought j ≡ Some b)
+          go None er = absurd (omega (arith, ap length (none_found s F n hd bs t (label k f j) pos None er refl)))
+          go (Some b) er = (b, sym er)
 
-      chunk_found : sought j ≡ At (found_block (sought j))
+      chunk_found : sought j ≡ Some (found_block (sought j))
       unfolding found_block
-      chunk_found = there.1 ∙ ap (λ (r : Found). At (found_block r)) (sym there.1)
+      chunk_found = there.1 ∙ ap (λ (r : Option ℕ). Some (found_block r)) (sym there.1)
 
       -- its block
       chunk_block : found_block (sought j) ≡ stands_in t.blocks (label k f j)
@@ -177,11 +176,11 @@ Ends s bs x z = (x.first ≡ z.key) × NodeAt s bs x.at z
 -- WHERE NODE m of partition f of level k stands, counted from 0: in the block of its chunk
 pub record Seated (s : Sizes) (bs : List ℕ) (k f m a : ℕ) : Type 0 where
   pub block : ℕ
-  pub found : search_in s bs (label k f (m / s.nodes)) ≡ At block
+  pub found : search_in s bs (label k f (m / s.nodes)) ≡ Some block
   pub is : a ≡ 53 + block * block_long s + (8 + row s * (m % s.nodes))
 
 -- .. as node n of chunk j, counted from 1
-seated : (s : Sizes) (bs : List ℕ) (k f j b n m : ℕ) → search_in s bs (label k f j) ≡ At b → 0 < n → n ≤ s.nodes → m + 1 ≡ j * s.nodes + n → Seated s bs k f m (node_place s b n)
+seated : (s : Sizes) (bs : List ℕ) (k f j b n m : ℕ) → search_in s bs (label k f j) ≡ Some b → 0 < n → n ≤ s.nodes → m + 1 ≡ j * s.nodes + n → Seated s bs k f m (node_place s b n)
 unfolding node_place
 seated s bs k f j b n m h lo hi e =
     let less : n - 1 < s.nodes = omega arith in
@@ -204,7 +203,7 @@ module _ (s : Sizes) (bs : List ℕ) (bl : List (Block Chunk)) (k f : ℕ) where
   landed_none j x o = record { trail = x; is = rw (pieces_none s.nodes); count = omega (arith, pieces_none s.nodes); ends = λ z h. h refl; seat = λ m h g. h refl }
 
   -- one chunk more, in block i
-  landed_more : (r : Trek) (j : ℕ) (own rest : List Order) (x : Trail) (o : List ℕ) (i : ℕ) → i ≡ stands_in bl (label k f j) → search_in s bs (label k f j) ≡ At i → 0 < length own →
+  landed_more : (r : Trek) (j : ℕ) (own rest : List Order) (x : Trail) (o : List ℕ) (i : ℕ) → i ≡ stands_in bl (label k f j) → search_in s bs (label k f j) ≡ Some i → 0 < length own →
       length own ≤ s.nodes → (0 < length rest → length own ≡ s.nodes) →
       pieces s.nodes (length (own ++ rest)) ≡ suc (pieces s.nodes (length rest)) → NodeAt s bs (node_place s i (length own)) (node_at own (length own - 1)) →
       Landed s bs bl k f r (suc j) rest (trod s bs i (length own) (trek x o)).trail (trod s bs i (length own) (trek x o)).path → Landed s bs bl k f r j (own ++ rest) x o

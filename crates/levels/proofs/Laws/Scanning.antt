@@ -1,4 +1,5 @@
 -- Laws of a scan: a node comes by, the nodes of a chunk, the chunks of a partition.
+use Rattle.std.proofs.Common.{Option, Some, None}
 use mathlib.Core.Path.{◌≡◌, refl, sym, ap, ◌∙◌}
 use mathlib.Core.Logic.{◌≢◌}
 use mathlib.Core.Bool.{true}
@@ -20,8 +21,6 @@ use Rattle.placement.specs.Place.{search_in, taken_out}
 use Rattle.placement.specs.Maps.{Map, Table, cleared}
 use Rattle.sizes.specs.declared.Sizes.{Sizes}
 use Rattle.placement.specs.declared.Order.{Order}
-use Rattle.placement.specs.declared.Found.{Found}
-use Rattle.placement.specs.declared.Found.TheVariants.{At, Nothing}
 use Rattle.sizes.proofs.Laws.Sizes.{some_nodes}
 use Rattle.placement.proofs.Laws.Tables.{count_most, count_some, remove_keeps}
 use Rattle.placement.proofs.Laws.Reading.{key_of, nodes_read}
@@ -187,11 +186,11 @@ module _ (s : Sizes) (bs : List ℕ) (k f y i : ℕ) (z : Spot) (p : Scanning s 
   pub scanned : s.blocks ≤ 65535 → Scans s bs k f y z → Scans s bs k f y z × (z.below ≤ z.size) × (z.size ≤ most_nodes)
   scanned b sc = (sc, p.few, omega (arith, p.most, p.within))
 
-  module _ (r : Found) (er : r ≡ search_in s bs (label k f i)) where
-    pub scanning_none : r ≡ Nothing → Scans s bs k f y z
+  module _ (r : Option ℕ) (er : r ≡ search_in s bs (label k f i)) where
+    pub scanning_none : r ≡ None → Scans s bs k f y z
     scanning_none e = all_came s bs k f y i z p (λ F n hd ns t pos c. piece_gone s k f pos F n hd bs ns t c i (none_found s F n hd bs t (label k f i) pos r er e))
 
-    module _ (b : ℕ) (eb : r ≡ At b) (n : ℕ) (en : n ≡ get_or bs (53 + b * block_long s + 1) 0) where
+    module _ (b : ℕ) (eb : r ≡ Some b) (n : ℕ) (en : n ≡ get_or bs (53 + b * block_long s + 1) 0) where
       came : (F : Map) (m : ℕ) (hd : List ℕ) → Table s F m hd bs → 0 < k → passes (row s) bs n (53 + b * block_long s + 8) y z ≡ passed_all y (F k f i) z
       came F m hd t pos =
           let v = some_found s F m hd bs t (label k f i) pos r er b eb in

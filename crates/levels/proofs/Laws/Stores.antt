@@ -1,4 +1,5 @@
 -- A chunk set to the first nodes of a row, in place where it is there.
+use Rattle.std.proofs.Common.{Option, Some, None}
 use mathlib.Core.Path.{◌≡◌, refl, sym, ◌∙◌, subst}
 use mathlib.Core.List.{List, []}
 use Prim.Native.Nat.{ℕ, ◌+◌, ◌*◌, ◌-◌, ◌≤◌, ◌<◌}
@@ -15,8 +16,6 @@ use Rattle.placement.specs.Maps.{Map, Table, nodes_of, with_nodes}
 use Rattle.sizes.specs.declared.Sizes.{Sizes}
 use Rattle.placement.specs.declared.Order.{Order}
 use Rattle.placement.specs.declared.Label.{Label}
-use Rattle.placement.specs.declared.Found.{Found}
-use Rattle.placement.specs.declared.Found.TheVariants.{At, Nothing}
 use Rattle.placement.proofs.Laws.Tables.{pull_keeps, write_keeps, count_some}
 use Rattle.levels.specs.Pour.{one, Puts}
 use Rattle.levels.specs.Shift.{Stored, Stores, Renews}
@@ -26,16 +25,16 @@ use Rattle.levels.proofs.Laws.Takes.{one_some, one_none, none_found, some_found}
 use Rattle.levels.proofs.Laws.Flushes.{fines_take, not_none}
 use Rattle.levels.proofs.Laws.Chunking.{drop_past}
 
-module _ (s : Sizes) (w : Label) (n : ℕ) (bs cs : List ℕ) (r : Found) (er : r ≡ search_in s bs w) where
+module _ (s : Sizes) (w : Label) (n : ℕ) (bs cs : List ℕ) (r : Option ℕ) (er : r ≡ search_in s bs w) where
   -- the label is absent
-  pub store_absent : r ≡ Nothing → (bs' : List ℕ) → Puts s w n bs bs' cs → Stores s w n bs bs' cs
+  pub store_absent : r ≡ None → (bs' : List ℕ) → Puts s w n bs bs' cs → Stores s w n bs bs' cs
   unfolding Stores Puts
   store_absent e bs' put F m hd c t f k fine can =
       let g = none_found s F m hd bs t w can.level r er e in
       let p = put F m hd c t f k fine g (λ pos. (can.label pos, can.room pos g)) in
       record { full = p.full; table = p.table; count = omega (arith, p.count, one_none (nodes_of F w) g) }
 
-  module _ (i : ℕ) (e : r ≡ At i) where
+  module _ (i : ℕ) (e : r ≡ Some i) where
     -- .. or there, and cleared
     pub store_none : n ≡ 0 → (bs' : List ℕ) → bs' ≡ pull (bytes (block_long s)) (home s) s.blocks (s.blocks - 1) i (i + 1) bs → Stores s w n bs bs' cs
     unfolding Stores one

@@ -1,4 +1,5 @@
 -- A chunk taken out of a table, its nodes behind those of a carry.
+use Rattle.std.proofs.Common.{Option, Some, None}
 use mathlib.Core.Path.{◌≡◌, refl, sym, ap, ◌∙◌, subst}
 use mathlib.Core.Logic.{◌≢◌}
 use mathlib.Core.Bool.{true≢false}
@@ -18,8 +19,6 @@ use Rattle.placement.specs.Maps.{Map, Table, Finds, is_at, is_none, Holdable, la
 use Rattle.sizes.specs.declared.Sizes.{Sizes}
 use Rattle.placement.specs.declared.Order.{Order}
 use Rattle.placement.specs.declared.Label.{Label}
-use Rattle.placement.specs.declared.Found.{Found}
-use Rattle.placement.specs.declared.Found.TheVariants.{At, Nothing}
 use Rattle.placement.proofs.Laws.Tables.{find_told, remove_keeps, remove_none, count_some}
 use Rattle.placement.proofs.Laws.Reading.{count_read}
 use Rattle.placement.proofs.Laws.Bridge.{length_nodes}
@@ -57,18 +56,18 @@ pub record Stood (s : Sizes) (F : Map) (w : Label) (bs : List ℕ) (b : ℕ) : T
   pub is : block_in (block_long s) bs b ≡ block_bytes s (holds (labelled w (nodes_of F w)))
   pub held : Holdable s (labelled w (nodes_of F w))
 
-module _ (s : Sizes) (F : Map) (m : ℕ) (hd bs : List ℕ) (t : Table s F m hd bs) (w : Label) (pos : 0 < w.level) (r : Found) (er : r ≡ search_in s bs w) where
-  pub none_found : r ≡ Nothing → nodes_of F w ≡ []
+module _ (s : Sizes) (F : Map) (m : ℕ) (hd bs : List ℕ) (t : Table s F m hd bs) (w : Label) (pos : 0 < w.level) (r : Option ℕ) (er : r ≡ search_in s bs w) where
+  pub none_found : r ≡ None → nodes_of F w ≡ []
   none_found e = go (subst (Finds s F w bs) (sym er ∙ e) (find_told s F m hd bs t w pos))
     where
-      go : Finds s F w bs Nothing → nodes_of F w ≡ []
+      go : Finds s F w bs None → nodes_of F w ≡ []
       go (is_none g) = g
 
-  module _ (b : ℕ) (eb : r ≡ At b) where
+  module _ (b : ℕ) (eb : r ≡ Some b) where
     pub some_found : Stood s F w bs b
     some_found = go (subst (Finds s F w bs) (sym er ∙ eb) (find_told s F m hd bs t w pos))
       where
-        go : Finds s F w bs (At b) → Stood s F w bs b
+        go : Finds s F w bs (Some b) → Stood s F w bs b
         go (is_at p q g) = record { below = p; full = q; is = g; held = t.sound w.level w.first w.number q }
 
     -- how many nodes it has
@@ -79,12 +78,12 @@ module _ (s : Sizes) (F : Map) (m : ℕ) (hd bs : List ℕ) (t : Table s F m hd 
 pub read_room : (s : Sizes) (n more k y l : ℕ) → k ≤ 16 * n → y ≡ row s * more → more ≤ s.nodes → 16 * (n + s.nodes) ≤ l → k + y ≤ l
 read_room s n more k y l hk ey few room = omega (arith, rows_most (row s) more (row_most s))
 
-module _ (s : Sizes) (w : Label) (n : ℕ) (bs cs : List ℕ) (r : Found) (er : r ≡ search_in s bs w) where
-  pub read_none : r ≡ Nothing → Reads s w n bs cs cs n
+module _ (s : Sizes) (w : Label) (n : ℕ) (bs cs : List ℕ) (r : Option ℕ) (er : r ≡ search_in s bs w) where
+  pub read_none : r ≡ None → Reads s w n bs cs cs n
   unfolding Reads
   read_none e F m hd c t pos f en = let g = none_found s F m hd bs t w pos r er e in record { front = rw (g, append-nil) f; size = rw (g, append-nil) en }
 
-  module _ (i : ℕ) (e : r ≡ At i) (more : ℕ) (em : more ≡ get_or bs (53 + i * block_long s + 1) 0) where
+  module _ (i : ℕ) (e : r ≡ Some i) (more : ℕ) (em : more ≡ get_or bs (53 + i * block_long s + 1) 0) where
     pub read_over : s.nodes < more → Reads s w n bs cs cs n
     unfolding Reads
     read_over h F m hd c t pos f en = absurd (omega (arith, (some_found s F m hd bs t w pos r er i e).held.nodes, counted s F m hd bs t w pos r er i e more em))

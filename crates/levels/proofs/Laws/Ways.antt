@@ -1,4 +1,5 @@
 -- Laws of the way down on any bytes: the nodes of a chunk, the chunks of a level, the levels.
+use Rattle.std.proofs.Common.{Option, Some, None}
 use mathlib.Core.Path.{◌≡◌, refl, sym, ap, ◌∙◌}
 use mathlib.Core.List.{List, [], ◌∷◌}
 use Prim.Native.Nat.{ℕ, suc, ◌+◌, ◌*◌, ◌-◌, ◌≤◌, ◌<◌}
@@ -17,8 +18,6 @@ use Rattle.placement.specs.Labels.{label, before, home}
 use Rattle.placement.specs.Place.{Shaped, label_in, probe, search_in, Starts, behind}
 use Rattle.sizes.specs.declared.Sizes.{Sizes}
 use Rattle.placement.specs.declared.Label.{Label}
-use Rattle.placement.specs.declared.Found.{Found}
-use Rattle.placement.specs.declared.Found.TheVariants.{At, Nothing}
 use Rattle.sizes.proofs.Laws.Hashes.{hash_below}
 use Rattle.sizes.proofs.Laws.HeaderLoops.{rows_room, row_room}
 use Rattle.placement.proofs.Laws.Labels.{one_label}
@@ -134,7 +133,7 @@ unfolding trod node_place
 trod_is s bs i n t o a ea u eu k ek z ez = rw (ek, ez, ea, eu)
 
 -- the search for the next chunk
-starts_next : (s : Sizes) (bs : List ℕ) (l f l' f' j i start : ℕ) → l' ≡ l → f' ≡ f → 0 < l → l ≤ 19 → j + 1 ≤ 65535 → search_in s bs (label l f j) ≡ At i
+starts_next : (s : Sizes) (bs : List ℕ) (l f l' f' j i start : ℕ) → l' ≡ l → f' ≡ f → 0 < l → l ≤ 19 → j + 1 ≤ 65535 → search_in s bs (label l f j) ≡ Some i
     → start ≡ behind s (label l' f' (j + 1)) i → start < s.blocks → Starts s bs (label l' f' (j + 1)) start
 starts_next s bs l f l' f' j i start el ef some high few e es h = starts_behind s bs l' f' j i start (omega arith) (omega arith) few (rw (el, ef) e) es h
 
@@ -172,18 +171,18 @@ module _ (s : Sizes) (bs : List ℕ) (l y : ℕ) (t : Trail) (o : List ℕ) (g :
         let c : s.blocks - v.number ≡ 0 = omega arith in
         stop (rw c)
 
-    module _ (h : v.number < s.blocks) (r : Found) (ep : r ≡ probe (before s) (label_in (block_long s) bs) s.blocks v s.blocks start) where
+    module _ (h : v.number < s.blocks) (r : Option ℕ) (ep : r ≡ probe (before s) (label_in (block_long s) bs) s.blocks v s.blocks start) where
       er : r ≡ search_in s bs (label l t.first v.number)
       er = ep ∙ p.starts.same ∙ ap (search_in s bs) (one_label v (label l t.first v.number) p.level p.first refl)
 
       step : s.blocks - v.number ≡ suc (s.blocks - (v.number + 1))
       step = omega arith
 
-      pub along_none : r ≡ Nothing → Gone w z
+      pub along_none : r ≡ None → Gone w z
       unfolding chunks_in found_upto
       along_none e = stop (rw (step, ← er, e))
 
-      module _ (i : ℕ) (e : r ≡ At i) where
+      module _ (i : ℕ) (e : r ≡ Some i) where
         pub along_below : i < s.blocks
         along_below = search_below s bs _ r i e er g
 

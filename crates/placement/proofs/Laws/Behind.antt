@@ -1,5 +1,5 @@
 -- Why the search for a chunk may start behind the block where the chunk before it was found, on any bytes: every block from that one's home on is passed.
-use Rattle.std.proofs.Common.{◌≡◌, ℕ, zero, suc, ◌+◌, ◌*◌, ◌%◌, ◌<◌, ◌≤◌, Bool, true, false, cond, eqb, List, sym, refl, ap, ◌∙◌, true≢false, add-zero, add-one, arith, eqb-true}
+use Rattle.std.proofs.Common.{◌≡◌, ℕ, zero, suc, ◌+◌, ◌*◌, ◌%◌, ◌<◌, ◌≤◌, Bool, true, false, cond, eqb, List, sym, refl, ap, ◌∙◌, true≢false, add-zero, add-one, arith, eqb-true, Option, Some, None}
 use native.Mathlib.Nat.{mod-mod, add-mod_right, suc-mod, zero-mod}
 use borrow.Author.Tests.{eqb-false}
 use Rattle.sizes.specs.Sizes.{prime}
@@ -9,8 +9,6 @@ use Rattle.sizes.specs.declared.Sizes.{Sizes}
 use Rattle.sizes.proofs.Laws.Orders.{Ordering}
 use Rattle.sizes.proofs.Laws.Hashes.{hash_below}
 use Rattle.placement.specs.declared.Label.{Label}
-use Rattle.placement.specs.declared.Found.{Found}
-use Rattle.placement.specs.declared.Found.TheVariants.{At, Nothing}
 use Rattle.placement.specs.Labels.{label, before, same_label, home}
 use Rattle.placement.specs.Place.{label_in, passes_label, probe, search_in, Starts, behind}
 use Rattle.placement.proofs.Laws.Labels.{labels, before_next, same_is}
@@ -18,8 +16,8 @@ use Rattle.placement.proofs.Laws.Insertion.{suc_mod_same}
 use Rattle.placement.proofs.Laws.Loops.{probe_round, passes_held, passes_some}
 
 module _ (before : Label → Label → Bool) (look : ℕ → Label) (m : ℕ) (w : Label) where
-  abbrev step : (i : ℕ) → Found → Found
-  step i r = cond (passes_label before (look (i % m)) w) r (cond (same_label (look (i % m)) w) (At (i % m)) Nothing)
+  abbrev step : (i : ℕ) → Option ℕ → Option ℕ
+  step i r = cond (passes_label before (look (i % m)) w) r (cond (same_label (look (i % m)) w) (Some (i % m)) None)
 
   -- a search may have one block more, if that is passed
   one_more : (f i : ℕ) → passes_label before (look ((i + f) % m)) w ≡ true → probe before look m w (suc f) i ≡ probe before look m w f i
@@ -46,13 +44,13 @@ module _ {before : Label → Label → Bool} (o : Ordering before) (look : ℕ �
   abbrev Later : (i j : ℕ) → Type 0
   Later i j = (probe before look m b m i ≡ probe before look m b m (suc i)) × (probe before look m b m i ≡ probe before look m b m (suc j))
 
-  found_later : (f i j : ℕ) → probe before look m a f i ≡ At j → Later i j
+  found_later : (f i j : ℕ) → probe before look m a f i ≡ Some j → Later i j
   unfolding probe
   found_later zero i j e = absurd (true≢false cc)
   found_later (suc f) i j e = go (passes_label before (look (i % m)) a) (same_label (look (i % m)) a) refl refl e (found_later f (suc i) j)
     where
-      go : (p q : Bool) → passes_label before (look (i % m)) a ≡ p → same_label (look (i % m)) a ≡ q → cond p (probe before look m a f (suc i)) (cond q (At (i % m)) Nothing) ≡ At j
-          → (probe before look m a f (suc i) ≡ At j → Later (suc i) j) → Later i j
+      go : (p q : Bool) → passes_label before (look (i % m)) a ≡ p → same_label (look (i % m)) a ≡ q → cond p (probe before look m a f (suc i)) (cond q (Some (i % m)) None) ≡ Some j
+          → (probe before look m a f (suc i) ≡ Some j → Later (suc i) j) → Later i j
       go true q h k e on = let o = one_later before look m b i (passes_too (look (i % m)) h) in (o, o ∙ (on e).1)
       go false true h k e on =
           let o = one_later before look m b i (passes_it (look (i % m)) k) in
@@ -74,7 +72,7 @@ module _ (s : Sizes) (bs : List ℕ) (l f j i : ℕ) (some : 0 < l) (high : l �
       let e : place (j + 1) % prime ≡ suc (place j % prime) = omega (arith, small) in
       rw e (suc-mod (place j % prime) s.blocks)
 
-  pub search_behind : search_in s bs (label l f j) ≡ At i
+  pub search_behind : search_in s bs (label l f j) ≡ Some i
       → probe (before s) (label_in (block_long s) bs) s.blocks (label l f (j + 1)) s.blocks (behind s (label l f (j + 1)) i) ≡ search_in s bs (label l f (j + 1))
   unfolding search_in behind home
   search_behind e = go (eqb (place (j + 1)) prime) refl
@@ -82,7 +80,7 @@ module _ (s : Sizes) (bs : List ℕ) (l f j i : ℕ) (some : 0 < l) (high : l �
       m : ℕ
       m = s.blocks
 
-      from : (start : ℕ) → Found
+      from : (start : ℕ) → Option ℕ
       from = probe (before s) (label_in (block_long s) bs) m (label l f (j + 1)) m
 
       round : (x y : ℕ) → x % m ≡ y % m → from x ≡ from y
@@ -101,5 +99,5 @@ module _ (s : Sizes) (bs : List ℕ) where
   unfolding search_in
   starts_home w start e h = record { inside = h; same = ap (probe (before s) (label_in (block_long s) bs) s.blocks w s.blocks) e }
 
-  pub starts_behind : (l f j i start : ℕ) → 0 < l → l ≤ 19 → j + 1 ≤ 65535 → search_in s bs (label l f j) ≡ At i → start ≡ behind s (label l f (j + 1)) i → start < s.blocks → Starts s bs (label l f (j + 1)) start
+  pub starts_behind : (l f j i start : ℕ) → 0 < l → l ≤ 19 → j + 1 ≤ 65535 → search_in s bs (label l f j) ≡ Some i → start ≡ behind s (label l f (j + 1)) i → start < s.blocks → Starts s bs (label l f (j + 1)) start
   starts_behind l f j i start some high few e es h = record { inside = h; same = rw es (search_behind s bs l f j i some high few e) }

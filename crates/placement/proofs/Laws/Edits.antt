@@ -1,5 +1,5 @@
 -- Search, removal, insertion and change by the code, on a header and blocks as bytes, are those of the theory on the blocks.
-use Rattle.std.proofs.Common.{◌≡◌, ℕ, ◌+◌, ◌-◌, ◌*◌, ◌%◌, ◌<◌, ◌≤◌, false, ◌≢◌, List, [], ◌++◌, length, get_or, set, refl, ap, ◌∙◌, true≢false, mod-lt, arith, length-set}
+use Rattle.std.proofs.Common.{◌≡◌, ℕ, ◌+◌, ◌-◌, ◌*◌, ◌%◌, ◌<◌, ◌≤◌, false, ◌≢◌, List, [], ◌++◌, length, get_or, set, refl, ap, ◌∙◌, true≢false, mod-lt, arith, length-set, Option, Some}
 use Rattle.placement.specs.Blocks.{Block, empty, holds, around, is_free}
 use Rattle.sizes.specs.declared.Sizes.{Sizes}
 use Rattle.placement.specs.declared.Order.{Order}
@@ -10,8 +10,6 @@ use Rattle.sizes.specs.Parts.{block_in, put_block}
 use Rattle.placement.specs.Place.{label_in, probe, search_in, distance_of, bytes, pull, settle, free_in, head_bytes, block_with, inserted}
 use Rattle.placement.specs.Maps.{Map, Keeps, Holdable, labelled, nodes_of}
 use Rattle.placement.specs.declared.Label.{Label}
-use Rattle.placement.specs.declared.Found.{Found}
-use Rattle.placement.specs.declared.Found.TheVariants.{At}
 use Rattle.placement.proofs.Laws.Kinds.{ordered, absent_other}
 use Rattle.placement.proofs.Laws.Maps.{lawful}
 use Rattle.placement.proofs.Laws.Placed.{First, lands}
@@ -78,7 +76,7 @@ module _ (s : Sizes) (some : 0 < s.blocks) (hd : List ℕ) (eh : length hd ≡ 5
     inside : e < s.blocks
     inside = mod-lt (start + first.steps) some
 
-    found : free_in (label_in (block_long s) (hd ++ all_bytes s bl)) s.blocks s.blocks start ≡ At e
+    found : free_in (label_in (block_long s) (hd ++ all_bytes s bl)) s.blocks s.blocks start ≡ Some e
     found =
         free_first _ s.blocks s.blocks start first.steps first.few (rw (look_at (start + first.steps), first.free))
         (λ l h. rw look_at (full_label s _ (good_around (start + l)) (first.full l h)))
@@ -103,7 +101,7 @@ module _ (s : Sizes) (some : 0 < s.blocks) (hd : List ℕ) (eh : length hd ≡ 5
         (good_set s v e (held q), length-set bl e _ ∙ long) inside
         ∙ ap (λ (x : List (Block Chunk)). hd ++ all_bytes s x) (settle_theory s some e inside first.steps s.blocks start (labelled w ns) bl carry ahead))
 
-    pub insert_at : (r : Found) → r ≡ free_in (label_in (block_long s) (hd ++ all_bytes s bl)) s.blocks s.blocks start
+    pub insert_at : (r : Option ℕ) → r ≡ free_in (label_in (block_long s) (hd ++ all_bytes s bl)) s.blocks s.blocks start
         → inserted s r w (length ns) (nodes_bytes (row s) ns) (hd ++ all_bytes s bl) ≡ hd ++ all_bytes s (insert_from (chunk_before s) s.blocks start s.blocks (labelled w ns) bl)
     unfolding inserted
     insert_at r h = rw (h ∙ found, block_written s w ns q.nodes, steps_is) insert_here

@@ -1,5 +1,5 @@
 -- The search by the code, over the labels of blocks, is the search of the theory.
-use Rattle.std.proofs.Common.{◌≡◌, ℕ, zero, suc, ◌%◌, ◌<◌, Bool, true, false, cond, ◌≢◌, List, [], get_or, sym, refl, ap, ◌∙◌, mod-lt, arith, ne_eqb}
+use Rattle.std.proofs.Common.{◌≡◌, ℕ, zero, suc, ◌%◌, ◌<◌, Bool, true, false, cond, ◌≢◌, List, [], get_or, sym, refl, ap, ◌∙◌, mod-lt, arith, ne_eqb, Option, Some, None}
 use native.Mathlib.Nat.{mod-mod}
 use Rattle.placement.specs.Blocks.{Block, empty, holds, around}
 use Rattle.sizes.specs.declared.Sizes.{Sizes}
@@ -9,8 +9,6 @@ use Rattle.placement.specs.Chunks.{Chunk, chunk_before}
 use Rattle.placement.specs.Place.{probe, passes_label}
 use Rattle.placement.specs.Maps.{Map, Keeps, chunk_kind, labelled, nodes_of}
 use Rattle.placement.specs.declared.Label.{Label}
-use Rattle.placement.specs.declared.Found.{Found}
-use Rattle.placement.specs.declared.Found.TheVariants.{At, Nothing}
 use Rattle.placement.proofs.Laws.Search.{at_place, absent, search_step, search_from, Answer}
 use Rattle.placement.proofs.Laws.Labels.{labels, labels_one, is_same, isnt_same}
 use Rattle.placement.proofs.Laws.Loops.{passes_empty, passes_held}
@@ -21,9 +19,9 @@ use Rattle.placement.proofs.Laws.Bridge.{Good, held, AllGood, label_of, good_at}
 use Rattle.placement.proofs.Laws.Search
 
 -- the block that the theory's search gives
-abbrev pub place_of : (m : ℕ) → Search.Found Chunk → Found
-place_of m (at_place i d) = At (i % m)
-place_of m absent = Nothing
+abbrev pub place_of : (m : ℕ) → Search.Found Chunk → Option ℕ
+place_of m (at_place i d) = Some (i % m)
+place_of m absent = None
 
 module _ (s : Sizes) (w : Label) (pos : 0 < w.level) (ns : List Order) where
   pass_empty : passes_label (before s) (label 0 0 0) w ≡ false
@@ -43,28 +41,28 @@ module _ (s : Sizes) (w : Label) (pos : 0 < w.level) (ns : List Order) where
   probe_theory m zero i bl v = refl
   probe_theory m (suc f) i bl v = go (get_or bl (i % m) empty) (good_at s v (i % m)) (probe_theory m f (suc i) bl v)
     where
-      code : Found
+      code : Option ℕ
       code = probe (before s) (λ j. label_of (get_or bl j empty)) m w f (suc i)
 
       theory : Search.Found Chunk
       theory = search_from (chunk_before s) f (suc i) m (labelled w ns) bl
 
       go : (b : Block Chunk) → Good s b → code ≡ place_of m theory
-          → cond (passes_label (before s) (label_of b) w) code (cond (same_label (label_of b) w) (At (i % m)) Nothing)
+          → cond (passes_label (before s) (label_of b) w) code (cond (same_label (label_of b) w) (Some (i % m)) None)
           ≡ place_of m (search_step (chunk_before s) (labelled w ns) i b theory)
       go empty q on = rw (pass_empty, same_empty)
       go (holds d) (held q) on = rw (pass_held d.label q.level) (by (before s d.label w) (before s w d.label) refl refl)
         where
           by : (a b : Bool) → before s d.label w ≡ a → before s w d.label ≡ b
-              → cond a code (cond (same_label d.label w) (At (i % m)) Nothing) ≡ place_of m (cond a theory (cond b absent (at_place i d)))
+              → cond a code (cond (same_label d.label w) (Some (i % m)) None) ≡ place_of m (cond a theory (cond b absent (at_place i d)))
           by true b h k = on
           by false true h k = rw (isnt_same (labels s) d.label w k)
           by false false h k = rw (is_same d.label w (labels_one s d.label w h k))
 
 -- what the search tells of the map
-pub data Told (s : Sizes) (F : Map) (w : Label) (bl : List (Block Chunk)) : Found → Type 0 where
-  is_at : {i : ℕ} → i < s.blocks → around s.blocks bl i ≡ holds (labelled w (nodes_of F w)) → nodes_of F w ≢ [] → Told s F w bl (At i)
-  is_none : nodes_of F w ≡ [] → Told s F w bl Nothing
+pub data Told (s : Sizes) (F : Map) (w : Label) (bl : List (Block Chunk)) : Option ℕ → Type 0 where
+  is_at : {i : ℕ} → i < s.blocks → around s.blocks bl i ≡ holds (labelled w (nodes_of F w)) → nodes_of F w ≢ [] → Told s F w bl (Some i)
+  is_none : nodes_of F w ≡ [] → Told s F w bl None
 
 module _ (s : Sizes) (some : 0 < s.blocks) (F : Map) (n : ℕ) (bl : List (Block Chunk)) (v : AllGood s bl) (k : Keeps s bl F n) (w : Label) (pos : 0 < w.level) where
   told : (r : Search.Found Chunk) → Answer (chunk_before s) s.blocks (labelled w []) bl r → rows_found chunk_kind r ≡ nodes_of F w → Told s F w bl (place_of s.blocks r)

@@ -1,5 +1,5 @@
 -- What the loops of this crate keep, and their turns.
-use Rattle.std.proofs.Common.{◌≡◌, ℕ, zero, suc, ◌+◌, ◌-◌, ◌*◌, ◌/◌, ◌%◌, ◌^◌, ◌<◌, ◌≤◌, Bool, true, false, cond, ◌&&◌, ◌||◌, eqb, ltb, leb, List, [], ◌∷◌, ◌++◌, length, get_or, take, drop, replicate, sym, refl, ap, ◌∙◌, true≢false, le_refl, lt_of_lt_of_le, add-zero, mod-lt, mod-eq_of_lt, pos_of_ne-zero, sub-eq-zero_of_le, add-one, arith, length-append, w32, Fits, ltb-true, le-ltb, lt-ltb, eq-eqb, ne_eqb, eqb-true}
+use Rattle.std.proofs.Common.{◌≡◌, ℕ, zero, suc, ◌+◌, ◌-◌, ◌*◌, ◌/◌, ◌%◌, ◌^◌, ◌<◌, ◌≤◌, Bool, true, false, cond, ◌&&◌, ◌||◌, eqb, ltb, leb, List, [], ◌∷◌, ◌++◌, length, get_or, take, drop, replicate, sym, refl, ap, ◌∙◌, true≢false, le_refl, lt_of_lt_of_le, add-zero, mod-lt, mod-eq_of_lt, pos_of_ne-zero, sub-eq-zero_of_le, add-one, arith, length-append, w32, Fits, ltb-true, le-ltb, lt-ltb, eq-eqb, ne_eqb, eqb-true, Option, Some, None}
 use mathlib.Core.Bool.{false≢true}
 use native.Mathlib.Nat.{sub-zero, mod-eq-sub-mod, mod_self}
 use native.Mathlib.Numerals.{towards_suc}
@@ -14,8 +14,6 @@ use Rattle.placement.specs.declared.Label.{Label}
 use Rattle.placement.specs.declared.Ahead.{Ahead}
 use Rattle.placement.specs.declared.Met.{Met}
 use Rattle.placement.specs.declared.Met.TheVariants.{Past, Here, Other}
-use Rattle.placement.specs.declared.Found.{Found}
-use Rattle.placement.specs.declared.Found.TheVariants.{At, Nothing}
 use Rattle.placement.specs.contracts.Met.{the_type}
 use Rattle.placement.specs.Place.{Shaped, label_in, passes_label, met, meeting, Leading, probe, GoesOn, is_lower, four_lower, search_in, behind, distance_of, stays_at, bytes, Pulled, pull, settle, found_at, taken_out, free_in, head_bytes, block_with, inserted}
 use Rattle.sizes.proofs.Laws.Parts.{sets_append, length_part}
@@ -85,7 +83,7 @@ module _ (before : Label → Label → Bool) (look : ℕ → Label) (m : ℕ) (w
   probing_start h = record { inside = h; rest = refl }
 
   module _ (left i : ℕ) (q : Probing before look m w most start left i) where
-    pub probing_end : left ≡ 0 → Nothing ≡ probe before look m w most start
+    pub probing_end : left ≡ 0 → None ≡ probe before look m w most start
     unfolding probe
     probing_end z = sym (q.rest ∙ rw z)
 
@@ -101,11 +99,11 @@ module _ (before : Label → Label → Bool) (look : ℕ → Label) (m : ℕ) (w
           rw (mod-eq_of_lt q.inside, met_past before (look i) w (λ e. h (er ∙ e)) (λ e. o (er ∙ e))) in
           record { inside = l; rest = step ∙ one ∙ probe_round before look m w (left - 1) (suc i) n on }
 
-      pub probing_here : r ≡ Here → At i ≡ probe before look m w most start
+      pub probing_here : r ≡ Here → Some i ≡ probe before look m w most start
       unfolding probe
       probing_here h = let e = met_here before (look i) w (sym er ∙ h) in sym (step ∙ rw (mod-eq_of_lt q.inside, e.0, e.1))
 
-      pub probing_other : r ≡ Other → Nothing ≡ probe before look m w most start
+      pub probing_other : r ≡ Other → None ≡ probe before look m w most start
       unfolding probe
       probing_other o = let e = met_other before (look i) w (sym er ∙ o) in sym (step ∙ rw (mod-eq_of_lt q.inside, e.0, e.1))
 
@@ -138,7 +136,7 @@ module _ (s : Sizes) (bs : List ℕ) (w : Label) (start : ℕ) where
 
   goes_one : s.version ≡ 1 → (i n : ℕ) → GoesOn s bs w start i → n ≤ s.blocks → n ≡ i + 1 → is_lower (label_in (block_long s) bs) w.level i ≡ true → GoesOn s bs w start n
   goes_one v i n q h e z =
-      let from : (k j : ℕ) → Found = probe (before s) (label_in (block_long s) bs) s.blocks w in
+      let from : (k j : ℕ) → Option ℕ = probe (before s) (label_in (block_long s) bs) s.blocks w in
       let least : start ≤ i = q.least in
       let one : from (s.blocks - (i - start)) i ≡ from (s.blocks - (i - start) - 1) (suc i) = passed_one s v (label_in (block_long s) bs) s.blocks w (s.blocks - (i - start)) i (omega arith) (omega arith) z in
       let there : from (s.blocks - (n - start)) n ≡ from (s.blocks - (i - start) - 1) (suc i) = ap (λ (k : ℕ). from k n) (omega arith) ∙ ap (from (s.blocks - (i - start) - 1)) (e ∙ add-one i) in
@@ -161,12 +159,12 @@ module _ (s : Sizes) (bs : List ℕ) (w : Label) (start : ℕ) where
       goes_one v (i + 3) (i + 4) three h (omega arith) c.1
 
   -- as `find_past` asks
-  pub goes_search : (i j : ℕ) (r : Found) → GoesOn s bs w start i → j ≡ i % s.blocks → j < s.blocks →
+  pub goes_search : (i j : ℕ) (r : Option ℕ) → GoesOn s bs w start i → j ≡ i % s.blocks → j < s.blocks →
       r ≡ probe (before s) (label_in (block_long s) bs) s.blocks w (s.blocks - (i - start)) j → r ≡ probe (before s) (label_in (block_long s) bs) s.blocks w s.blocks start
   goes_search i j r q ej hj er = er ∙ probe_round (before s) (label_in (block_long s) bs) s.blocks w (s.blocks - (i - start)) j i (mod-eq_of_lt hj ∙ ej) ∙ q.rest
 
 -- the search for a label is the one from home on, round the whole table
-pub home_search : (s : Sizes) (bs : List ℕ) (w : Label) (start : ℕ) (r : Found) → start ≡ home s w →
+pub home_search : (s : Sizes) (bs : List ℕ) (w : Label) (start : ℕ) (r : Option ℕ) → start ≡ home s w →
     r ≡ probe (before s) (label_in (block_long s) bs) s.blocks w s.blocks start → r ≡ search_in s bs w
 unfolding search_in
 home_search s bs w start r eh er = er ∙ ap (probe (before s) (label_in (block_long s) bs) s.blocks w s.blocks) eh
@@ -216,9 +214,9 @@ module _ (s : Sizes) (w : Label) (i h : ℕ) (e : h ≡ hash_from 5 5 s.seed w.f
   behind_next z r er = rw (← e, ne_eqb _ _ z) er
 
 -- a block that the search finds is one of the table
-abbrev below : Found → (m : ℕ) → Type 0
-below (At i) m = i < m
-below Nothing m = Unit
+abbrev below : Option ℕ → (m : ℕ) → Type 0
+below (Some i) m = i < m
+below None m = Unit
 
 probe_below : (before : Label → Label → Bool) (look : ℕ → Label) (m : ℕ) (w : Label) (k i : ℕ) → 0 < m → below (probe before look m w k i) m
 unfolding probe
@@ -228,24 +226,24 @@ probe_below before look m w (suc k) i pos =
     (cond_valid (λ r. below r m) (same_label (look (i % m)) w) (mod-lt i pos) tt)
 
 -- as `remove` asks, of what the search gave
-pub out_none : (g : Sizes) (bs : List ℕ) (w : Label) (r : Found) → r ≡ Nothing → r ≡ search_in g bs w → bs ≡ taken_out g (search_in g bs w) bs
+pub out_none : (g : Sizes) (bs : List ℕ) (w : Label) (r : Option ℕ) → r ≡ None → r ≡ search_in g bs w → bs ≡ taken_out g (search_in g bs w) bs
 unfolding taken_out
 out_none g bs w r e q = rw (← q, e)
 
-pub out_at : (g : Sizes) (bs bs' : List ℕ) (w : Label) (r : Found) (i : ℕ) → r ≡ At i → r ≡ search_in g bs w → bs' ≡ pull (bytes (block_long g)) (home g) g.blocks (g.blocks - 1) i (i + 1) bs
+pub out_at : (g : Sizes) (bs bs' : List ℕ) (w : Label) (r : Option ℕ) (i : ℕ) → r ≡ Some i → r ≡ search_in g bs w → bs' ≡ pull (bytes (block_long g)) (home g) g.blocks (g.blocks - 1) i (i + 1) bs
     → bs' ≡ taken_out g (search_in g bs w) bs
 unfolding taken_out
 out_at g bs bs' w r i e q p = rw (← q, e) p
 
-pub found_none : (g : Sizes) (bs : List ℕ) (w : Label) (r : Found) → r ≡ Nothing → r ≡ search_in g bs w → false ≡ found_at (search_in g bs w)
+pub found_none : (g : Sizes) (bs : List ℕ) (w : Label) (r : Option ℕ) → r ≡ None → r ≡ search_in g bs w → false ≡ found_at (search_in g bs w)
 unfolding found_at
 found_none g bs w r e q = rw (← q, e)
 
-pub found_some : (g : Sizes) (bs : List ℕ) (w : Label) (r : Found) (i : ℕ) → r ≡ At i → r ≡ search_in g bs w → true ≡ found_at (search_in g bs w)
+pub found_some : (g : Sizes) (bs : List ℕ) (w : Label) (r : Option ℕ) (i : ℕ) → r ≡ Some i → r ≡ search_in g bs w → true ≡ found_at (search_in g bs w)
 unfolding found_at
 found_some g bs w r i e q = rw (← q, e)
 
-pub search_below : (g : Sizes) (bs : List ℕ) (w : Label) (r : Found) (i : ℕ) → r ≡ At i → r ≡ search_in g bs w → Shaped g bs → i < g.blocks
+pub search_below : (g : Sizes) (bs : List ℕ) (w : Label) (r : Option ℕ) (i : ℕ) → r ≡ Some i → r ≡ search_in g bs w → Shaped g bs → i < g.blocks
 unfolding search_in
 search_below g bs w r i e q s = rw (sym q ∙ e) at (probe_below (before g) (label_in (block_long g) bs) g.blocks w g.blocks (home g w) s.some)
 
@@ -420,13 +418,13 @@ unfolding label_in
 empty_says s bs want i a v ei ea ev = rw (ev, ea, ei)
 
 -- ends the search
-probe_none : (before : Label → Label → Bool) (look : ℕ → Label) (m : ℕ) (want : Label) (k i : ℕ) → i < m → 1 ≤ want.level → (look i).level ≡ 0 → probe before look m want k i ≡ Nothing
+probe_none : (before : Label → Label → Bool) (look : ℕ → Label) (m : ℕ) (want : Label) (k i : ℕ) → i < m → 1 ≤ want.level → (look i).level ≡ 0 → probe before look m want k i ≡ None
 unfolding probe same_label
 probe_none before look m want zero i h lo z = refl
 probe_none before look m want (suc k) i h lo z = rw (mod-eq_of_lt h, ← passes_empty before (look i) want z lo, z, ne_eqb 0 want.level (λ q. omega arith))
 
 pub search_none : (s : Sizes) (bs : List ℕ) (want : Label) → Shaped s bs → 1 ≤ want.level → eqb (label_in (block_long s) bs (home s want)).level 0 ≡ true
-    → search_in s bs want ≡ Nothing
+    → search_in s bs want ≡ None
 unfolding search_in
 search_none s bs want h lo e = probe_none (before s) (label_in (block_long s) bs) s.blocks want s.blocks (home s want) (home_inside s h.some want) lo (eqb-true _ _ e)
 
@@ -498,12 +496,12 @@ module _ (look : ℕ → Label) (m start : ℕ) where
   freeing_start = record { within = omega arith; rest = rw (add-zero, sub-zero) }
 
   module _ (k : ℕ) (p : Freeing look m start k) where
-    pub freeing_end : m ≤ k → Nothing ≡ free_in look m m start
+    pub freeing_end : m ≤ k → None ≡ free_in look m m start
     unfolding free_in
     freeing_end h = rw (p.rest, sub-eq-zero_of_le h)
 
     module _ (lt : k < m) (l : Label) (el : l ≡ look ((start + k) % m)) where
-      pub freeing_at : l.level ≡ 0 → At ((start + k) % m) ≡ free_in look m m start
+      pub freeing_at : l.level ≡ 0 → Some ((start + k) % m) ≡ free_in look m m start
       unfolding free_in
       freeing_at z =
           let t : eqb (look ((start + k) % m)).level 0 ≡ true = rw (← el) (eq-eqb _ _ z) in
@@ -564,19 +562,19 @@ unfolding free_in
 free_below look m zero i pos = tt
 free_below look m (suc k) i pos = cond_valid (λ r. below r m) (eqb (look (i % m)).level 0) (mod-lt i pos) (free_below look m k (suc i) pos)
 
-pub free_at : (look : ℕ → Label) (m k i : ℕ) (r : Found) (e : ℕ) → r ≡ At e → r ≡ free_in look m k i → 0 < m → e < m
+pub free_at : (look : ℕ → Label) (m k i : ℕ) (r : Option ℕ) (e : ℕ) → r ≡ Some e → r ≡ free_in look m k i → 0 < m → e < m
 free_at look m k i r e er q pos = rw (sym q ∙ er) at (free_below look m k i pos)
 
-module _ (g : Sizes) (bs : List ℕ) (l : Label) (start : ℕ) (r : Found) (es : start ≡ home g l) (er : r ≡ free_in (label_in (block_long g) bs) g.blocks g.blocks start) where
-  pub inserted_found : (x : Found) → r ≡ x → x ≡ free_in (label_in (block_long g) bs) g.blocks g.blocks (home g l)
+module _ (g : Sizes) (bs : List ℕ) (l : Label) (start : ℕ) (r : Option ℕ) (es : start ≡ home g l) (er : r ≡ free_in (label_in (block_long g) bs) g.blocks g.blocks start) where
+  pub inserted_found : (x : Option ℕ) → r ≡ x → x ≡ free_in (label_in (block_long g) bs) g.blocks g.blocks (home g l)
   inserted_found x q = sym q ∙ er ∙ rw es
 
   pub inserted_made : (e k n : ℕ) (xs s₁ s₂ : List ℕ) → s₁ ≡ put_block (block_long g) bs e (block_with (block_long g) l n xs) → k ≡ distance_of g.blocks start e
-      → s₂ ≡ settle (bytes (block_long g)) (before g) g.blocks k e start s₁ → s₂ ≡ inserted g (At e) l n xs bs
+      → s₂ ≡ settle (bytes (block_long g)) (before g) g.blocks k e start s₁ → s₂ ≡ inserted g (Some e) l n xs bs
   unfolding inserted
   inserted_made e k n xs s₁ s₂ e₁ ek e₂ = e₂ ∙ rw (ek, es, e₁)
 
-pub inserted_same : (g : Sizes) (l : Label) (n : ℕ) (xs bs : List ℕ) → bs ≡ inserted g Nothing l n xs bs
+pub inserted_same : (g : Sizes) (l : Label) (n : ℕ) (xs bs : List ℕ) → bs ≡ inserted g None l n xs bs
 unfolding inserted
 inserted_same g l n xs bs = refl
 

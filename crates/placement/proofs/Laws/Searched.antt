@@ -1,5 +1,5 @@
 -- Where the search for each label that stands ends at its block, rule 3 holds: what a check of the bytes rests on.
-use Rattle.std.proofs.Common.{◌≡◌, ℕ, zero, suc, ◌+◌, ◌*◌, ◌%◌, ◌<◌, Bool, true, false, cond, ◌≢◌, List, [], ◌++◌, length, get_or, take, sym, refl, ap, ◌∙◌, subst, true≢false, add-zero, mod-lt, arith, length-take-le}
+use Rattle.std.proofs.Common.{◌≡◌, ℕ, zero, suc, ◌+◌, ◌*◌, ◌%◌, ◌<◌, Bool, true, false, cond, ◌≢◌, List, [], ◌++◌, length, get_or, take, sym, refl, ap, ◌∙◌, subst, true≢false, add-zero, mod-lt, arith, length-take-le, Some}
 use Rattle.placement.specs.Blocks.{Block, empty, holds, around, holds_smaller, Stands, Rule3, how_many}
 use Rattle.sizes.specs.declared.Sizes.{Sizes}
 use Rattle.placement.specs.Labels.{label, before}
@@ -11,7 +11,6 @@ use Rattle.placement.specs.Decode.{blocks_in}
 use Rattle.placement.specs.declared.Label.{Label}
 use Rattle.placement.specs.Place.{label_in, probe, search_in}
 use Rattle.placement.specs.Maps.{chunk, map_of, Holdable, Table}
-use Rattle.placement.specs.declared.Found.TheVariants.{At}
 use Rattle.placement.proofs.Laws.Maps.{lawful, nodes_at}
 use Rattle.placement.proofs.Laws.Kinds.{holds_read}
 use Rattle.sizes.proofs.Laws.Round.{steps_same}
@@ -33,10 +32,10 @@ pub record Ended (before : Chunk → Chunk → Bool) (m : ℕ) (c : Chunk) (bl :
   pub smaller : (l : ℕ) → l < steps → holds_smaller before c (around m bl (i + l)) ≡ true
 
 module _ (before : Chunk → Chunk → Bool) (m : ℕ) (c : Chunk) (bl : List (Block Chunk)) where
-  same_at : (a b : ℕ) → At a ≡ At b → a ≡ b
+  same_at : (a b : ℕ) → Some a ≡ Some b → a ≡ b
   same_at a b e = cc
 
-  pub ended : (f i j : ℕ) → place_of m (search_from before f i m c bl) ≡ At j → Ended before m c bl f i j
+  pub ended : (f i j : ℕ) → place_of m (search_from before f i m c bl) ≡ Some j → Ended before m c bl f i j
   unfolding search_from
   ended zero i j e = absurd (true≢false cc)
   ended (suc f) i j e = go (around m bl i) refl e (λ z. ended f (suc i) j z)
@@ -48,12 +47,12 @@ module _ (before : Chunk → Chunk → Bool) (m : ℕ) (c : Chunk) (bl : List (B
           all zero w = rw (add-zero, z) h
           all (suc l) w = ap (λ (n : ℕ). holds_smaller before c (around m bl n)) (omega arith) ∙ r.smaller l (omega arith)
 
-      go : (b : Block Chunk) → around m bl i ≡ b → place_of m (search_step before c i b (search_from before f (suc i) m c bl)) ≡ At j
-          → (place_of m (search_from before f (suc i) m c bl) ≡ At j → Ended before m c bl f (suc i) j) → Ended before m c bl (suc f) i j
+      go : (b : Block Chunk) → around m bl i ≡ b → place_of m (search_step before c i b (search_from before f (suc i) m c bl)) ≡ Some j
+          → (place_of m (search_from before f (suc i) m c bl) ≡ Some j → Ended before m c bl f (suc i) j) → Ended before m c bl (suc f) i j
       go empty z e rest = absurd (true≢false cc)
       go (holds d) z e rest = test (before d c) (before c d) refl e
         where
-          test : (p q : Bool) → before d c ≡ p → place_of m (cond p (search_from before f (suc i) m c bl) (cond q absent (at_place i d))) ≡ At j
+          test : (p q : Bool) → before d c ≡ p → place_of m (cond p (search_from before f (suc i) m c bl) (cond q absent (at_place i d))) ≡ Some j
               → Ended before m c bl (suc f) i j
           test true q h e = later d z h (rest e)
           test false true h e = absurd (true≢false cc)
@@ -62,7 +61,7 @@ module _ (before : Chunk → Chunk → Bool) (m : ℕ) (c : Chunk) (bl : List (B
 module _ (s : Sizes) (some : 0 < s.blocks) (bl : List (Block Chunk)) (v : AllGood s bl) where
   -- the search over the labels finds every chunk in its block
   abbrev pub AllFound : Type 0
-  AllFound = (c : Chunk) (i : ℕ) → i < s.blocks → get_or bl i empty ≡ holds c → probe (before s) (λ j. label_of (get_or bl j empty)) s.blocks c.label s.blocks (chunk_home s c) ≡ At i
+  AllFound = (c : Chunk) (i : ℕ) → i < s.blocks → get_or bl i empty ≡ holds c → probe (before s) (λ j. label_of (get_or bl j empty)) s.blocks c.label s.blocks (chunk_home s c) ≡ Some i
 
   -- what stands in a good block can be held
   holdable : (c : Chunk) (i : ℕ) → get_or bl i empty ≡ holds c → Holdable s c
@@ -76,7 +75,7 @@ module _ (s : Sizes) (some : 0 < s.blocks) (bl : List (Block Chunk)) (v : AllGoo
   unfolding around
   found_rule_3 found c k few z =
       let i : ℕ = (chunk_home s c + k) % s.blocks in
-      let e : place_of s.blocks (search_from (chunk_before s) s.blocks (chunk_home s c) s.blocks c bl) ≡ At i =
+      let e : place_of s.blocks (search_from (chunk_before s) s.blocks (chunk_home s c) s.blocks c bl) ≡ Some i =
       sym (probe_theory s c.label (holdable c i z).level c.nodes s.blocks s.blocks (chunk_home s c) bl v) ∙ found c i (mod-lt (chunk_home s c + k) some) z in
       let r = ended (chunk_before s) s.blocks c bl s.blocks (chunk_home s c) i e in
       λ l w. r.smaller l (omega (arith, steps_same s.blocks (chunk_home s c) (home_inside s some c.label) r.steps k r.few few r.there))
@@ -85,7 +84,7 @@ module _ (s : Sizes) (some : 0 < s.blocks) (bl : List (Block Chunk)) (v : AllGoo
 module _ (s : Sizes) (good : made s ≡ true) (hd : List ℕ) (head : length hd ≡ 53) (sizes : sizes_in hd ≡ s) (bl : List (Block Chunk)) (v : AllGood s bl) (long : length bl ≡ s.blocks) where
   -- THE BYTES keep the map that is read off the blocks
   pub searched_keeps : ((c : Chunk) → Stands s.blocks bl c → c.nodes ≢ [])
-      → ((c : Chunk) (i : ℕ) → i < s.blocks → get_or bl i empty ≡ holds c → search_in s (hd ++ all_bytes s bl) c.label ≡ At i)
+      → ((c : Chunk) (i : ℕ) → i < s.blocks → get_or bl i empty ≡ holds c → search_in s (hd ++ all_bytes s bl) c.label ≡ Some i)
       → Table s (nodes_at bl) (how_many bl) hd (hd ++ all_bytes s bl)
   unfolding nodes_at map_of around
   searched_keeps full found =
@@ -106,7 +105,7 @@ module _ (s : Sizes) (good : made s ≡ true) (hd : List ℕ) (head : length hd 
 -- THE CHECK OF BYTES: clean blocks, and each label that stands is found where it stands
 module _ (s : Sizes) (good : made s ≡ true) (bs : List ℕ) (long : length bs ≡ 53 + s.blocks * block_long s) (sizes : sizes_in (take 53 bs) ≡ s) (bytes : Bytes bs)
     (clean : (i : ℕ) → i < s.blocks → Clean s (block_in (block_long s) bs i))
-    (found : (i : ℕ) → i < s.blocks → (label_in (block_long s) bs i).level ≢ 0 → search_in s bs (label_in (block_long s) bs i) ≡ At i) where
+    (found : (i : ℕ) → i < s.blocks → (label_in (block_long s) bs i).level ≢ 0 → search_in s bs (label_in (block_long s) bs i) ≡ Some i) where
   all : AllGood s (blocks_in s bs)
   all = blocks_good s bs long bytes clean
 
@@ -130,5 +129,5 @@ module _ (s : Sizes) (good : made s ≡ true) (bs : List ℕ) (long : length bs 
       (λ c i h e.
       let l = label_is c i h e in
       let some = (holdable s (some_blocks s good) (blocks_in s bs) all c i e).level in
-      subst (λ (x : List ℕ). search_in s x c.label ≡ At i) is
-      (subst (λ (w : Label). search_in s bs w ≡ At i) l (found i h (λ z. omega (arith, ap (λ (w : Label). w.level) l))))))
+      subst (λ (x : List ℕ). search_in s x c.label ≡ Some i) is
+      (subst (λ (w : Label). search_in s bs w ≡ Some i) l (found i h (λ z. omega (arith, ap (λ (w : Label). w.level) l))))))

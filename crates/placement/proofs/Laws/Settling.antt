@@ -1,5 +1,5 @@
 -- The insertion by the code, on a list of blocks, is the insertion of the theory.
-use Rattle.std.proofs.Common.{◌≡◌, ℕ, zero, suc, ◌+◌, ◌%◌, ◌<◌, Bool, true, false, cond, ◌≢◌, List, length, get_or, set, sym, refl, ap, ◌∙◌, true≢false, add-zero, arith, length-set, get_or-set_other, get_or-set_same, set-set, eq-eqb, ne_eqb}
+use Rattle.std.proofs.Common.{◌≡◌, ℕ, zero, suc, ◌+◌, ◌%◌, ◌<◌, Bool, true, false, cond, ◌≢◌, List, length, get_or, set, sym, refl, ap, ◌∙◌, true≢false, add-zero, arith, length-set, get_or-set_other, get_or-set_same, set-set, eq-eqb, ne_eqb, Some}
 use native.Mathlib.Decide.{ℕ_discrete}
 use lib.Seq.{set_comm}
 use Rattle.placement.specs.Blocks.{Block, empty, holds, around, stored, is_free}
@@ -8,7 +8,6 @@ use Rattle.placement.specs.Labels.{before}
 use Rattle.placement.specs.Chunks.{Chunk, chunk_before}
 use Rattle.placement.specs.Place.{settle, free_in}
 use Rattle.placement.specs.declared.Label.{Label}
-use Rattle.placement.specs.declared.Found.TheVariants.{At}
 use Rattle.placement.proofs.Laws.Blocks.{stored_there, stored_elsewhere}
 use Rattle.placement.proofs.Laws.Insertion.{insert_from, Carry, carry_on, carry_swap}
 use Rattle.placement.proofs.Laws.Labels.{labels_strict, labels_chain}
@@ -99,7 +98,7 @@ module _ (s : Sizes) (some : 0 < s.blocks) where
 
 -- the code finds the first empty block, k steps on
 pub free_first : (look : ℕ → Label) (m fuel i k : ℕ) → k < fuel → (look ((i + k) % m)).level ≡ 0
-    → ((l : ℕ) → l < k → (look ((i + l) % m)).level ≢ 0) → free_in look m fuel i ≡ At ((i + k) % m)
+    → ((l : ℕ) → l < k → (look ((i + l) % m)).level ≢ 0) → free_in look m fuel i ≡ Some ((i + k) % m)
 unfolding free_in
 free_first look m zero i k w z full = absurd (omega arith)
 free_first look m (suc f) i zero w z full = rw (add-zero, eq-eqb _ _ (rw add-zero at z))

@@ -1,5 +1,5 @@
 -- WHAT PLACEMENT PROMISES: what search, removal, insertion and change by the code do to the map that the bytes of a table keep.
-use Rattle.std.proofs.Common.{◌≡◌, ℕ, suc, ◌+◌, ◌-◌, ◌<◌, ◌≤◌, true, false, ◌≢◌, List, [], ◌∷◌, ◌++◌, length, get_or, set, sym, refl, ap, ◌∙◌, subst, true≢false, mod-eq_of_lt, arith, length-append}
+use Rattle.std.proofs.Common.{◌≡◌, ℕ, suc, ◌+◌, ◌-◌, ◌<◌, ◌≤◌, true, false, ◌≢◌, List, [], ◌∷◌, ◌++◌, length, get_or, set, sym, refl, ap, ◌∙◌, subst, true≢false, mod-eq_of_lt, arith, length-append, Option, Some, None}
 use native.Mathlib.Decide.{dec_lt}
 use lib.ListN.{get_or-eq_default}
 use lib.Seq.{sets, length-sets}
@@ -15,8 +15,6 @@ use Rattle.sizes.specs.Parts.{put_block}
 use Rattle.placement.specs.Place.{Shaped, label_in, search_in, bytes, pull, found_at, taken_out, free_in, block_with, inserted}
 use Rattle.placement.specs.Maps.{Map, chunk, Keeps, Holdable, Sound, labelled, nodes_of, with_nodes, cleared, Table, Finds, is_at, is_none, with_chunk, without_label}
 use Rattle.placement.specs.declared.Label.{Label}
-use Rattle.placement.specs.declared.Found.{Found}
-use Rattle.placement.specs.declared.Found.TheVariants.{At, Nothing}
 use Rattle.placement.proofs.Laws.Labels.{LabelIs, is, isnt, label_is}
 use Rattle.sizes.proofs.Laws.Sizes.{some_blocks, limits, row_least, row_most}
 use Rattle.placement.proofs.Laws.Blocks.{around_inside}
@@ -100,10 +98,10 @@ module _ (s : Sizes) (F : Map) (n : ℕ) (hd bs : List ℕ) (t : Table s F n hd 
       (rw (search_blocks s some hd t.head t.blocks all t.keeps.long w)
       (go _ (search_told s some F n t.blocks all t.keeps w pos)))
     where
-      go : (r : Found) → Told s F w t.blocks r → Finds s F w (hd ++ all_bytes s t.blocks) r
-      go (At i) (Finding.is_at h e q) =
+      go : (r : Option ℕ) → Told s F w t.blocks r → Finds s F w (hd ++ all_bytes s t.blocks) r
+      go (Some i) (Finding.is_at h e q) =
           is_at h q (block_bytes_at s some hd t.head t.blocks all t.keeps.long i h ∙ ap (block_bytes s) (sym (around_inside s.blocks t.blocks i h) ∙ e))
-      go Nothing (Finding.is_none q) = is_none q
+      go None (Finding.is_none q) = is_none q
 
   -- HOW MANY blocks are full: no more than there are, and some where a label has nodes
   pub count_most : n ≤ s.blocks
@@ -115,14 +113,14 @@ module _ (s : Sizes) (F : Map) (n : ℕ) (hd bs : List ℕ) (t : Table s F n hd 
       omega (arith, store_count s.blocks t.blocks z.at (holds (labelled w (nodes_of F w))) empty t.keeps.long some z.is, t.keeps.count)
 
   -- a block that is found has the label's chunk
-  pub found_there : (w : Label) (i : ℕ) → 0 < w.level → search_in s bs w ≡ At i
+  pub found_there : (w : Label) (i : ℕ) → 0 < w.level → search_in s bs w ≡ Some i
       → (i < s.blocks) × (around s.blocks t.blocks i ≡ holds (labelled w (nodes_of F w))) × (nodes_of F w ≢ [])
   found_there w i pos e =
       go (subst (Told s F w t.blocks)
       (sym (search_blocks s some hd t.head t.blocks all t.keeps.long w) ∙ ap (λ (x : List ℕ). search_in s x w) (sym t.is) ∙ e)
       (search_told s some F n t.blocks all t.keeps w pos))
     where
-      go : Told s F w t.blocks (At i) → (i < s.blocks) × (around s.blocks t.blocks i ≡ holds (labelled w (nodes_of F w))) × (nodes_of F w ≢ [])
+      go : Told s F w t.blocks (Some i) → (i < s.blocks) × (around s.blocks t.blocks i ≡ holds (labelled w (nodes_of F w))) × (nodes_of F w ≢ [])
       go (Finding.is_at h z q) = (h, z, q)
 
   -- a table of the same header, by its blocks
@@ -130,7 +128,7 @@ module _ (s : Sizes) (F : Map) (n : ℕ) (hd bs : List ℕ) (t : Table s F n hd 
   now_keeps G k bl bs' e q h = record { good = t.good; head = t.head; sizes = t.sizes; sound = q; blocks = bl; is = e; keeps = h }
 
   -- REMOVAL of the chunk in a block that was found
-  pub pull_keeps : (w : Label) (i : ℕ) → 0 < w.level → search_in s bs w ≡ At i
+  pub pull_keeps : (w : Label) (i : ℕ) → 0 < w.level → search_in s bs w ≡ Some i
       → Table s (cleared w F) (n - 1) hd (pull (bytes (block_long s)) (home s) s.blocks (s.blocks - 1) i (i + 1) bs)
   unfolding without_label
   pull_keeps w i pos e =
@@ -148,22 +146,22 @@ module _ (s : Sizes) (F : Map) (n : ℕ) (hd bs : List ℕ) (t : Table s F n hd 
   unfolding taken_out found_at
   remove_keeps w pos full = go (search_in s bs w) refl (find_told w pos)
     where
-      go : (r : Found) → search_in s bs w ≡ r → Finds s F w bs r → (found_at r ≡ true) × Table s (cleared w F) (n - 1) hd (taken_out s r bs)
-      go (At i) e f = (refl, pull_keeps w i pos e)
-      go Nothing e (is_none z) = absurd (full z)
+      go : (r : Option ℕ) → search_in s bs w ≡ r → Finds s F w bs r → (found_at r ≡ true) × Table s (cleared w F) (n - 1) hd (taken_out s r bs)
+      go (Some i) e f = (refl, pull_keeps w i pos e)
+      go None e (is_none z) = absurd (full z)
 
   pub remove_none : (w : Label) → 0 < w.level → nodes_of F w ≡ []
       → (found_at (search_in s bs w) ≡ false) × (taken_out s (search_in s bs w) bs ≡ bs)
   unfolding taken_out found_at
   remove_none w pos gone = go (search_in s bs w) (find_told w pos)
     where
-      go : (r : Found) → Finds s F w bs r → (found_at r ≡ false) × (taken_out s r bs ≡ bs)
-      go (At i) (is_at h z e) = absurd (z gone)
-      go Nothing f = (refl, refl)
+      go : (r : Option ℕ) → Finds s F w bs r → (found_at r ≡ false) × (taken_out s r bs ≡ bs)
+      go (Some i) (is_at h z e) = absurd (z gone)
+      go None f = (refl, refl)
 
   -- INSERTION of a chunk whose label is absent
   pub insert_keeps : (w : Label) (ns : List Order) → Holdable s (labelled w ns) → nodes_of F w ≡ [] → ns ≢ [] → n < s.blocks
-      → (r : Found) (bs' : List ℕ) → r ≡ free_in (label_in (block_long s) bs) s.blocks s.blocks (home s w)
+      → (r : Option ℕ) (bs' : List ℕ) → r ≡ free_in (label_in (block_long s) bs) s.blocks s.blocks (home s w)
       → bs' ≡ inserted s r w (length ns) (nodes_bytes (row s) ns) bs → Table s (with_nodes w ns F) (suc n) hd bs'
   unfolding with_chunk
   insert_keeps w ns q gone full room r bs' er eb =
@@ -174,7 +172,7 @@ module _ (s : Sizes) (F : Map) (n : ℕ) (hd bs : List ℕ) (t : Table s F n hd 
       (sound_with s F (labelled w ns) t.sound q) (put_in (lawful s some) (labelled w ns) t.keeps gone full room)
 
   -- CHANGE of the nodes in a block that was found
-  pub write_keeps : (w : Label) (i : ℕ) (ns : List Order) → 0 < w.level → search_in s bs w ≡ At i → Holdable s (labelled w ns) → ns ≢ []
+  pub write_keeps : (w : Label) (i : ℕ) (ns : List Order) → 0 < w.level → search_in s bs w ≡ Some i → Holdable s (labelled w ns) → ns ≢ []
       → Table s (with_nodes w ns F) n hd (put_block (block_long s) bs i (block_with (block_long s) w (length ns) (nodes_bytes (row s) ns)))
   unfolding with_chunk
   write_keeps w i ns pos e q full =

@@ -1,4 +1,5 @@
 -- A visit of a whole table, and what it answers: the number of orders in a range, their rows, the first that has a reserve.
+use Rattle.std.proofs.Common.{Some, None}
 use mathlib.Core.Path.{◌≡◌, refl, sym, ap, ◌∙◌, subst}
 use mathlib.Core.Bool.{Bool, true, false, ◌&&◌, cond, false≢true}
 use mathlib.Core.List.{List, [], ◌∷◌, ◌++◌}
@@ -24,7 +25,6 @@ use Rattle.skiplist.proofs.Laws.Walk.{walk_all}
 use Rattle.skiplist.proofs.Laws.Kept.{fits_parts}
 use Rattle.skiplist.proofs.Laws.Third.{image_parts}
 use Rattle.readings.specs.declared.Visit.{Visit}
-use Rattle.readings.specs.declared.calls.Sought.TheVariants.{Is, Nothing}
 use Rattle.readings.specs.Visit.{Scan, scan, starting, steps, Known, under, first_of}
 use Rattle.readings.proofs.Laws.Visits.{step_below}
 use Rattle.readings.proofs.Laws.Chunked.{kept_by, orders_up}
@@ -115,8 +115,8 @@ module _ (bs : List ℕ) (image : is_image bs ≡ true) (lo hi : ℕ) where
         ap (λ (y : Scan). answer_of y.visit) e
         ∙ sought (width bs) (row_least (sizes_in bs)) (starting lo hi least false true) x refl refl refl (orders_in bs) 1 (orders_up (sizes_in bs) bs (known_image bs image))
 
-    pub sought_none : w.found ≡ 0 → Nothing ≡ first_of (enough least (between lo hi (orders_in bs)))
+    pub sought_none : w.found ≡ 0 → None ≡ first_of (enough least (between lo hi (orders_in bs)))
     sought_none f = rw (eq-eqb w.found 0 f) at answer
 
-    pub sought_some : (w.found ≡ 0 → ⊥) → Is (record { key = w.key; total = w.total; displayed = w.displayed; price = w.price }) ≡ first_of (enough least (between lo hi (orders_in bs)))
+    pub sought_some : (w.found ≡ 0 → ⊥) → Some (record { key = w.key; total = w.total; displayed = w.displayed; price = w.price }) ≡ first_of (enough least (between lo hi (orders_in bs)))
     sought_some f = rw (ne_eqb w.found 0 f) at answer

@@ -1,4 +1,5 @@
 -- What the search for a chunk finds in an image: the next piece of a partition, as its bytes say.
+use Rattle.std.proofs.Common.{Option, Some, None}
 use mathlib.Core.Path.{◌≡◌, refl, sym, ap, ◌∙◌, subst}
 use mathlib.Core.Bool.{true}
 use mathlib.Core.List.{List, [], ◌∷◌, map}
@@ -16,8 +17,6 @@ use Rattle.placement.specs.Labels.{label}
 use Rattle.placement.specs.Maps.{Map, map_of, Table, Finds, is_at, is_none}
 use Rattle.sizes.specs.declared.Sizes.{Sizes}
 use Rattle.placement.specs.declared.Order.{Order}
-use Rattle.placement.specs.declared.Found.{Found}
-use Rattle.placement.specs.declared.Found.TheVariants.{At, Nothing}
 use Rattle.sizes.proofs.Laws.Sizes.{limits}
 use Rattle.placement.proofs.Laws.Tables.{find_told}
 use Rattle.placement.proofs.Laws.Cells.{length_zero}
@@ -75,16 +74,16 @@ module _ (s : Sizes) (bs : List ℕ) (w : Known s bs) where
     told : told_by s bs l f i ≡ map (masked l) (piece s bs l f i)
     told = map_is s l f i (orders_in bs) (limits s w.sizes_made).nodes_some orders_up low high
 
-    finds : (r : Found) → r ≡ search_in s bs (label l f i) → Finds s (told_by s bs) (label l f i) bs r
+    finds : (r : Option ℕ) → r ≡ search_in s bs (label l f i) → Finds s (told_by s bs) (label l f i) bs r
     finds r e = subst (Finds s (told_by s bs) (label l f i) bs) (sym e) (find_told s (told_by s bs) _ _ bs kept (label l f i) low)
 
     nothing_there : told_by s bs l f i ≡ [] → drop (i * s.nodes) (part s (orders_in bs) l f) ≡ []
     nothing_there e = none_left l s.nodes _ (limits s w.sizes_made).nodes_some (sym told ∙ e)
 
-    pub chunk_none : (r : Found) → r ≡ search_in s bs (label l f i) → r ≡ Nothing → drop (i * s.nodes) (part s (orders_in bs) l f) ≡ []
-    chunk_none r e n = go (finds Nothing (sym n ∙ e))
+    pub chunk_none : (r : Option ℕ) → r ≡ search_in s bs (label l f i) → r ≡ None → drop (i * s.nodes) (part s (orders_in bs) l f) ≡ []
+    chunk_none r e n = go (finds None (sym n ∙ e))
       where
-        go : Finds s (told_by s bs) (label l f i) bs Nothing → drop (i * s.nodes) (part s (orders_in bs) l f) ≡ []
+        go : Finds s (told_by s bs) (label l f i) bs None → drop (i * s.nodes) (part s (orders_in bs) l f) ≡ []
         go (is_none z) = nothing_there z
 
     pub chunk_end : 65536 ≤ i → drop (i * s.nodes) (part s (orders_in bs) l f) ≡ []
@@ -94,11 +93,11 @@ module _ (s : Sizes) (bs : List ℕ) (w : Known s bs) where
         go [] e = nothing_there e
         go (n ∷ ns) e = absurd (omega (arith, (kept.sound l f i (λ z. omega (arith, ap length (sym e ∙ z)))).number))
 
-    pub chunk_read : (r : Found) → r ≡ search_in s bs (label l f i) → (b : ℕ) → r ≡ At b → Read s bs l b (piece s bs l f i)
+    pub chunk_read : (r : Option ℕ) → r ≡ search_in s bs (label l f i) → (b : ℕ) → r ≡ Some b → Read s bs l b (piece s bs l f i)
     unfolding chunk_spot spot nodes_read count_in
-    chunk_read r e b q = go (finds (At b) (sym q ∙ e))
+    chunk_read r e b q = go (finds (Some b) (sym q ∙ e))
       where
-        go : Finds s (told_by s bs) (label l f i) bs (At b) → Read s bs l b (piece s bs l f i)
+        go : Finds s (told_by s bs) (label l f i) bs (Some b) → Read s bs l b (piece s bs l f i)
         go (is_at h full is) =
             let some : 0 < length (told_by s bs l f i) = pos_of_ne-zero (λ z. full (length_zero (told_by s bs l f i) z)) in
             let read : nodes_from (row s) (get_or bs (53 + b * block_long s + 1) 0) (drop (53 + b * block_long s + 8) bs) ≡ map (masked l) (piece s bs l f i) =

@@ -1,4 +1,5 @@
 -- The way down to one key: the order where it ends, and the path that is written.
+use Rattle.std.proofs.Common.{Option, Some, None}
 use mathlib.Core.Path.{◌≡◌, refl, sym, ap, ◌∙◌, subst}
 use mathlib.Core.Bool.{true, cond}
 use mathlib.Core.List.{List, [], ◌∷◌, ◌++◌, append_assoc}
@@ -34,8 +35,6 @@ use Rattle.levels.proofs.Laws.Leading.{last_of, last_append, Ends}
 use Rattle.levels.proofs.Laws.Arriving.{arrives, last_listed}
 use Rattle.readings.specs.Visit.{Known, first_of}
 use Rattle.readings.specs.Descent.{way, landed, Written}
-use Rattle.readings.specs.declared.calls.Sought.{Sought}
-use Rattle.readings.specs.declared.calls.Sought.TheVariants.{Is, Nothing}
 use Rattle.readings.proofs.Laws.Chunked.{orders_up}
 
 -- THE ORDER OF A KEY among rising orders: those below it, and what comes then
@@ -46,11 +45,11 @@ between_behind lo hi (x ∷ xs) zs e =
     let w = and_parts (ltb x.key lo) (below lo xs) e in
     rw (lt-leb lo x.key (ltb-true x.key lo w.0)) (between_behind lo hi xs zs w.1)
 
-found_there : (xs : List Order) (y : Order) (zs : List Order) → below y.key xs ≡ true → first_of (between y.key y.key (xs ++ y ∷ zs)) ≡ Is y
+found_there : (xs : List Order) (y : Order) (zs : List Order) → below y.key xs ≡ true → first_of (between y.key y.key (xs ++ y ∷ zs)) ≡ Some y
 unfolding between first_of
 found_there xs y zs e = rw (between_behind y.key y.key xs (y ∷ zs) e, le-leb y.key y.key (omega arith))
 
-found_absent : (k : ℕ) (xs zs : List Order) → below k xs ≡ true → Up (suc k) zs → first_of (between k k (xs ++ zs)) ≡ Nothing
+found_absent : (k : ℕ) (xs zs : List Order) → below k xs ≡ true → Up (suc k) zs → first_of (between k k (xs ++ zs)) ≡ None
 unfolding first_of
 found_absent k xs zs e u = rw (between_behind k k xs zs e, between_above k k (suc k) zs (omega arith) u)
 
@@ -73,21 +72,21 @@ unfolding below
 below_one k y h = rw (lt-ltb y.key k h)
 
 -- what stands where a way has ended
-landed_is : (s : Sizes) (bs : List ℕ) (k : ℕ) (t : Trail) (o : Order) → Ends s bs t o → landed (row s) bs t.at k ≡ cond (eqb o.key k) (Is o) Nothing
+landed_is : (s : Sizes) (bs : List ℕ) (k : ℕ) (t : Trail) (o : Order) → Ends s bs t o → landed (row s) bs t.at k ≡ cond (eqb o.key k) (Some o) None
 unfolding landed
 landed_is s bs k t o e = rw (ne_eqb t.at 0 (omega (arith, e.1.0)), e.1.1)
 
 module _ (w : ℕ) (bs : List ℕ) (a k : ℕ) where
-  pub landed_none : a ≡ 0 → Nothing ≡ landed w bs a k
+  pub landed_none : a ≡ 0 → None ≡ landed w bs a k
   unfolding landed
   landed_none e = rw e
 
   module _ (h : a ≡ 0 → ⊥) (o : Order) (eo : o ≡ node_of w bs a) where
-    pub landed_other : (o.key ≡ k → ⊥) → Nothing ≡ landed w bs a k
+    pub landed_other : (o.key ≡ k → ⊥) → None ≡ landed w bs a k
     unfolding landed
     landed_other n = rw (ne_eqb a 0 h, ← eo, ne_eqb o.key k n)
 
-    pub landed_found : o.key ≡ k → Is o ≡ landed w bs a k
+    pub landed_found : o.key ≡ k → Some o ≡ landed w bs a k
     unfolding landed
     landed_found e = rw (ne_eqb a 0 h, ← eo, eq-eqb o.key k e)
 
@@ -152,10 +151,10 @@ module _ (s : Sizes) (bs : List ℕ) (w : Known s bs) (k : ℕ) (pos : 1 ≤ k) 
         }
 
     -- THE ORDER OF THE KEY is what stands there, if it has the key
-    pub ends_right : (o : List ℕ) → (z : Order) × Reached o z × (cond (eqb z.key k) (Is z) Nothing ≡ first_of (between k k (orders_in bs)))
+    pub ends_right : (o : List ℕ) → (z : Order) × Reached o z × (cond (eqb z.key k) (Some z) None ≡ first_of (between k k (orders_in bs)))
     ends_right o = go (place k 1 (orders_in bs) (orders_up s bs w))
       where
-        go : Place k (orders_in bs) → (z : Order) × Reached o z × (cond (eqb z.key k) (Is z) Nothing ≡ first_of (between k k (orders_in bs)))
+        go : Place k (orders_in bs) → (z : Order) × Reached o z × (cond (eqb z.key k) (Some z) None ≡ first_of (between k k (orders_in bs)))
         go (there xs y zs e h) =
             let u : Up 1 (xs ++ y ∷ zs) = rw e at (orders_up s bs w) in
             let b = below_here xs y zs 1 u in
@@ -172,12 +171,12 @@ module _ (s : Sizes) (bs : List ℕ) (w : Known s bs) (k : ℕ) (pos : 1 ≤ k) 
           rw (ne_eqb (last_of front xs).key k (λ h. omega (arith, last_low k xs (omega arith) b)), e) (sym (found_absent k xs zs b u)),
         )
 
-    pub order_right : (o : List ℕ) (t : Trail) (z : List ℕ) → trek t z ≡ way q bs k o → (r : Sought) → r ≡ landed (row q.sizes) bs t.at k → r ≡ first_of (between k k (orders_in bs))
+    pub order_right : (o : List ℕ) (t : Trail) (z : List ℕ) → trek t z ≡ way q bs k o → (r : Option Order) → r ≡ landed (row q.sizes) bs t.at k → r ≡ first_of (between k k (orders_in bs))
     order_right o t z e r er =
         let v = ends_right o in
         er ∙ ap (λ (x : Sizes). landed (row x) bs t.at k) eq ∙ ap (λ (x : Trek). landed (row s) bs x.trail.at k) (e ∙ v.1.is) ∙ landed_is s bs k v.1.trail v.0 v.1.ends ∙ v.2
 
     -- .. by the way alone
-    pub order_alone : (t : Trail) → t ≡ way_down q.sizes bs q.top 0 k → (r : Sought) → r ≡ landed (row q.sizes) bs t.at k → r ≡ first_of (between k k (orders_in bs))
+    pub order_alone : (t : Trail) → t ≡ way_down q.sizes bs q.top 0 k → (r : Option Order) → r ≡ landed (row q.sizes) bs t.at k → r ≡ first_of (between k k (orders_in bs))
     unfolding way_down
     order_alone t e r er = order_right (0 ∷ []) t (way q bs k (0 ∷ [])).path (ap (λ (x : Trail). trek x (way q bs k (0 ∷ [])).path) e) r er

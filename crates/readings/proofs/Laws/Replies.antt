@@ -1,4 +1,5 @@
 -- The answers of lookup, span and seek: each question in its order, and what is said where none turns the call down.
+use Rattle.std.proofs.Common.{Option, Some, None}
 use mathlib.Core.Path.{◌≡◌, refl, sym, ap, ◌∙◌, subst}
 use mathlib.Core.Bool.{Bool, true, false, ◌&&◌, cond, true≢false}
 use mathlib.Core.List.{List, [], ◌∷◌, ◌++◌}
@@ -20,8 +21,6 @@ use Rattle.skiplist.proofs.Laws.Questions.{passes}
 use Rattle.skiplist.proofs.Laws.Third.{taken}
 use Rattle.readings.specs.declared.Visit.{Visit}
 use Rattle.table.specs.declared.Reply.{Reply}
-use Rattle.readings.specs.declared.calls.Sought.{Sought}
-use Rattle.readings.specs.declared.calls.Sought.TheVariants.{Is, Nothing}
 use Rattle.table.specs.Calls.{reply, gives, check_number, order_of, LookAs, LookSays, SpanAs, SpanSays, SeekAs, SeekSays}
 use Rattle.readings.specs.Visit.{scan, starting, steps, first_of}
 use Rattle.readings.proofs.Laws.Answers.{width, counted_all, written_all}
@@ -44,27 +43,27 @@ unfolding is_key
 key_least k b e t = leb-true 1 k (and_parts (leb 1 k) (ltb k prime) (sym e ∙ t)).0
 
 -- THE FIRST OF SOME ORDERS
-pub first_is : (ys : List Order) (o : Order) → Is o ≡ first_of ys → (any_order ys ≡ true) × (lowest ys ≡ o)
+pub first_is : (ys : List Order) (o : Order) → Some o ≡ first_of ys → (any_order ys ≡ true) × (lowest ys ≡ o)
 unfolding first_of any_order lowest
 first_is [] o e = absurd (true≢false (cc))
 first_is (y ∷ ys) o e = (refl, cc)
 
-pub first_empty : (ys : List Order) → Nothing ≡ first_of ys → ys ≡ []
+pub first_empty : (ys : List Order) → None ≡ first_of ys → ys ≡ []
 unfolding first_of
 first_empty [] e = refl
 first_empty (y ∷ ys) e = absurd (true≢false (cc))
 
 -- WHAT THE SEARCH FOR A KEY FOUND: the order that has it, or that it is not held
-module _ (k : ℕ) (os : List Order) (q : Sought) (eq : q ≡ first_of (between k k os)) where
-  pub sought_absent : q ≡ Nothing → held k os ≡ false
+module _ (k : ℕ) (os : List Order) (q : Option Order) (eq : q ≡ first_of (between k k os)) where
+  pub sought_absent : q ≡ None → held k os ≡ false
   unfolding any_order
   sought_absent z = (held_between k os).0 ∙ ap any_order (first_empty (between k k os) (sym z ∙ eq))
 
-  pub sought_there : (o : Order) → q ≡ Is o → (held k os ≡ true) × (order_of k os ≡ o)
+  pub sought_there : (o : Order) → q ≡ Some o → (held k os ≡ true) × (order_of k os ≡ o)
   unfolding order_of
   sought_there o z = let f = first_is (between k k os) o (sym z ∙ eq) in ((held_between k os).0 ∙ f.0, f.1)
 
-  pub sought_key : (o : Order) → q ≡ Is o → o.key ≡ k
+  pub sought_key : (o : Order) → q ≡ Some o → o.key ≡ k
   sought_key o z = let f = first_is (between k k os) o (sym z ∙ eq) in ap (λ (y : Order). y.key) (sym f.1) ∙ (held_between k os).1 f.0
 
 -- LOOKUP
@@ -82,12 +81,12 @@ module _ (bs : List ℕ) (k : ℕ) (r : Reply) where
     unfolding LookAs gives
     look_5 e h = look_by true false _ image (sym eb ∙ e) refl h
 
-    module _ (e : b ≡ true) (q : Sought) (eq : q ≡ first_of (between k k (orders_in bs))) where
-      pub look_9 : q ≡ Nothing → r ≡ reply 9 0 0 0 0 0 → LookSays bs k r
+    module _ (e : b ≡ true) (q : Option Order) (eq : q ≡ first_of (between k k (orders_in bs))) where
+      pub look_9 : q ≡ None → r ≡ reply 9 0 0 0 0 0 → LookSays bs k r
       unfolding LookAs gives
       look_9 z h = look_by true true false image (sym eb ∙ e) (sought_absent k (orders_in bs) q eq z) h
 
-      pub look_found : (o : Order) → q ≡ Is o → r ≡ reply 0 o.key o.total o.displayed o.price 0 → LookSays bs k r
+      pub look_found : (o : Order) → q ≡ Some o → r ≡ reply 0 o.key o.total o.displayed o.price 0 → LookSays bs k r
       unfolding LookAs gives
       look_found o z h = let t = sought_there k (orders_in bs) q eq o z in look_by true true true image (sym eb ∙ e) t.0 (rw (h, t.1))
 
@@ -135,12 +134,12 @@ module _ (bs : List ℕ) (lo hi least : ℕ) (r : Reply) (n : ℕ) (en : n ≡ f
   pub seek_turned : (n ≡ 0 → ⊥) → r ≡ reply n 0 0 0 0 0 → SeekSays bs lo hi least r
   seek_turned z h = seek_by n (rw (ne_eqb n 0 z)) (refused_seek n z h)
 
-  module _ (z : n ≡ 0) (q : Sought) (eq : q ≡ first_of fitting) where
-    pub seek_12 : q ≡ Nothing → r ≡ reply 12 0 0 0 0 0 → SeekSays bs lo hi least r
+  module _ (z : n ≡ 0) (q : Option Order) (eq : q ≡ first_of fitting) where
+    pub seek_12 : q ≡ None → r ≡ reply 12 0 0 0 0 0 → SeekSays bs lo hi least r
     unfolding any_order
     seek_12 e h = seek_by 12 (rw (eq-eqb n 0 z, first_empty fitting (sym e ∙ eq))) (refused_seek 12 (omega arith) h)
 
-    pub seek_found : (o : Order) → q ≡ Is o → r ≡ reply 0 o.key o.total o.displayed o.price 0 → SeekSays bs lo hi least r
+    pub seek_found : (o : Order) → q ≡ Some o → r ≡ reply 0 o.key o.total o.displayed o.price 0 → SeekSays bs lo hi least r
     unfolding gives
     seek_found o e h = let g = first_is fitting o (sym e ∙ eq) in seek_by 0 (rw (eq-eqb n 0 z, g.0)) (rw (h, g.1))
 

@@ -1,4 +1,5 @@
 -- The answers of a descent: 4 and 5 on any bytes, what an image decides, and that it stays within its output.
+use Rattle.std.proofs.Common.{Option, Some, None}
 use mathlib.Core.Path.{◌≡◌, refl, sym, ap, ◌∙◌}
 use mathlib.Core.Bool.{Bool, true, false, cond, false≢true}
 use mathlib.Core.Logic.{◌⊎◌, inl, inr}
@@ -28,8 +29,6 @@ use Rattle.levels.specs.Ways.{Trek, trek}
 use Rattle.levels.proofs.Laws.Numbers.{numbers_in, numbers_long, numbers_behind, numbers_room}
 use Rattle.readings.specs.Visit.{first_of}
 use Rattle.readings.specs.Descent.{way, landed}
-use Rattle.readings.specs.declared.calls.Sought.{Sought}
-use Rattle.readings.specs.declared.calls.Sought.TheVariants.{Is, Nothing}
 use Rattle.readings.proofs.Laws.Answers.{known_image}
 use Rattle.readings.proofs.Laws.Replies.{key_least, sought_absent, sought_there}
 use Rattle.readings.proofs.Laws.Descents.{numbers, way_path, way_count, Reached, ends_right, order_right}
@@ -86,13 +85,13 @@ module _ (bs : List ℕ) (k : ℕ) (o : List ℕ) where
 
         -- on an image
         module _ (i : is_image bs ≡ true) where
-          reached : (z : List ℕ) → (y : Order) × Reached (sizes_in bs) bs (known_image bs i) k (key_least k b eb rb) q eq rk z y × (cond (eqb y.key k) (Is y) Nothing ≡ first_of (between k k (orders_in bs)))
+          reached : (z : List ℕ) → (y : Order) × Reached (sizes_in bs) bs (known_image bs i) k (key_least k b eb rb) q eq rk z y × (cond (eqb y.key k) (Some y) None ≡ first_of (between k k (orders_in bs)))
           reached z = ends_right (sizes_in bs) bs (known_image bs i) k (key_least k b eb rb) q eq rk z
 
           long : t.count ≡ length path
           long = let v = reached x in ap (λ (z : Trek). z.trail.count) (et ∙ v.1.is) ∙ v.1.count
 
-          order : (f : Sought) → f ≡ landed (row q.sizes) bs t.at k → f ≡ first_of (between k k (orders_in bs))
+          order : (f : Option Order) → f ≡ landed (row q.sizes) bs t.at k → f ≡ first_of (between k k (orders_in bs))
           order f ef = order_right (sizes_in bs) bs (known_image bs i) k (key_least k b eb rb) q eq rk x t x' et f ef
 
           written : 2 * t.count ≤ length o → (z : List ℕ) → z ≡ (way q bs k o).path → z ≡ path_bytes path ++ drop (2 * length path) o
@@ -123,8 +122,8 @@ module _ (bs : List ℕ) (k : ℕ) (o : List ℕ) where
           room_yes : is_image bs ≡ true → leb (2 * length path) (length o) ≡ true
           room_yes i = le-leb (2 * length path) (length o) (omega (arith, long i))
 
-          module _ (f : Sought) (ef : f ≡ landed (row q.sizes) bs t.at k) where
-            pub descent_9 : f ≡ Nothing → r ≡ reply 9 0 0 0 0 t.count → DescentSays bs k r o z
+          module _ (f : Option Order) (ef : f ≡ landed (row q.sizes) bs t.at k) where
+            pub descent_9 : f ≡ None → r ≡ reply 9 0 0 0 0 t.count → DescentSays bs k r o z
             unfolding DescentAs LookAs gives shown
             descent_9 e h = record {
               turned_down = λ z. passed z;
@@ -136,7 +135,7 @@ module _ (bs : List ℕ) (k : ℕ) (o : List ℕ) where
               within = inside (rw h);
             }
 
-            pub descent_found : (y : Order) → f ≡ Is y → r ≡ reply 0 y.key y.total y.displayed y.price t.count → DescentSays bs k r o z
+            pub descent_found : (y : Order) → f ≡ Some y → r ≡ reply 0 y.key y.total y.displayed y.price t.count → DescentSays bs k r o z
             unfolding DescentAs LookAs gives shown
             descent_found y e h = record {
               turned_down = λ z. passed z;

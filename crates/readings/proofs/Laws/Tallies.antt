@@ -1,4 +1,5 @@
 -- What the orders of a table leave of a visit: the number of those in the range, their rows, or the first that has the reserve.
+use Rattle.std.proofs.Common.{Option, Some, None}
 use mathlib.Core.Path.{◌≡◌, refl, sym, ap, ◌∙◌}
 use mathlib.Core.Bool.{Bool, true, false, ◌&&◌, cond, and-false}
 use mathlib.Core.List.{List, [], ◌∷◌}
@@ -14,15 +15,13 @@ use Rattle.skiplist.specs.Questions.{reserve, between, enough}
 use Rattle.skiplist.proofs.Laws.Parts.{Up}
 use Rattle.skiplist.proofs.Laws.Segment.{between_above}
 use Rattle.readings.specs.declared.Visit.{Visit}
-use Rattle.readings.specs.declared.calls.Sought.{Sought}
-use Rattle.readings.specs.declared.calls.Sought.TheVariants.{Is, Nothing}
 use Rattle.readings.specs.Visit.{Scan, scan, next_found, more_found, ended_visit, step_by, steps, first_of}
 use Rattle.readings.proofs.Laws.Visits.{next_more, wanted_some, told, steps_ended, step_keeps, step_below}
 use Rattle.readings.proofs.Laws.Wholes.{Within, rowed, steps_whole}
 
 -- what a seek has found
-abbrev pub answer_of : Visit → Sought
-answer_of v = cond (eqb v.found 0) Nothing (Is (record { key = v.key; total = v.total; displayed = v.displayed; price = v.price }))
+abbrev pub answer_of : Visit → Option Order
+answer_of v = cond (eqb v.found 0) None (Some (record { key = v.key; total = v.total; displayed = v.displayed; price = v.price }))
 
 -- THE ORDERS IN THE RANGE alone leave the same, but for whether the visit has ended
 pub record Alike (y z : Scan) : Type 0 where

@@ -1,4 +1,5 @@
 -- The turns of a visit: the nodes that are left of a chunk, and the chunks that are left of a partition.
+use Rattle.std.proofs.Common.{Option, Some, None}
 use mathlib.Core.Path.{◌≡◌, refl, sym, ap, ◌∙◌, subst}
 use mathlib.Core.Bool.{Bool, true, false, cond}
 use mathlib.Core.List.{List, [], ◌∷◌, ◌++◌, map}
@@ -17,8 +18,6 @@ use Rattle.placement.specs.Decode.{node_of, nodes_from}
 use Rattle.placement.specs.Place.{search_in}
 use Rattle.sizes.specs.declared.Sizes.{Sizes}
 use Rattle.placement.specs.declared.Order.{Order}
-use Rattle.placement.specs.declared.Found.{Found}
-use Rattle.placement.specs.declared.Found.TheVariants.{At, Nothing}
 use Rattle.skiplist.specs.Lists.{masked}
 use Rattle.skiplist.specs.Image.{orders_in}
 use Rattle.skiplist.proofs.Laws.Parts.{part}
@@ -233,11 +232,11 @@ module _ (s : Sizes) (bs : List ℕ) (l : ℕ) (o : Order) (x : Scan) where
       pub going_end : 65536 ≤ i → y ≡ steps (under s bs l o) x
       going_end h = nothing_left (chunk_end s bs k l o.key i g.above high h)
 
-      module _ (r : Found) (er : r ≡ search_in s bs (record { level = l; first = o.key; number = i })) where
-        pub going_none : r ≡ Nothing → y ≡ steps (under s bs l o) x
+      module _ (r : Option ℕ) (er : r ≡ search_in s bs (record { level = l; first = o.key; number = i })) where
+        pub going_none : r ≡ None → y ≡ steps (under s bs l o) x
         going_none e = nothing_left (chunk_none s bs k l o.key i g.above high r er e)
 
-        module _ (b : ℕ) (eb : r ≡ At b) where
+        module _ (b : ℕ) (eb : r ≡ Some b) where
           got : Read s bs l b (piece s bs l o.key i)
           got = chunk_read s bs k l o.key i g.above high r er b eb
 

@@ -1,4 +1,5 @@
 -- The way down to a key: orders cut behind it, the partitions that are open there, and the blocks where their chunks stand.
+use Rattle.std.proofs.Common.{Some}
 use mathlib.Core.Path.{◌≡◌, refl, sym, ap, ◌∙◌, subst}
 use mathlib.Core.Bool.{true, true≢false}
 use mathlib.Core.List.{List, [], ◌∷◌, ◌++◌}
@@ -15,7 +16,6 @@ use Rattle.placement.specs.Maps.{Map, Table, nodes_of, labelled}
 use Rattle.placement.specs.Place.{search_in}
 use Rattle.placement.specs.declared.Order.{Order}
 use Rattle.placement.specs.declared.Label.{Label}
-use Rattle.placement.specs.declared.Found.TheVariants.{At}
 use Rattle.placement.proofs.Laws.Blocks.{around_inside}
 use Rattle.placement.proofs.Laws.Labels.{LabelIs, is, isnt, label_is, is_same}
 use Rattle.placement.proofs.Laws.Maps.{lawful}
@@ -110,5 +110,5 @@ module _ (s : Sizes) (F : Map) (n : ℕ) (hd bs : List ℕ) (t : Table s F n hd 
           sym (mod-eq_of_lt l)
           ∙ one_place (lawful s (some_blocks s t.good)) t.blocks t.keeps.rule_3 c d i j e (around_inside s.blocks t.blocks j l ∙ g) (sym q)
 
-  pub found_stands : (w : Label) (i : ℕ) → 0 < w.level → search_in s bs w ≡ At i → stands_in t.blocks w ≡ i
+  pub found_stands : (w : Label) (i : ℕ) → 0 < w.level → search_in s bs w ≡ Some i → stands_in t.blocks w ≡ i
   found_stands w i pos e = let f = found_there s F n hd bs t w i pos e in stands_there (labelled w (nodes_of F w)) i f.1 ∙ mod-eq_of_lt f.0

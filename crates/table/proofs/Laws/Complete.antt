@@ -1,4 +1,5 @@
 -- COMPLETE: an image passes the check.
+use Rattle.std.proofs.Common.{Option, Some, None}
 use mathlib.Core.Path.{◌≡◌, refl, ap, ◌∙◌, subst}
 use mathlib.Core.Bool.{true, false, ◌&&◌}
 use mathlib.Core.List.{List, [], ◌∷◌, ◌++◌, map}
@@ -21,8 +22,6 @@ use Rattle.placement.specs.Maps.{Map, Keeps, Fines, labelled, map_of, Table, Fin
 use Rattle.sizes.specs.declared.Sizes.{Sizes}
 use Rattle.placement.specs.declared.Order.{Order}
 use Rattle.placement.specs.declared.Label.{Label}
-use Rattle.placement.specs.declared.Found.{Found}
-use Rattle.placement.specs.declared.Found.TheVariants.{At, Nothing}
 use Rattle.sizes.proofs.Laws.Numbers.{field_big}
 use Rattle.sizes.proofs.Laws.Sizes.{and_parts, some_blocks, some_nodes, limits}
 use Rattle.placement.proofs.Laws.Reading.{count_read, nodes_read}
@@ -67,14 +66,14 @@ module _ (s : Sizes) (F : Map) (n : ℕ) (hd bs : List ℕ) (t : Table s F n hd 
       w : Label
       w = record { level = l; first = f; number = i }
 
-      there : (r : Found) → Finds s F w bs r → 0 < length (F l f i) → (found_at r ≡ true) × (chunk_read s bs (spot r) ≡ F l f i)
-      there (At k) (is_at g full e) p =
+      there : (r : Option ℕ) → Finds s F w bs r → 0 < length (F l f i) → (found_at r ≡ true) × (chunk_read s bs (spot r) ≡ F l f i)
+      there (Some k) (is_at g full e) p =
           (refl, block_reads s bs k w (F l f i) e (t.sound l f i full).fine)
-      there Nothing (is_none z) p = absurd (omega (arith, ap length z))
+      there None (is_none z) p = absurd (omega (arith, ap length z))
 
-      gone : (r : Found) → Finds s F w bs r → length (F l f i) ≡ 0 → found_at r ≡ false
-      gone (At k) (is_at g full e) p = absurd (full (length_zero (F l f i) p))
-      gone Nothing z p = refl
+      gone : (r : Option ℕ) → Finds s F w bs r → length (F l f i) ≡ 0 → found_at r ≡ false
+      gone (Some k) (is_at g full e) p = absurd (full (length_zero (F l f i) p))
+      gone None z p = refl
 
 -- ---- THE WALK over an image
 

@@ -1,4 +1,5 @@
 -- The chunks of no orders: the front alone at each level.
+use Rattle.std.proofs.Common.{Option}
 use mathlib.Core.Path.{◌≡◌, refl, ap, ◌∙◌, subst}
 use mathlib.Core.Logic.{◌≢◌}
 use mathlib.Core.Bool.{Bool, true, false, ◌&&◌, cond, true≢false}
@@ -18,7 +19,6 @@ use Rattle.placement.specs.Place.{Shaped, label_in, free_in, inserted}
 use Rattle.placement.specs.Maps.{Map, with_nodes, with_chunk, map_of, nodes_of, labelled, Holdable, Table}
 use Rattle.sizes.specs.declared.Sizes.{Sizes}
 use Rattle.placement.specs.declared.Label.{Label}
-use Rattle.placement.specs.declared.Found.{Found}
 use Rattle.placement.proofs.Laws.Loops.{shaped_same}
 use Rattle.placement.proofs.Laws.Tables.{insert_keeps}
 use Rattle.sizes.proofs.Laws.Sizes.{row_most}
@@ -106,7 +106,7 @@ module _ (s : Sizes) (top : ℕ) (x : List ℕ) where
   }
 
   module _ (l : ℕ) (z : List ℕ) (q : Fronting s top x l z) where
-    pub fronting_more : l ≤ top → 1 ≤ s.nodes → (r : Found) (z' : List ℕ) → length z' ≡ length z
+    pub fronting_more : l ≤ top → 1 ≤ s.nodes → (r : Option ℕ) (z' : List ℕ) → length z' ≡ length z
         → r ≡ free_in (label_in (block_long s) z) s.blocks s.blocks (home s (front_label l))
         → z' ≡ inserted s r (front_label l) 1 (take (row s * 1) (drop 0 (replicate 16 0))) z → Fronting s top x (l + 1) z'
     fronting_more h b r z' same er ez = record {

@@ -1,4 +1,5 @@
 -- A partition of level 1: its nodes come by one after the other in the loop over its blocks, without a `Seen` for each.
+use Rattle.std.proofs.Common.{Option, Some}
 use mathlib.Core.Path.{◌≡◌, refl, ap, sym, ◌∙◌}
 use mathlib.Core.Bool.{Bool, true, false, ◌&&◌, and-true, and_comm, and_assoc, and-eq-true_iff, true≢false}
 use mathlib.Core.List.{List}
@@ -15,8 +16,6 @@ use Rattle.sizes.specs.Header.{block_long}
 use Rattle.sizes.specs.declared.Sizes.{Sizes}
 use Rattle.placement.specs.Decode.{node_of}
 use Rattle.placement.specs.declared.Order.{Order}
-use Rattle.placement.specs.declared.Found.{Found}
-use Rattle.placement.specs.declared.Found.TheVariants.{At}
 use Rattle.placement.proofs.Laws.Reading.{key_of}
 use Rattle.table.specs.declared.Seen.{Seen}
 use Rattle.table.specs.Walk.{wrong_seen, price_ok, counts, counted, fits_in, enters_ok, entered_seen, node_good, stops_at, nodes_by, enters_lowest, comes_ok, passed_seen, chunk_spot, opens_of}
@@ -145,7 +144,7 @@ module _ (b n : ℕ) (y : Seen) (t : Bool) (et : t ≡ enters_lowest b n y) (e :
       (omega (arith, ap (λ (z : Seen). z.orders) q, lowest_few), omega (arith, ap (λ (z : Seen). z.chunks) q, enters_chunks b n y true lowest_enters refl))
 
 -- .. or not
-module _ (s : Sizes) (bs : List ℕ) (f : ℕ) (x : Seen) (i : ℕ) (y : Seen) (c : Chunking s bs 1 f x i y) (lt : i < s.blocks) (r : Found) (er : r ≡ chunk_spot s bs 1 f i) (b : ℕ) (eb : r ≡ At b)
+module _ (s : Sizes) (bs : List ℕ) (f : ℕ) (x : Seen) (i : ℕ) (y : Seen) (c : Chunking s bs 1 f x i y) (lt : i < s.blocks) (r : Option ℕ) (er : r ≡ chunk_spot s bs 1 f i) (b : ℕ) (eb : r ≡ Some b)
     (at n : ℕ) (ea : at ≡ 53 + b * block_long s) (en : n ≡ get_or bs (at + 1) 0) where
   pub lowest_refused : (t : Bool) → t ≡ enters_lowest s.nodes n y → t ≡ false → (w : Seen) → w ≡ wrong_seen → w ≡ opens_of s bs 1 f x
   unfolding enters_lowest entered_seen

@@ -1,4 +1,5 @@
 -- A walk that comes to its end reads partitions that open one another.
+use Rattle.std.proofs.Common.{Option}
 use mathlib.Core.Path.{◌≡◌, refl, sym, ap, ◌∙◌, subst}
 use mathlib.Core.Bool.{Bool, true, false, ◌&&◌, not, cond, false≢true}
 use mathlib.Core.List.{List, [], ◌∷◌, ◌++◌, append_assoc, append-nil}
@@ -17,7 +18,6 @@ use Rattle.sizes.specs.Header.{block_long}
 use Rattle.placement.specs.Place.{found_at}
 use Rattle.sizes.specs.declared.Sizes.{Sizes}
 use Rattle.placement.specs.declared.Order.{Order}
-use Rattle.placement.specs.declared.Found.{Found}
 use Rattle.sizes.proofs.Laws.Sizes.{and_parts}
 use Rattle.placement.proofs.Laws.Decoding.{nodes_count}
 use Rattle.skiplist.proofs.Laws.Count.{pieces, pieces_less}
@@ -265,7 +265,7 @@ module _ (s : Sizes) (bs : List ℕ) (small : (b : ℕ) → Small (chunk_read s 
     parted zero i x b h e = parted_none i x (λ q. omega (arith, q)) e
     parted (suc j) i x b h e = go (λ y h'. parted j (suc i) y b (omega arith) h') (found_at r) e
       where
-        r : Found
+        r : Option ℕ
         r = chunk_spot s bs (suc l) f i
 
         n : ℕ

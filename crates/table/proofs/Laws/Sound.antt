@@ -1,4 +1,5 @@
 -- SOUND: bytes that pass the check are an image.
+use Rattle.std.proofs.Common.{Some}
 use mathlib.Core.Path.{◌≡◌, refl, sym, ap, ◌∙◌, subst}
 use mathlib.Core.Bool.{true}
 use mathlib.Core.List.{List, [], ◌∷◌, map}
@@ -18,7 +19,6 @@ use Rattle.placement.specs.Place.{label_in, search_in}
 use Rattle.placement.specs.Maps.{Table}
 use Rattle.sizes.specs.declared.Sizes.{Sizes}
 use Rattle.placement.specs.declared.Order.{Order}
-use Rattle.placement.specs.declared.Found.TheVariants.{At}
 use Rattle.sizes.proofs.Laws.Numbers.{Bytes}
 use Rattle.sizes.proofs.Laws.Sizes.{some_blocks, some_nodes}
 use Rattle.placement.proofs.Laws.Blocks.{around_inside}
@@ -147,14 +147,14 @@ module _ (bs : List ℕ) (u : Bytes bs) (a : Accepted bs) where
   unfolding chunk_of block_long
   label_is i = label_cell (8 + row s * s.nodes) bs i (omega arith)
 
-  found : (i : ℕ) → i < s.blocks → (label_in (block_long s) bs i).level ≢ 0 → search_in s bs (label_in (block_long s) bs i) ≡ At i
+  found : (i : ℕ) → i < s.blocks → (label_in (block_long s) bs i).level ≢ 0 → search_in s bs (label_in (block_long s) bs i) ≡ Some i
   found i h ne =
       let c = chunk_of (row s) (block_in (block_long s) bs i) in
       let e = full_block i h (omega (arith, level_says s bs i, ne)) in
       let t = found_chunk c (only i c h e) in
       let k : t.at ≡ i = once s.blocks some (chunks s os) (blocks_in s bs) blocks_many (chunks_rising s os a.good) stands count c t.at i t.inside h
       (around_inside s.blocks (blocks_in s bs) t.at t.inside ∙ t.is) (around_inside s.blocks (blocks_in s bs) i h ∙ e) in
-      ap (search_in s bs) (label_is i) ∙ t.search ∙ ap At k
+      ap (search_in s bs) (label_is i) ∙ t.search ∙ ap Some k
 
   head : length (take 53 bs) ≡ 53
   head = length-take-le 53 bs a.rule.long

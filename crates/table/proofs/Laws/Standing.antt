@@ -1,4 +1,5 @@
 -- Blocks read back from bytes, one at a time: what a search found stands there.
+use Rattle.std.proofs.Common.{Option, Some, None}
 use mathlib.Core.Path.{◌≡◌, refl, sym, ap, ◌∙◌, subst}
 use mathlib.Core.Bool.{Bool, true, false, cond, true≢false, false≢true}
 use mathlib.Core.List.{List, [], ◌∷◌}
@@ -20,8 +21,6 @@ use Rattle.placement.specs.Place.{label_in, passes_label, probe, search_in, foun
 use Rattle.sizes.specs.declared.Sizes.{Sizes}
 use Rattle.placement.specs.declared.Order.{Order}
 use Rattle.placement.specs.declared.Label.{Label}
-use Rattle.placement.specs.declared.Found.{Found}
-use Rattle.placement.specs.declared.Found.TheVariants.{At, Nothing}
 use Rattle.sizes.proofs.Laws.Numbers.{field_drop, field_part}
 use Rattle.sizes.proofs.Laws.Sizes.{row_least}
 use Rattle.sizes.proofs.Laws.HeaderLoops.{rows_room}
@@ -88,16 +87,16 @@ level_says s bs b = ap (λ (z : Label). z.level) (sym (label_cell (8 + row s * s
 
 -- ---- WHAT A SEARCH FINDS has the label
 
-at_same : (a p : ℕ) → At a ≡ At p → a ≡ p
+at_same : (a p : ℕ) → Some a ≡ Some p → a ≡ p
 at_same a p e = cc
 
-pub probe_at : (before : Label → Label → Bool) (look : ℕ → Label) (m : ℕ) (w : Label) (pos : 0 < m) (k i p : ℕ) → probe before look m w k i ≡ At p → (p < m) × (same_label (look p) w ≡ true)
+pub probe_at : (before : Label → Label → Bool) (look : ℕ → Label) (m : ℕ) (w : Label) (pos : 0 < m) (k i p : ℕ) → probe before look m w k i ≡ Some p → (p < m) × (same_label (look p) w ≡ true)
 unfolding probe
 probe_at before look m w pos zero i p e = absurd (true≢false cc)
 probe_at before look m w pos (suc k) i p e = go (probe_at before look m w pos k (suc i) p) (passes_label before (look (i % m)) w) (same_label (look (i % m)) w) refl e
   where
-    go : (probe before look m w k (suc i) ≡ At p → (p < m) × (same_label (look p) w ≡ true)) → (t u : Bool) → same_label (look (i % m)) w ≡ u →
-        cond t (probe before look m w k (suc i)) (cond u (At (i % m)) Nothing) ≡ At p → (p < m) × (same_label (look p) w ≡ true)
+    go : (probe before look m w k (suc i) ≡ Some p → (p < m) × (same_label (look p) w ≡ true)) → (t u : Bool) → same_label (look (i % m)) w ≡ u →
+        cond t (probe before look m w k (suc i)) (cond u (Some (i % m)) None) ≡ Some p → (p < m) × (same_label (look p) w ≡ true)
     go ih true u q h = ih h
     go ih false true q h =
         let f = at_same (i % m) p h in
@@ -108,7 +107,7 @@ probe_at before look m w pos (suc k) i p e = go (probe_at before look m w pos k 
 pub record Standing (s : Sizes) (bs : List ℕ) (c : Chunk) : Type 0 where
   pub at : ℕ
   pub inside : at < s.blocks
-  pub search : search_in s bs c.label ≡ At at
+  pub search : search_in s bs c.label ≡ Some at
   pub is : get_or (blocks_in s bs) at empty ≡ holds c
 
 pub standing : (s : Sizes) (bs : List ℕ) → 0 < s.blocks → (l f i : ℕ) (ns : List Order) → 0 < l → found_at (chunk_spot s bs l f i) ≡ true →
@@ -116,9 +115,9 @@ pub standing : (s : Sizes) (bs : List ℕ) → 0 < s.blocks → (l f i : ℕ) (n
 unfolding chunk_spot search_in found_at spot block_of
 standing s bs pos l f i ns h e few nodes = go (chunk_spot s bs l f i) refl e few nodes
   where
-    go : (r : Found) → chunk_spot s bs l f i ≡ r → found_at r ≡ true → count_in (block_long s) bs (spot r) ≤ s.nodes → chunk_read s bs (spot r) ≡ ns → Standing s bs (record { label = label l f i; nodes = ns })
-    go Nothing q t few n = absurd (false≢true t)
-    go (At p) q t few n =
+    go : (r : Option ℕ) → chunk_spot s bs l f i ≡ r → found_at r ≡ true → count_in (block_long s) bs (spot r) ≤ s.nodes → chunk_read s bs (spot r) ≡ ns → Standing s bs (record { label = label l f i; nodes = ns })
+    go None q t few n = absurd (false≢true t)
+    go (Some p) q t few n =
         let v = probe_at (before s) (label_in (block_long s) bs) s.blocks (label l f i) pos s.blocks (home s (label l f i)) p q in
         let z = same_is (label_in (block_long s) bs p) (label l f i) v.1 in
         let lev : get_or (block_in (block_long s) bs p) 0 0 ≡ l = level_says s bs p ∙ ap (λ (x : Label). x.level) z in

@@ -1,4 +1,5 @@
 -- The turns of the walk: what the code does next is what the model does next.
+use Rattle.std.proofs.Common.{Option, Some, None}
 use mathlib.Core.Path.{◌≡◌, refl, ap, sym, ◌∙◌}
 use mathlib.Core.Bool.{Bool, true, false, cond}
 use mathlib.Core.List.{List}
@@ -16,8 +17,6 @@ use Rattle.placement.specs.Decode.{node_of}
 use Rattle.placement.specs.Labels.{label, before, home}
 use Rattle.placement.specs.Place.{Shaped, label_in, probe, search_in, Starts, behind, found_at}
 use Rattle.sizes.specs.declared.Sizes.{Sizes}
-use Rattle.placement.specs.declared.Found.{Found}
-use Rattle.placement.specs.declared.Found.TheVariants.{At, Nothing}
 use Rattle.sizes.proofs.Laws.Sizes.{row_least}
 use Rattle.sizes.proofs.Laws.HeaderLoops.{rows_one, rows_room}
 use Rattle.placement.proofs.Laws.Behind.{starts_behind}
@@ -128,7 +127,7 @@ module _ (s : Sizes) (bs : List ℕ) (l f : ℕ) (x : Seen) where
         let e : s.blocks - i ≡ 0 = omega arith in
         sym (c.rest ∙ ap (λ (j : ℕ). chunks_by (opens_of s bs (l - 1)) s bs l f j i y) e)
 
-    module _ (lt : i < s.blocks) (r : Found) (er : r ≡ chunk_spot s bs l f i) where
+    module _ (lt : i < s.blocks) (r : Option ℕ) (er : r ≡ chunk_spot s bs l f i) where
       turn : opens_of s bs l f x
           ≡ cond (found_at r)
           (cond (stops_at s.nodes (count_in (block_long s) bs (spot r)) (chunk_by (opens_of s bs (l - 1)) s bs l f i (spot r) y))
@@ -140,11 +139,11 @@ module _ (s : Sizes) (bs : List ℕ) (l f : ℕ) (x : Seen) where
           let e : s.blocks - i ≡ suc (s.blocks - (i + 1)) = omega arith in
           c.rest ∙ ap (λ (j : ℕ). chunks_by (opens_of s bs (l - 1)) s bs l f j i y) e ∙ rw (← er, add-one)
 
-      pub chunking_none : (w : Seen) → r ≡ Nothing → w ≡ ended_seen i y → w ≡ opens_of s bs l f x
+      pub chunking_none : (w : Seen) → r ≡ None → w ≡ ended_seen i y → w ≡ opens_of s bs l f x
       unfolding found_at
       chunking_none w e h = h ∙ sym (turn ∙ rw e)
 
-      module _ (b : ℕ) (eb : r ≡ At b) (at n : ℕ) (ea : at ≡ 53 + b * block_long s) (en : n ≡ get_or bs (at + 1) 0) where
+      module _ (b : ℕ) (eb : r ≡ Some b) (at n : ℕ) (ea : at ≡ 53 + b * block_long s) (en : n ≡ get_or bs (at + 1) 0) where
         here : opens_of s bs l f x
             ≡ cond (stops_at s.nodes n (chunk_by (opens_of s bs (l - 1)) s bs l f i b y)) (chunk_by (opens_of s bs (l - 1)) s bs l f i b y)
             (chunks_by (opens_of s bs (l - 1)) s bs l f (s.blocks - (i + 1)) (i + 1) (chunk_by (opens_of s bs (l - 1)) s bs l f i b y))
@@ -194,7 +193,7 @@ opens_empty : (s : Sizes) (bs : List ℕ) (l f : ℕ) (x : Seen) → Shaped s bs
 unfolding chunk_spot ended_seen empty_home
 opens_empty s bs l f x h lo t et e =
     let none = search_none s bs (record { level = l; first = f; number = 0 }) h lo (sym et ∙ e) in
-    sym (chunking_none s bs l f x 0 x (chunking_start s bs l f x lo) h.some Nothing (sym none) wrong_seen refl refl)
+    sym (chunking_none s bs l f x 0 x (chunking_start s bs l f x lo) h.some None (sym none) wrong_seen refl refl)
 
 -- .. so the walk that comes to it ends wrong; k is the key of the node that opens it
 pub ahead : (s : Sizes) (bs : List ℕ) (l a : ℕ) (x : Seen) → Shaped s bs → 1 ≤ l → (k : ℕ) → k ≡ field a 4 bs → (t : Bool)
@@ -216,7 +215,7 @@ module _ (s : Sizes) (bs : List ℕ) (j a g : ℕ) where
   keyed_is i p k ek = i.is p ∙ ap (hash_from 5 5 s.seed) (sym ek)
 
 -- WHAT THE CALLS ASK
-pub chunk_found : (s : Sizes) (bs : List ℕ) (l f i : ℕ) (r : Found) → r ≡ search_in s bs (record { level = l; first = f; number = i }) → r ≡ chunk_spot s bs l f i
+pub chunk_found : (s : Sizes) (bs : List ℕ) (l f i : ℕ) (r : Option ℕ) → r ≡ search_in s bs (record { level = l; first = f; number = i }) → r ≡ chunk_spot s bs l f i
 unfolding chunk_spot
 chunk_found s bs l f i r e = e
 
@@ -224,7 +223,7 @@ pub home_empty : (s : Sizes) (bs : List ℕ) (l f : ℕ) (r : Bool) → r ≡ eq
 unfolding empty_home
 home_empty s bs l f r e = e
 
-pub chunk_below : (s : Sizes) (bs : List ℕ) (l f i : ℕ) (r : Found) (b : ℕ) → r ≡ At b → r ≡ chunk_spot s bs l f i → Shaped s bs → b < s.blocks
+pub chunk_below : (s : Sizes) (bs : List ℕ) (l f i : ℕ) (r : Option ℕ) (b : ℕ) → r ≡ Some b → r ≡ chunk_spot s bs l f i → Shaped s bs → b < s.blocks
 unfolding chunk_spot
 chunk_below s bs l f i r b e er h = search_below s bs _ r b e er h
 
@@ -248,11 +247,11 @@ first_room s a j n h p = omega (arith, rows_one (row s) j p, row_least s)
 
 -- the search for a chunk of level 1 may start behind the chunk before it, and finds it from wherever it may start
 module _ (s : Sizes) (bs : List ℕ) (f : ℕ) where
-  pub starting_next : (j i : ℕ) (r : Found) → r ≡ chunk_spot s bs 1 f j → r ≡ At i → j + 1 ≤ 65535 → (start : ℕ) → start ≡ behind s (label 1 f (j + 1)) i → start < s.blocks
+  pub starting_next : (j i : ℕ) (r : Option ℕ) → r ≡ chunk_spot s bs 1 f j → r ≡ Some i → j + 1 ≤ 65535 → (start : ℕ) → start ≡ behind s (label 1 f (j + 1)) i → start < s.blocks
       → Starts s bs (label 1 f (j + 1)) start
   unfolding chunk_spot
   starting_next j i r er ei few start e h = starts_behind s bs 1 f j i start (omega arith) (omega arith) few (sym er ∙ ei) e h
 
-  pub starting_found : (j start : ℕ) (r : Found) → Starts s bs (label 1 f j) start → r ≡ probe (before s) (label_in (block_long s) bs) s.blocks (label 1 f j) s.blocks start → r ≡ chunk_spot s bs 1 f j
+  pub starting_found : (j start : ℕ) (r : Option ℕ) → Starts s bs (label 1 f j) start → r ≡ probe (before s) (label_in (block_long s) bs) s.blocks (label 1 f j) s.blocks start → r ≡ chunk_spot s bs 1 f j
   unfolding chunk_spot
   starting_found j start r st e = e ∙ st.same

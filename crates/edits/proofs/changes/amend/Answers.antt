@@ -59,4 +59,4 @@ shape_of-table c = search rules
 pub returns : goal.returns
 returns c =
     let p = asked_sure _ (checked_yes _ _ c.check.ensures.0 c.if-check-ne0.false) _ c.geometry_of-q.ensures.0 _ _ c.asked-n.ensures c.if-n-ne0.false in
-    amend_done _ _ _ p c.geometry_of-q.ensures.1 _ c.way_down-w.ensures.0 _ c.order_at.ensures c.in-Is.was c.in-Is.is _ (search rules)
+    amend_done _ _ _ p c.geometry_of-q.ensures.1 _ c.way_down-w.ensures.0 _ c.order_at.ensures c.in-Some.was c.in-Some.is _ (search rules)

@@ -53,6 +53,6 @@ pub returns : goal.returns
 returns c = (
   search rules,
   omega (arith, c.if-s-more.false),
-  read_some _ _ _ _ _ _ c.find.ensures _ c.in-At.is _ c.count_at-more.ensures.0 _ _ _ _ _ c.offset-start.ensures.0 c.row.ensures.0
+  read_some _ _ _ _ _ _ c.find.ensures _ c.in-Some.is _ c.count_at-more.ensures.0 _ _ _ _ _ c.offset-start.ensures.0 c.row.ensures.0
       c.rows.ensures.0 c.used.ensures.0 c.if-s-more.false c.requires.1 c.bring.ensures,
 )

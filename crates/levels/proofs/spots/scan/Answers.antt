@@ -46,7 +46,7 @@ pass_nodes-spot-requires c = search (laws, c.requires.0)
 pub returns-then-n-s : goal.returns-then-n-s
 returns-then-n-s c =
     let q =
-    scanning_more _ _ _ _ _ _ _ c.loop-number.invariant _ c.chunk.ensures _ c.in-At.is _ c.count_at-n.ensures.0 c.loop-number-test.true
+    scanning_more _ _ _ _ _ _ _ c.loop-number.invariant _ c.chunk.ensures _ c.in-Some.is _ c.count_at-n.ensures.0 c.loop-number-test.true
     c.if-s-n.false c.requires.0.few _ _ _ c.offset-at.ensures.0 c.row.ensures.0 c.pass_nodes-spot.ensures.0 c.pass_nodes-spot.ensures.1 c.pass_nodes-spot.ensures.2 in
     scanned _ _ _ _ _ _ _ q.next c.requires.0.most (q.stop c.if-n-s.true)
 
@@ -58,7 +58,7 @@ loop-number-smaller c = search laws
 
 pub loop-number-preserved : goal.loop-number-preserved
 loop-number-preserved c =
-    (scanning_more _ _ _ _ _ _ _ c.loop-number.invariant _ c.chunk.ensures _ c.in-At.is _ c.count_at-n.ensures.0 c.loop-number-test.true
+    (scanning_more _ _ _ _ _ _ _ c.loop-number.invariant _ c.chunk.ensures _ c.in-Some.is _ c.count_at-n.ensures.0 c.loop-number-test.true
     c.if-s-n.false c.requires.0.few _ _ _ c.offset-at.ensures.0 c.row.ensures.0 c.pass_nodes-spot.ensures.0 c.pass_nodes-spot.ensures.1 c.pass_nodes-spot.ensures.2).next
 
 pub returns : goal.returns

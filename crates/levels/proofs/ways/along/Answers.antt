@@ -36,7 +36,7 @@ shape_of-path-then-n-eq0 c = search laws
 
 pub returns-then-n-eq0 : goal.returns-then-n-eq0
 returns-then-n-eq0 c =
-    along_short _ _ _ _ _ _ c.requires.0 _ _ _ _ c.loop-want.invariant c.loop-want-test.true _ c.find_past.ensures _ c.in-At.is _
+    along_short _ _ _ _ _ _ c.requires.0 _ _ _ _ c.loop-want.invariant c.loop-want-test.true _ c.find_past.ensures _ c.in-Some.is _
     c.reached-n.ensures.0 c.if-n-eq0.true
 
 pub tread-w-requires : goal.tread-w-requires
@@ -47,7 +47,7 @@ shape_of-path-then-ends_here c = search laws
 
 pub returns-then-ends_here : goal.returns-then-ends_here
 returns-then-ends_here c =
-    along_last _ _ _ _ _ _ c.requires.0 _ _ _ _ c.loop-want.invariant c.loop-want-test.true _ c.find_past.ensures _ c.in-At.is _
+    along_last _ _ _ _ _ _ c.requires.0 _ _ _ _ c.loop-want.invariant c.loop-want-test.true _ c.find_past.ensures _ c.in-Some.is _
     c.reached-n.ensures.0 c.if-n-eq0.false _ _ c.tread-w.ensures.0 c.tread-w.ensures.1 c.tread-w.ensures.2 c.if-ends_here.true
 
 pub overflow_add-want : goal.overflow_add-want
@@ -55,14 +55,14 @@ overflow_add-want c = search laws
 
 pub behind-start-requires : goal.behind-start-requires
 behind-start-requires c =
-    along_behind _ _ _ _ c.args.t _ c.requires.0 _ _ _ _ c.loop-want.invariant c.loop-want-test.true _ c.find_past.ensures _ c.in-At.is _ c.requires.2 (search laws)
+    along_behind _ _ _ _ c.args.t _ c.requires.0 _ _ _ _ c.loop-want.invariant c.loop-want-test.true _ c.find_past.ensures _ c.in-Some.is _ c.requires.2 (search laws)
 
 pub loop-want-smaller : goal.loop-want-smaller
 loop-want-smaller c = search laws
 
 pub loop-want-preserved : goal.loop-want-preserved
 loop-want-preserved c =
-    along_more _ _ _ _ c.args.t _ c.requires.0 _ _ _ _ c.loop-want.invariant c.loop-want-test.true _ c.find_past.ensures _ c.in-At.is _
+    along_more _ _ _ _ c.args.t _ c.requires.0 _ _ _ _ c.loop-want.invariant c.loop-want-test.true _ c.find_past.ensures _ c.in-Some.is _
     c.reached-n.ensures.0 c.if-n-eq0.false _ _ c.tread-w.ensures.0 c.tread-w.ensures.1 c.tread-w.ensures.2 c.if-ends_here.false
     c.requires.3 (search laws) _ c.behind-start.ensures.0 c.behind-start.ensures.1
 

@@ -45,4 +45,4 @@ pub answered-requires : goal.answered-requires
 answered-requires c = search rules
 
 pub returns : goal.returns
-returns c = (look_found _ _ _ (checked_yes _ _ c.check.ensures.0 c.if-check-ne0.false) _ c.is_key.ensures c.if-not-is_key.false _ c.order_of.ensures _ c.in-Is.is c.answered.ensures, refl)
+returns c = (look_found _ _ _ (checked_yes _ _ c.check.ensures.0 c.if-check-ne0.false) _ c.is_key.ensures c.if-not-is_key.false _ c.order_of.ensures _ c.in-Some.is c.answered.ensures, refl)

@@ -32,4 +32,4 @@ pub answered-requires : goal.answered-requires
 answered-requires c = search rules
 
 pub returns : goal.returns
-returns c = (seek_found _ _ _ _ _ _ c.range-n.ensures c.if-n-ne0.false _ c.first_with.ensures _ c.in-Is.is c.answered.ensures, refl)
+returns c = (seek_found _ _ _ _ _ _ c.range-n.ensures c.if-n-ne0.false _ c.first_with.ensures _ c.in-Some.is c.answered.ensures, refl)

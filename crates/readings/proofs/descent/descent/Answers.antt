@@ -109,6 +109,6 @@ pub returns : goal.returns
 returns c = (
   descent_found _ _ _ _ _ c.rule_of.ensures c.if-not-rule_of.false _ c.is_key.ensures c.if-not-is_key.false
       _ (c.reckon-q.ensures.0 ∙ c.read-h.ensures.0) c.reckon-q.ensures.1 _ _ _ c.descend-t.ensures.0 c.if-path-t.false _ c.write_path.ensures
-      _ c.order_at.ensures _ c.in-Is.is c.answered.ensures,
+      _ c.order_at.ensures _ c.in-Some.is c.answered.ensures,
   refl,
 )

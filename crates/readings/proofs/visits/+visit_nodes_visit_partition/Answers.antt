@@ -120,7 +120,7 @@ visit_partition-overflow_add-at t c = search laws
 pub visit_partition-visit_nodes-w-requires : goal.visit_partition-visit_nodes-w-requires
 visit_partition-visit_nodes-w-requires t c =
     let p = c.requires in
-    let m = chunk_met _ _ _ _ _ _ _ c.loop-number.invariant p.0 p.2 _ c.find.ensures _ c.in-At.is
+    let m = chunk_met _ _ _ _ _ _ _ c.loop-number.invariant p.0 p.2 _ c.find.ensures _ c.in-Some.is
     _ _ c.offset-at.ensures.0 c.count_at-n.ensures.0 c.offset-at.ensures.1 in
     (omega (arith, c.decreases), (p.0, p.1, p.2, omega (arith, p.3, c.loop-number.invariant.left.keeps.lo, c.loop-number.invariant.left.keeps.hi), m.0, m.1))
 
@@ -130,7 +130,7 @@ visit_partition-shape_of-output-then-n-s t c = length_kept _ _ _ _ _ _ c.visit_n
 pub visit_partition-returns-then-n-s : goal.visit_partition-returns-then-n-s
 visit_partition-returns-then-n-s t c =
     let p = c.requires in
-    going_stop _ _ _ _ _ _ _ c.loop-number.invariant p.0 p.2 _ c.find.ensures _ c.in-At.is
+    going_stop _ _ _ _ _ _ _ c.loop-number.invariant p.0 p.2 _ c.find.ensures _ c.in-Some.is
     _ _ c.offset-at.ensures.0 c.count_at-n.ensures.0 _ c.visit_nodes-w.ensures c.if-n-s.true
 
 pub visit_partition-overflow_add-number : goal.visit_partition-overflow_add-number
@@ -142,7 +142,7 @@ visit_partition-loop-number-smaller t c = search laws
 pub visit_partition-loop-number-preserved : goal.visit_partition-loop-number-preserved
 visit_partition-loop-number-preserved t c =
     let p = c.requires in
-    going_more _ _ _ _ _ _ _ c.loop-number.invariant p.0 p.2 _ c.find.ensures _ c.in-At.is
+    going_more _ _ _ _ _ _ _ c.loop-number.invariant p.0 p.2 _ c.find.ensures _ c.in-Some.is
     _ _ c.offset-at.ensures.0 c.count_at-n.ensures.0 _ c.visit_nodes-w.ensures
 
 pub visit_partition-shape_of-output : goal.visit_partition-shape_of-output

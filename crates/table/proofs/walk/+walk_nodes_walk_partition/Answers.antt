@@ -161,7 +161,7 @@ walk_partition-stops-requires t c = search laws
 pub walk_partition-returns-then-stops : goal.walk_partition-returns-then-stops
 walk_partition-returns-then-stops t c =
     entering_stop _ _ _ _ _ _ _ _ _
-    (entering_made _ _ _ _ _ _ _ c.loop-number.invariant c.loop-number-test.true _ c.chunk.ensures _ c.in-At.is _ _ c.offset-at.ensures.0 c.wide-n.ensures.0 _ c.enters.ensures
+    (entering_made _ _ _ _ _ _ _ c.loop-number.invariant c.loop-number-test.true _ c.chunk.ensures _ c.in-Some.is _ _ c.offset-at.ensures.0 c.wide-n.ensures.0 _ c.enters.ensures
     c.if-not-enters.false)
     _ (higher_nodes _ _ _ _ _ _ _ _ _ _ c.walk_nodes-seen.ensures c.entered.ensures) _ c.stops.ensures c.if-stops.true
 
@@ -175,7 +175,7 @@ walk_partition-loop-number-smaller t c = search laws
 pub walk_partition-loop-number-preserved : goal.walk_partition-loop-number-preserved
 walk_partition-loop-number-preserved t c =
     entering_more _ _ _ _ _ _ _ _ _
-    (entering_made _ _ _ _ _ _ _ c.loop-number.invariant c.loop-number-test.true _ c.chunk.ensures _ c.in-At.is _ _ c.offset-at.ensures.0 c.wide-n.ensures.0 _ c.enters.ensures
+    (entering_made _ _ _ _ _ _ _ c.loop-number.invariant c.loop-number-test.true _ c.chunk.ensures _ c.in-Some.is _ _ c.offset-at.ensures.0 c.wide-n.ensures.0 _ c.enters.ensures
     c.if-not-enters.false)
     _ (higher_nodes _ _ _ _ _ _ _ _ _ _ c.walk_nodes-seen.ensures c.entered.ensures) _ c.stops.ensures c.if-stops.false
 

@@ -55,7 +55,7 @@ wrong-requires c = search laws
 
 pub returns-then-not-enters_lowest : goal.returns-then-not-enters_lowest
 returns-then-not-enters_lowest c =
-    lowest_refused _ _ _ _ _ _ c.blocks-2.invariant.0 c.blocks-2-test.true _ c.chunk_from.ensures _ c.in-At.is _ _ c.offset-at.ensures.0
+    lowest_refused _ _ _ _ _ _ c.blocks-2.invariant.0 c.blocks-2-test.true _ c.chunk_from.ensures _ c.in-Some.is _ _ c.offset-at.ensures.0
     c.wide-n.ensures.0 _ c.enters_lowest.ensures c.if-not-enters_lowest.true _ c.wrong.ensures
 
 pub overflow_add-place : goal.overflow_add-place
@@ -103,7 +103,7 @@ passed-seen-requires c = lowest_holds _ _ _ _ c.enters_lowest.ensures c.if-not-e
 
 pub returns-then-n-q : goal.returns-then-n-q
 returns-then-n-q c =
-    lowest_stop _ _ _ _ _ _ _ _ (entering_made _ _ _ _ _ _ _ c.blocks-2.invariant.0 c.blocks-2-test.true _ c.chunk_from.ensures _ c.in-At.is _ _ c.offset-at.ensures.0 c.wide-n.ensures.0 true (lowest_enters _ _ _ _ c.enters_lowest.ensures c.if-not-enters_lowest.false) refl) _ _ _ _ c.loop-k.invariant.1 _ _ c.loop-k.invariant.0 c.passed-seen.ensures (omega (arith, c.loop-k-test.false)) c.if-n-q.true
+    lowest_stop _ _ _ _ _ _ _ _ (entering_made _ _ _ _ _ _ _ c.blocks-2.invariant.0 c.blocks-2-test.true _ c.chunk_from.ensures _ c.in-Some.is _ _ c.offset-at.ensures.0 c.wide-n.ensures.0 true (lowest_enters _ _ _ _ c.enters_lowest.ensures c.if-not-enters_lowest.false) refl) _ _ _ _ c.loop-k.invariant.1 _ _ c.loop-k.invariant.0 c.passed-seen.ensures (omega (arith, c.loop-k-test.false)) c.if-n-q.true
 
 pub overflow_add-number : goal.overflow_add-number
 overflow_add-number c = search laws
@@ -111,15 +111,15 @@ overflow_add-number c = search laws
 pub goes_on-start-requires : goal.goes_on-start-requires
 goes_on-start-requires c =
     let p = c.requires in
-    (chunk_below _ _ _ _ _ _ _ c.in-At.is c.chunk_from.ensures p.0.shaped, search laws, omega (arith, c.blocks-2-test.true, p.0.shaped.most))
+    (chunk_below _ _ _ _ _ _ _ c.in-Some.is c.chunk_from.ensures p.0.shaped, search laws, omega (arith, c.blocks-2-test.true, p.0.shaped.most))
 
 pub blocks-2-smaller : goal.blocks-2-smaller
 blocks-2-smaller c = search laws
 
 pub blocks-2-preserved : goal.blocks-2-preserved
 blocks-2-preserved c = (
-  lowest_more _ _ _ _ _ _ _ _ (entering_made _ _ _ _ _ _ _ c.blocks-2.invariant.0 c.blocks-2-test.true _ c.chunk_from.ensures _ c.in-At.is _ _ c.offset-at.ensures.0 c.wide-n.ensures.0 true (lowest_enters _ _ _ _ c.enters_lowest.ensures c.if-not-enters_lowest.false) refl) _ _ _ _ c.loop-k.invariant.1 _ _ c.loop-k.invariant.0 c.passed-seen.ensures (omega (arith, c.loop-k-test.false)) (omega (arith, c.if-n-q.false)),
-  starting_next _ _ _ _ _ _ c.chunk_from.ensures c.in-At.is (omega (arith, c.blocks-2-test.true, c.requires.0.shaped.most)) _ c.goes_on-start.ensures.0 c.goes_on-start.ensures.1,
+  lowest_more _ _ _ _ _ _ _ _ (entering_made _ _ _ _ _ _ _ c.blocks-2.invariant.0 c.blocks-2-test.true _ c.chunk_from.ensures _ c.in-Some.is _ _ c.offset-at.ensures.0 c.wide-n.ensures.0 true (lowest_enters _ _ _ _ c.enters_lowest.ensures c.if-not-enters_lowest.false) refl) _ _ _ _ c.loop-k.invariant.1 _ _ c.loop-k.invariant.0 c.passed-seen.ensures (omega (arith, c.loop-k-test.false)) (omega (arith, c.if-n-q.false)),
+  starting_next _ _ _ _ _ _ c.chunk_from.ensures c.in-Some.is (omega (arith, c.blocks-2-test.true, c.requires.0.shaped.most)) _ c.goes_on-start.ensures.0 c.goes_on-start.ensures.1,
 )
 
 pub returns-after-blocks-2 : goal.returns-after-blocks-2
@@ -127,4 +127,4 @@ returns-after-blocks-2 c = search laws
 
 pub returns-then-not-comes : goal.returns-then-not-comes
 returns-then-not-comes c =
-    lowest_wrong _ _ _ _ _ _ _ _ (entering_made _ _ _ _ _ _ _ c.blocks-2.invariant.0 c.blocks-2-test.true _ c.chunk_from.ensures _ c.in-At.is _ _ c.offset-at.ensures.0 c.wide-n.ensures.0 true (lowest_enters _ _ _ _ c.enters_lowest.ensures c.if-not-enters_lowest.false) refl) _ _ _ _ c.loop-k.invariant.1 c.loop-k-test.true _ c.comes.ensures c.if-not-comes.true _ c.wrong-seen.ensures
+    lowest_wrong _ _ _ _ _ _ _ _ (entering_made _ _ _ _ _ _ _ c.blocks-2.invariant.0 c.blocks-2-test.true _ c.chunk_from.ensures _ c.in-Some.is _ _ c.offset-at.ensures.0 c.wide-n.ensures.0 true (lowest_enters _ _ _ _ c.enters_lowest.ensures c.if-not-enters_lowest.false) refl) _ _ _ _ c.loop-k.invariant.1 c.loop-k-test.true _ c.comes.ensures c.if-not-comes.true _ c.wrong-seen.ensures
