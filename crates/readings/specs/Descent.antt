@@ -2,6 +2,7 @@
 use Rattle.std.specs.Prelude.{◌≡◌, cond, List, ℕ, ◌-◌, eqb, Option, Some, None}
 use Rattle.sizes.specs.declared.Geometry.{Geometry}
 use Rattle.placement.specs.Decode.{node_of}
+use Rattle.placement.specs.declared.Order.{Order}
 use Rattle.levels.specs.Ways.{Trek, trek, starting, down_in}
 
 -- the whole way to a key, its path written to an output

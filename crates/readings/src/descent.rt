@@ -12,6 +12,7 @@ ghost use Rattle.readings.specs.Descent.{way, landed, Written};
 
 use crate::calls::{answered, is_key, refused};
 use levels::ways::{descend, way_down};
+use placement::Order;
 use placement::rows::node_of;
 use sizes::hash::reckon;
 use sizes::header::{Header, rule_of};
