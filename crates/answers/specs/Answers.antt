@@ -1,7 +1,7 @@
 -- What each line prints. Document 01, "The program and one full run".
-use Rattle.std.specs.Prelude.{◌≡◌, cond, List, [], ◌∷◌, ◌++◌, map, ℕ, zero, suc, ltb, eqb, length, take, drop}
+use Rattle.std.specs.Prelude.{◌≡◌, cond, Option, None, Some, List, [], ◌∷◌, ◌++◌, map, ℕ, ◌+◌, zero, suc, ltb, eqb, length, drop}
 use Rattle.lines.specs.declared.Call.{Call}
-use Rattle.lines.specs.declared.Call.TheVariants.{Bad, Make, Put, Cancel, Show, Span, Seek, Blocks}
+use Rattle.lines.specs.declared.Call.TheVariants.{Make, Put, Cancel, Show, Span, Seek, Blocks}
 use Rattle.lines.specs.Text.{row, dash}
 use Rattle.sizes.specs.Header.{sizes_in}
 use Rattle.placement.specs.Blocks.{Block, empty, holds}
@@ -13,10 +13,10 @@ use Rattle.skiplist.specs.Questions.{first_no, between, enough, lowest, asks_ima
 use Rattle.skiplist.specs.Book.{cancel, lookup, seek, make_refusal, refusal, done}
 use Rattle.table.specs.Calls.{check_number, order_of}
 use Rattle.answers.specs.Asked.{piece, asked, sizes_asked, long_asked}
-use Rattle.answers.specs.Lent.{Lent}
 use Rattle.answers.specs.Output.{Said}
 use Rattle.answers.specs.Put.{put_refusal, put_leaves}
-use Rattle.answers.specs.declared.Lengths.{Lengths}
+use Rattle.answers.specs.Table.{Held}
+use Rattle.answers.specs.declared.printer.Printer.{Printer}
 
 -- "Each prints its number first, and on a refusal nothing more": what a call adds in that same line, and its further lines
 unfoldable pub answer_lines : (number : ℕ) → (adds : List ℕ) → (more : List (List ℕ)) → List (List ℕ)
@@ -36,6 +36,13 @@ make_lines p = cond (ltb 65536 (long_asked p)) mark_lines (answer_lines (make_nu
 
 unfoldable pub make_leaves : (pieces table : List ℕ) → List ℕ
 make_leaves p x = cond (ltb 65536 (long_asked p)) x (cond (eqb (make_number p) 0) (image (sizes_asked p) []) x)
+
+-- the call, where it is made: its number, and the table that it leaves; the bytes behind that keep their values
+pub record MakeDoes (p : List ℕ) (r : Option ℕ) (table table_now : Held) : Type 0 where
+  pub number : r ≡ cond (ltb 65536 (long_asked p)) None (Some (make_number p))
+  pub left : table_now.bytes ≡ make_leaves p table.bytes
+  pub behind : table_now.behind ≡ drop (length table_now.bytes) (table.bytes ++ table.behind)
+  pub whole : length table_now.bytes + length table_now.behind ≡ length table.bytes + length table.behind
 
 -- "`show` adds total and displayed"
 unfoldable pub show_lines : (table : List ℕ) → (key : ℕ) → List (List ℕ)
@@ -80,29 +87,29 @@ unfoldable pub blocks_lines : (table : List ℕ) → List (List ℕ)
 blocks_lines x = answer_lines (check_number x) [] (image_lines x)
 
 -- ONE LINE, with the numbers of its pieces: what it leaves of the table, and what it prints; `room` is the length of the output that a span is lent
-unfoldable pub leaves : Call → (pieces table : List ℕ) → List ℕ
-leaves Make p x = make_leaves p x
-leaves Put p x = put_leaves (piece p 1) (piece p 2) (piece p 3) x
-leaves Cancel p x = done (cancel (piece p 1)) x
-leaves Show p x = x
-leaves Span p x = x
-leaves Seek p x = x
-leaves Blocks p x = x
-leaves Bad p x = x
+unfoldable pub leaves : Option Call → (pieces table : List ℕ) → List ℕ
+leaves (Some Make) p x = make_leaves p x
+leaves (Some Put) p x = put_leaves (piece p 1) (piece p 2) (piece p 3) x
+leaves (Some Cancel) p x = done (cancel (piece p 1)) x
+leaves (Some Show) p x = x
+leaves (Some Span) p x = x
+leaves (Some Seek) p x = x
+leaves (Some Blocks) p x = x
+leaves None p x = x
 
-unfoldable pub prints : Call → (pieces : List ℕ) → (room : ℕ) → (table : List ℕ) → List (List ℕ)
-prints Make p room x = make_lines p
-prints Put p room x = answer_lines (put_refusal (piece p 1) (piece p 2) (piece p 3) x) [] []
-prints Cancel p room x = answer_lines (refusal (cancel (piece p 1)) x) [] []
-prints Show p room x = show_lines x (piece p 1)
-prints Span p room x = span_lines x (piece p 1) (piece p 2) room
-prints Seek p room x = seek_lines x (piece p 1) (piece p 2) (piece p 3)
-prints Blocks p room x = blocks_lines x
-prints Bad p room x = mark_lines
+unfoldable pub prints : Option Call → (pieces : List ℕ) → (room : ℕ) → (table : List ℕ) → List (List ℕ)
+prints (Some Make) p room x = make_lines p
+prints (Some Put) p room x = answer_lines (put_refusal (piece p 1) (piece p 2) (piece p 3) x) [] []
+prints (Some Cancel) p room x = answer_lines (refusal (cancel (piece p 1)) x) [] []
+prints (Some Show) p room x = show_lines x (piece p 1)
+prints (Some Span) p room x = span_lines x (piece p 1) (piece p 2) room
+prints (Some Seek) p room x = seek_lines x (piece p 1) (piece p 2) (piece p 3)
+prints (Some Blocks) p room x = blocks_lines x
+prints None p room x = mark_lines
 
--- the same of the program's buffers, whose first bytes are the table and the output that waits
-pub record Step (c : Call) (p : List ℕ) (room : ℕ) (d : Lengths) (table out : List ℕ) (e : Lengths) (table_now out_now : List ℕ) : Type 0 where
-  pub left : take e.long table_now ≡ leaves c p (take d.long table)
-  pub behind : drop e.long table_now ≡ drop e.long table
-  pub lent : Lent table_now e.long
-  pub said : Said out d.used (prints c p room (take d.long table)) out_now e.used
+-- the same of the program's table and printer; the bytes behind the table that it leaves keep their values
+pub record Step (c : Option Call) (p : List ℕ) (room : ℕ) (table : Held) (to : Printer) (table_now : Held) (to_now : Printer) : Type 0 where
+  pub left : table_now.bytes ≡ leaves c p table.bytes
+  pub behind : table_now.behind ≡ drop (length table_now.bytes) (table.bytes ++ table.behind)
+  pub whole : length table_now.bytes + length table_now.behind ≡ length table.bytes + length table.behind
+  pub said : Said to (prints c p room table.bytes) to_now

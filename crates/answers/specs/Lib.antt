@@ -1,6 +1,6 @@
 pub mod Answers
 pub mod Asked
 pub mod Failure
-pub mod Lent
 pub mod Output
 pub mod Put
+pub mod Table

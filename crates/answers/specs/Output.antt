@@ -1,8 +1,7 @@
--- The output as it waits in a buffer of 65,536 bytes. Document 01, "The program and one full run": what each line prints comes after what those before it
--- print.
+-- The output as it waits in the printer's buffer. Document 01, "The program and one full run": what each line prints comes after what those before it print.
 use Rattle.std.specs.Prelude.{◌≡◌, cond, List, [], ◌∷◌, ◌++◌, ℕ, ◌+◌, ltb, length, take}
 use Rattle.std.proofs.lemmas.List.Edits.{sets}
-use Rattle.answers.specs.Lent.{Lent}
+use Rattle.answers.specs.declared.printer.Printer.{Printer}
 
 pub record Waiting : Type 0 where
   pub buffer : List ℕ
@@ -10,6 +9,13 @@ pub record Waiting : Type 0 where
 
 abbrev pub waiting : (buffer : List ℕ) → (used : ℕ) → Waiting
 waiting b n = record { buffer = b; used = n }
+
+-- the buffer of a printer, and the bytes that wait in it
+abbrev pub waiting_in : Printer → Waiting
+waiting_in p = waiting p.buffer p.used
+
+abbrev pub waits : Printer → List ℕ
+waits p = take p.used p.buffer
 
 -- a line more. Where more than 65,000 bytes wait, they are handed on to standard output first
 unfoldable pub room_at : (used : ℕ) → ℕ
@@ -35,7 +41,6 @@ text [] = []
 text (l ∷ ls) = l ++ text ls
 
 -- LINES ARE PRINTED: what was handed on and what waits now are what waited before and the lines, no byte more and none less
-pub record Said (old : List ℕ) (used : ℕ) (lines : List (List ℕ)) (new : List ℕ) (r : ℕ) : Type 0 where
-  pub lent : Lent new r
-  pub is : waiting new r ≡ told (waiting old used) lines
-  pub whole : handed (waiting old used) lines ++ take r new ≡ take used old ++ text lines
+pub record Said (old : Printer) (lines : List (List ℕ)) (new : Printer) : Type 0 where
+  pub is : waiting_in new ≡ told (waiting_in old) lines
+  pub whole : handed (waiting_in old) lines ++ waits new ≡ waits old ++ text lines

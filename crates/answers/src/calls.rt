@@ -1,43 +1,45 @@
-// The calls on the table, which is the first `long` bytes of a buffer. No other file names the crates that have them.
-ghost use Rattle.std.specs.Prelude.{◌≡◌, true, ◌≤◌, length, take};
-ghost use Rattle.sizes.specs.Sizes.{row};
+// The calls on the program's table. No other file names the crates that have them.
+ghost use Rattle.std.specs.Prelude.{◌≡◌, true, false, [], ◌≤◌, MatchOption, length};
+ghost use Rattle.sizes.specs.Sizes.{row, sizes_good};
 ghost use Rattle.sizes.specs.Header.{sizes_in};
 ghost use Rattle.skiplist.specs.Image.{is_image};
 ghost use Rattle.table.specs.Calls.{EnterSays, AmendSays, CancelSays, check_number, LookSays, SpanSays, SeekSays};
-ghost use Rattle.answers.specs.Asked.{seed_asked, plain_asked, long_asked, MakeAsked};
-ghost use Rattle.answers.specs.Lent.{Front};
+ghost use Rattle.answers.specs.Answers.{MakeDoes};
+ghost use Rattle.answers.specs.Asked.{seed_asked, sizes_asked, plain_asked, long_asked};
 ghost use Rattle.answers.specs.Put.{PutDoes};
+ghost use Rattle.answers.specs.Table.{Front};
 
 use placement::Order;
 use sizes::Sizes;
 use sizes::header::{Header, row, sizes_allowed, table_length};
 use sizes::numbers::put4;
-use table::Reply;
+use std::marker::Model;
+use table::{Reply, answer};
 
 // The sizes that a make is asked for, with no seed.
 fn sizes_of(pieces: [u32; 15]) -> Sizes
     ensures { result ≡ plain_asked pieces }
 {
-    let seed = [0u32; 10];
     Sizes {
         version: 1,
         gamma: pieces[1],
         nodes: pieces[2],
         orders: pieces[3],
         blocks: pieces[4],
-        seed: seed,
+        seed: [0; 10],
     }
 }
 
-// The bytes of a table of allowed sizes; 0 for sizes that are not allowed.
-pub fn wanted(pieces: [u32; 15]) -> usize
-    ensures { result ≡ long_asked pieces }
+// The bytes of a table of the sizes that a make is asked for, where they are allowed.
+fn wanted(pieces: [u32; 15]) -> Option<usize>
+    ensures { MatchOption result (sizes_good (sizes_asked pieces) ≡ false) (λ n. (sizes_good (sizes_asked pieces) ≡ true) × (n ≡ long_asked pieces)) }
 {
     let s = sizes_of(pieces);
     if sizes_allowed(s) {
-        return table_length(s) as usize;
+        Some(table_length(s) as usize)
+    } else {
+        None
     }
-    0
 }
 
 // The ten seed numbers as bytes.
@@ -45,102 +47,137 @@ fn write_seed(seed: &mut [u8], pieces: [u32; 15])
     requires { length seed.old ≡ 40 }
     ensures { seed.new ≡ seed_asked pieces }
 {
-    let mut i: usize = 0;
-    while i < 10 {
-        put4(seed, 4 * i, pieces[5 + i]);
-        i += 1;
+    for (i, number) in pieces[5..].iter().enumerate() {
+        put4(seed, 4 * i, *number);
     }
 }
 
-pub fn make(table: &mut [u8], long: usize, pieces: [u32; 15]) -> u32
-    requires { long ≤ length table.old }
-    ensures { Front long table.old table.new (MakeAsked pieces result) }
-{
-    let mut seed = [0u8; 40];
-    write_seed(&mut seed, pieces);
-    table::making::make(
-        &mut table[0..long],
-        1,
-        pieces[1],
-        pieces[2],
-        pieces[3],
-        pieces[4],
-        &seed,
-    )
+// A buffer and how many of its bytes are the table: none before a make succeeds.
+#[derive(Drop)]
+pub struct Table {
+    buffer: [u8; 65536],
+    long: usize,
 }
 
-fn enter(table: &mut [u8], long: usize, o: Order) -> u32
-    requires { long ≤ length table.old }
-    ensures { Front long table.old table.new (EnterSays o.key o.total o.displayed o.price result) }
-{
-    edits::changes::enter(&mut table[0..long], o)
+impl Model for Table {
+    ghost use Rattle.std.specs.Prelude.{◌≤◌, take, drop};
+    ghost use Rattle.answers.specs.Table.{Held};
+
+    ghost Value = { Held };
+
+    ghost view = { λ t. record { bytes = take t.long t.buffer; behind = drop t.long t.buffer } };
+
+    ghost invariant = { λ t. t.long ≤ 65536 };
 }
 
-fn amend(table: &mut [u8], long: usize, o: Order) -> u32
-    requires { long ≤ length table.old }
-    ensures { Front long table.old table.new (AmendSays o.key o.total o.displayed o.price result) }
-{
-    edits::changes::amend(&mut table[0..long], o)
-}
-
-// A put enters a key; one that is held already is amended. The program's orders have no price.
-#[tactic(auto, using(crate::proofs::Laws::Puts::put_entered, crate::proofs::Laws::Puts::put_amended))]
-pub fn put(table: &mut [u8], long: usize, key: u32, total: u32, displayed: u32) -> u32
-    requires { long ≤ length table.old }
-    ensures { Front long table.old table.new (PutDoes key total displayed result) }
-{
-    let o = Order {
-        key: key,
-        total: total,
-        displayed: displayed,
-        price: 0,
-    };
-    let n = enter(table, long, o);
-    if n == 13 {
-        return amend(table, long, o);
+impl Table {
+    // No table yet.
+    pub fn new() -> Table
+        ensures { (result.bytes ≡ []) × (length result.behind ≡ 65536) }
+    {
+        Table {
+            buffer: [0; 65536],
+            long: 0,
+        }
     }
-    n
-}
 
-pub fn cancel(table: &mut [u8], long: usize, key: u32) -> u32
-    requires { long ≤ length table.old }
-    ensures { Front long table.old table.new (CancelSays key result) }
-{
-    edits::changes::cancel(&mut table[0..long], key)
-}
+    pub(crate) fn bytes(&self) -> &[u8]
+        ensures { result.now ≡ self.now.bytes }
+    {
+        &self.buffer[..self.long]
+    }
 
-pub fn show(table: &[u8], long: usize, key: u32) -> Reply
-    requires { long ≤ length table.now }
-    ensures { LookSays (take long table.now) key result }
-{
-    readings::calls::lookup(&table[0..long], key)
-}
+    // A make whose table is too long is no call. A refused make keeps the older table.
+    pub(crate) fn make(&mut self, pieces: [u32; 15]) -> Option<u32>
+        ensures { MakeDoes pieces result self.old self.new }
+    {
+        let long = wanted(pieces).unwrap_or(0);
+        if 65536 < long {
+            return None;
+        }
+        let mut seed = [0u8; 40];
+        write_seed(&mut seed, pieces);
+        let made = table::making::make(
+            &mut self.buffer[..long],
+            1,
+            pieces[1],
+            pieces[2],
+            pieces[3],
+            pieces[4],
+            &seed,
+        );
+        let n = answer(made);
+        if n == 0 {
+            self.long = long;
+        }
+        Some(n)
+    }
 
-pub fn span(table: &[u8], long: usize, lo: u32, hi: u32, found: &mut [u8]) -> Reply
-    requires { long ≤ length table.now }
-    ensures { SpanSays (take long table.now) lo hi result found.old found.new }
-{
-    readings::calls::span(&table[0..long], lo, hi, found)
-}
+    fn enter(&mut self, o: Order) -> u32
+        ensures { Front self.old self.new (EnterSays o.key o.total o.displayed o.price result) }
+    {
+        answer(edits::changes::enter(&mut self.buffer[..self.long], o))
+    }
 
-pub fn seek(table: &[u8], long: usize, lo: u32, hi: u32, reserve: u32) -> Reply
-    requires { long ≤ length table.now }
-    ensures { SeekSays (take long table.now) lo hi reserve result }
-{
-    readings::calls::seek(&table[0..long], lo, hi, reserve)
-}
+    fn amend(&mut self, o: Order) -> u32
+        ensures { Front self.old self.new (AmendSays o.key o.total o.displayed o.price result) }
+    {
+        answer(edits::changes::amend(&mut self.buffer[..self.long], o))
+    }
 
-pub fn check(table: &[u8], long: usize) -> u32
-    requires { long ≤ length table.now }
-    ensures { result ≡ check_number (take long table.now) }
-{
-    table::checking::check(&table[0..long])
-}
+    // A put enters a key; one that is held already is amended. The program's orders have no price.
+    #[tactic(auto, using(crate::proofs::Laws::Puts::put_entered, crate::proofs::Laws::Puts::put_amended))]
+    pub(crate) fn put(&mut self, key: u32, total: u32, displayed: u32) -> u32
+        ensures { Front self.old self.new (PutDoes key total displayed result) }
+    {
+        let o = Order {
+            key,
+            total,
+            displayed,
+            price: 0,
+        };
+        match self.enter(o) {
+            13 => self.amend(o),
+            n => n,
+        }
+    }
 
-// The bytes of a row of the table.
-pub fn row_of(table: &[u8], long: usize) -> usize
-    requires { (long ≤ length table.now) × (is_image (take long table.now) ≡ true) }
-    ensures { (result ≡ row (sizes_in (take long table.now))) × (12 ≤ result) × (result ≤ 16) }
-{
-    row(Header::read(&table[0..long]).sizes)
+    pub(crate) fn cancel(&mut self, key: u32) -> u32
+        ensures { Front self.old self.new (CancelSays key result) }
+    {
+        answer(edits::changes::cancel(&mut self.buffer[..self.long], key))
+    }
+
+    pub(crate) fn show(&self, key: u32) -> Reply
+        ensures { LookSays self.now.bytes key result }
+    {
+        Reply::from(readings::calls::lookup(self.bytes(), key))
+    }
+
+    // The rows of the orders go into `found`.
+    pub(crate) fn span(&self, lo: u32, hi: u32, found: &mut [u8]) -> Reply
+        ensures { SpanSays self.now.bytes lo hi result found.old found.new }
+    {
+        Reply::from(readings::calls::span(self.bytes(), lo, hi, found))
+    }
+
+    pub(crate) fn seek(&self, lo: u32, hi: u32, reserve: u32) -> Reply
+        ensures { SeekSays self.now.bytes lo hi reserve result }
+    {
+        Reply::from(readings::calls::seek(self.bytes(), lo, hi, reserve))
+    }
+
+    pub(crate) fn check(&self) -> u32
+        ensures { result ≡ check_number self.now.bytes }
+    {
+        answer(table::checking::check(self.bytes()))
+    }
+
+    // The bytes of a row of the table.
+    pub(crate) fn row_length(&self) -> usize
+        requires { is_image self.now.bytes ≡ true }
+        ensures { (result ≡ row (sizes_in self.now.bytes)) × (12 ≤ result) × (result ≤ 16) }
+    {
+        row(Header::read(self.bytes()).sizes)
+    }
 }

@@ -1,11 +1,17 @@
 // The C interface: each call as documents 01 and 02 have it, on numbers and byte slices. include/balluchaw.h says the same in C.
+// C has no Result and no struct of ours but Reply: a call takes numbers, and gives a number or a Reply.
 #![tactic(auto)]
 
 ghost use Rattle.std.specs.Prelude.{◌≡◌};
 ghost use Rattle.table.specs.Calls.{parameters, MakeSays, check_number, EnterSays, AmendSays, CancelSays, LookSays, DescentSays, SpanSays, SeekSays};
 
+use edits::changes::{amend, cancel, enter};
 use placement::Order;
-use table::Reply;
+use readings::calls::{lookup, seek, span};
+use readings::descent::descent;
+use table::checking::check;
+use table::making::make;
+use table::{Reply, answer};
 
 #[unsafe(no_mangle)]
 pub extern "C" fn balluchaw_make(
@@ -19,14 +25,14 @@ pub extern "C" fn balluchaw_make(
 ) -> u32
     ensures { MakeSays (parameters version gamma nodes orders blocks seed.now) result table.old table.new × (seed.exit.now ≡ seed.entry.now) }
 {
-    table::making::make(table, version, gamma, nodes, orders, blocks, seed)
+    answer(make(table, version, gamma, nodes, orders, blocks, seed))
 }
 
 #[unsafe(no_mangle)]
 pub extern "C" fn balluchaw_check(table: &[u8]) -> u32
     ensures { (result ≡ check_number table.now) × (table.exit.now ≡ table.entry.now) }
 {
-    table::checking::check(table)
+    answer(check(table))
 }
 
 #[unsafe(no_mangle)]
@@ -39,15 +45,13 @@ pub extern "C" fn balluchaw_enter(
 ) -> u32
     ensures { EnterSays key total displayed price result table.old table.new }
 {
-    edits::changes::enter(
-        table,
-        Order {
-            key: key,
-            total: total,
-            displayed: displayed,
-            price: price,
-        },
-    )
+    let o = Order {
+        key,
+        total,
+        displayed,
+        price,
+    };
+    answer(enter(table, o))
 }
 
 #[unsafe(no_mangle)]
@@ -60,48 +64,46 @@ pub extern "C" fn balluchaw_amend(
 ) -> u32
     ensures { AmendSays key total displayed price result table.old table.new }
 {
-    edits::changes::amend(
-        table,
-        Order {
-            key: key,
-            total: total,
-            displayed: displayed,
-            price: price,
-        },
-    )
+    let o = Order {
+        key,
+        total,
+        displayed,
+        price,
+    };
+    answer(amend(table, o))
 }
 
 #[unsafe(no_mangle)]
 pub extern "C" fn balluchaw_cancel(table: &mut [u8], key: u32) -> u32
     ensures { CancelSays key result table.old table.new }
 {
-    edits::changes::cancel(table, key)
+    answer(cancel(table, key))
 }
 
 #[unsafe(no_mangle)]
 pub extern "C" fn balluchaw_lookup(table: &[u8], key: u32) -> Reply
     ensures { LookSays table.now key result × (table.exit.now ≡ table.entry.now) }
 {
-    readings::calls::lookup(table, key)
+    Reply::from(lookup(table, key))
 }
 
 #[unsafe(no_mangle)]
 pub extern "C" fn balluchaw_descent(table: &[u8], key: u32, path: &mut [u8]) -> Reply
     ensures { DescentSays table.now key result path.old path.new × (table.exit.now ≡ table.entry.now) }
 {
-    readings::descent::descent(table, key, path)
+    descent(table, key, path)
 }
 
 #[unsafe(no_mangle)]
 pub extern "C" fn balluchaw_span(table: &[u8], lo: u32, hi: u32, output: &mut [u8]) -> Reply
     ensures { SpanSays table.now lo hi result output.old output.new × (table.exit.now ≡ table.entry.now) }
 {
-    readings::calls::span(table, lo, hi, output)
+    Reply::from(span(table, lo, hi, output))
 }
 
 #[unsafe(no_mangle)]
 pub extern "C" fn balluchaw_seek(table: &[u8], lo: u32, hi: u32, reserve: u32) -> Reply
     ensures { SeekSays table.now lo hi reserve result × (table.exit.now ≡ table.entry.now) }
 {
-    readings::calls::seek(table, lo, hi, reserve)
+    Reply::from(seek(table, lo, hi, reserve))
 }

@@ -8,6 +8,8 @@ use Rattle.sizes.specs.Header.{header, sizes_in, held_in}
 use Rattle.placement.specs.Maps.{Map, map_of, Table}
 use Rattle.sizes.specs.declared.Sizes.{Sizes}
 use Rattle.placement.specs.declared.Order.{Order}
+use Rattle.edits.specs.declared.changes.Change.{Change}
+use Rattle.edits.specs.declared.changes.Change.TheVariants.{Enter, Cancel}
 use Rattle.skiplist.specs.Lists.{first_key, chunks}
 use Rattle.skiplist.specs.Image.{image, orders_good, fits, is_image, orders_in, quantities_good}
 use Rattle.skiplist.specs.Parts.{head_part, counts}
@@ -28,27 +30,40 @@ pub record Between (s : Sizes) (old new : List Order) (k : ℕ) (bs : List ℕ) 
   pub upto : (l f i : ℕ) → l ≤ k → map l f i ≡ map_of (chunks s old) l f i
   pub count : full + counts k 1 s new ≡ length (chunks s new) + counts k 1 s old
 
--- ONE LEVEL OF AN ENTER, and of a cancel, not above the key's own; r is the first key of the partition one level down
-unfoldable pub EnterTurn : Sizes → (k l f : ℕ) → Order → (bs bs' : List ℕ) → (r : ℕ) → Type 0
-EnterTurn s k l f o bs bs' r =
-    (xs zs : List Order) → Setting s xs o zs → l ≡ level s o.key → 0 < k → k ≤ l → f ≡ first_key (head_part s k xs) → Between s (xs ++ zs) (xs ++ o ∷ zs) k bs →
-    (r ≡ first_key (head_part s (k - 1) xs)) × Between s (xs ++ zs) (xs ++ o ∷ zs) (k - 1) bs'
+-- WHICH ORDER CHANGES: the very one that comes in, or the one with the key that goes out
+abbrev pub Of : Change → Order → Type 0
+Of (Enter o) p = p ≡ o
+Of (Cancel y) p = p.key ≡ y
 
-unfoldable pub CancelTurn : Sizes → (k l f y : ℕ) → (bs bs' : List ℕ) → (r : ℕ) → Type 0
-CancelTurn s k l f y bs bs' r =
-    (xs : List Order) (o : Order) (zs : List Order) → Setting s xs o zs → o.key ≡ y → l ≡ level s y → 0 < k → k ≤ l → f ≡ first_key (head_part s k xs) →
-    Between s (xs ++ o ∷ zs) (xs ++ zs) k bs → (r ≡ first_key (head_part s (k - 1) xs)) × Between s (xs ++ o ∷ zs) (xs ++ zs) (k - 1) bs'
+-- its key
+abbrev pub key_of : Change → ℕ
+key_of (Enter o) = o.key
+key_of (Cancel y) = y
+
+-- the orders before a change and after it, of the orders without that one and with it
+abbrev pub before : Change → (less more : List Order) → List Order
+before (Enter o) less more = less
+before (Cancel y) less more = more
+
+abbrev pub behind : Change → (less more : List Order) → List Order
+behind (Enter o) less more = more
+behind (Cancel y) less more = less
+
+abbrev pub OnWay : Sizes → Change → (xs : List Order) → Order → (zs : List Order) → (k : ℕ) → (bs : List ℕ) → Type 0
+OnWay s c xs o zs k bs = Between s (before c (xs ++ zs) (xs ++ o ∷ zs)) (behind c (xs ++ zs) (xs ++ o ∷ zs)) k bs
+
+-- ONE LEVEL OF A CHANGE, not above the key's own; r is the first key of the partition one level down
+unfoldable pub Turn : Sizes → (k l f : ℕ) → Change → (bs bs' : List ℕ) → (r : ℕ) → Type 0
+Turn s k l f c bs bs' r =
+    (xs : List Order) (o : Order) (zs : List Order) → Setting s xs o zs → Of c o → l ≡ level s o.key → 0 < k → k ≤ l → f ≡ first_key (head_part s k xs) →
+    OnWay s c xs o zs k bs → (r ≡ first_key (head_part s (k - 1) xs)) × OnWay s c xs o zs (k - 1) bs'
 
 -- ALL LEVELS, from the key's own, where f leads to it, down: with the number of orders written, the table is the image of the new orders
-unfoldable pub EnterNew : Sizes → (f l : ℕ) → Order → (bs bs' : List ℕ) → Type 0
-EnterNew s f l o bs bs' =
-    (xs zs : List Order) → Setting s xs o zs → f ≡ first_key (head_part s l xs) → l ≡ level s o.key → bs ≡ image s (xs ++ zs) →
-    sets bs' 11 (big 2 (length (xs ++ o ∷ zs))) ≡ image s (xs ++ o ∷ zs)
-
-unfoldable pub CancelHeld : Sizes → (f l y : ℕ) → (bs bs' : List ℕ) → Type 0
-CancelHeld s f l y bs bs' =
-    (xs : List Order) (o : Order) (zs : List Order) → Setting s xs o zs → o.key ≡ y → f ≡ first_key (head_part s l xs) → l ≡ level s y → bs ≡ image s (xs ++ o ∷ zs) →
-    sets bs' 11 (big 2 (length (xs ++ zs))) ≡ image s (xs ++ zs)
+unfoldable pub Turned : Sizes → (f l : ℕ) → Change → (bs bs' : List ℕ) → Type 0
+Turned s f l c bs bs' =
+    (xs : List Order) (o : Order) (zs : List Order) → Setting s xs o zs → Of c o → f ≡ first_key (head_part s l xs) → l ≡ level s o.key →
+    bs ≡ image s (before c (xs ++ zs) (xs ++ o ∷ zs)) →
+    sets bs' 11 (big 2 (length (behind c (xs ++ zs) (xs ++ o ∷ zs)))) ≡ image s (behind c (xs ++ zs) (xs ++ o ∷ zs))
 
 -- ---- what is known on the way of an enter or amend, question by question
 

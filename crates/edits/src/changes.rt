@@ -3,11 +3,12 @@ ghost use Rattle.std.specs.Prelude.{◌≡◌, true, ◌≤◌, ◌<◌, length}
 ghost use Rattle.sizes.specs.Geometry.{Reckoned};
 ghost use Rattle.sizes.specs.Header.{held_in, sizes_in};
 ghost use Rattle.skiplist.specs.Lists.{chunks};
-ghost use Rattle.skiplist.specs.Image.{price_good, is_image, orders_in};
+ghost use Rattle.skiplist.specs.Image.{price_good, quantities_good, is_image, orders_in};
 ghost use Rattle.skiplist.specs.Questions.{first_no, is_key, held, price_allowed, asks_order};
 ghost use Rattle.placement.specs.Place.{Shaped};
 ghost use Rattle.table.specs.Calls.{EnterSays, AmendSays, CancelSays};
-ghost use Rattle.edits.specs.Change.{EnterTurn, EnterNew, CancelTurn, CancelHeld, Sure, Free};
+ghost use Rattle.table.specs.Refusals.{answer};
+ghost use Rattle.edits.specs.Change.{key_of, Turn, Turned, Sure, Free};
 
 use levels::edit::{cancel_below, cancel_in, enter_below, enter_in};
 use levels::growth::{growth, lead};
@@ -21,190 +22,181 @@ use sizes::hash::level_of;
 use sizes::header::{Header, field};
 use sizes::numbers::put2;
 use sizes::{Geometry, Sizes};
-use table::checking::{check, examine};
+use table::Refusal;
+use table::checking::examine;
 
-// One level of an enter, the key's own or one below it; the first key of the partition one level down.
-fn enter_level(table: &mut [u8], q: Geometry, level: u32, l: u32, first: u32, o: Order) -> u32
-    requires { Shaped q.sizes table.old × Reckoned q × (2 ≤ q.sizes.nodes) × (level ≤ q.top) }
-    ensures { EnterTurn q.sizes level l first o table.old table.new result }
-{
-    let x = scan(table, q, level, first, o.key);
-    if level == l {
-        enter_in(table, q.sizes, level, first, x, o);
-        return x.last;
+// What changes on the way down: an order comes in, or the one with a key goes out.
+#[derive(Clone, Copy)]
+enum Change {
+    Enter(Order),
+    Cancel(u32),
+}
+
+impl Change {
+    // The key that comes in or goes out.
+    fn key(self) -> u32
+        ensures { result ≡ key_of self }
+    {
+        match self {
+            Change::Enter(o) => o.key,
+            Change::Cancel(key) => key,
+        }
     }
-    enter_below(table, q.sizes, level, first, x, o);
+}
+
+// One level of a change, the key's own or one below it; the first key of the partition one level down.
+fn change_level(table: &mut [u8], q: Geometry, level: u32, l: u32, first: u32, c: Change) -> u32
+    requires { Shaped q.sizes table.old × Reckoned q × (2 ≤ q.sizes.nodes) × (level ≤ q.top) }
+    ensures { Turn q.sizes level l first c table.old table.new result }
+{
+    let y = c.key();
+    let x = scan(table, q, level, first, y);
+    match c {
+        Change::Enter(o) => {
+            if level == l {
+                enter_in(table, q.sizes, level, first, x, o);
+            } else {
+                enter_below(table, q.sizes, level, first, x, o);
+            }
+        }
+        Change::Cancel(_) => {
+            if level == l {
+                cancel_in(table, q.sizes, level, first, x);
+            } else {
+                let own = scan(table, q, level, y, y);
+                cancel_below(table, q.sizes, level, first, x, y, own.size);
+            }
+        }
+    }
     x.last
 }
 
-// A new key comes in at each level, from its own down; `first` leads to it there.
-fn enter_new(table: &mut [u8], q: Geometry, first: u32, l: u32, o: Order)
+// A change at each level, from the key's own down; `first` leads to it there.
+fn change_levels(table: &mut [u8], q: Geometry, first: u32, l: u32, c: Change)
     requires { Shaped q.sizes table.old × Reckoned q × (2 ≤ q.sizes.nodes) × (l ≤ q.top) }
-    ensures { EnterNew q.sizes first l o table.old table.new }
+    ensures { Turned q.sizes first l c table.old table.new }
 {
     let mut from = first;
-    let mut level = l;
-    while 0 < level {
-        from = enter_level(table, q, level, l, from, o);
-        level -= 1;
+    for level in (1..=l).rev() {
+        from = change_level(table, q, level, l, from, c);
     }
 }
 
 // A key that is not held comes in, while there are fewer orders than N: 8 is counted before any change. `full` blocks are not empty.
-fn enter_free(table: &mut [u8], q: Geometry, held: u32, full: u32, o: Order) -> u32
+fn enter_free(table: &mut [u8], q: Geometry, held: u32, full: u32, o: Order) -> Result<(), Refusal>
     requires { Sure table.old q.sizes o × Free table.old q.sizes o.key × (held ≡ held_in table.old) × (full ≡ length (chunks q.sizes (orders_in table.old))) × Reckoned q }
-    ensures { EnterSays o.key o.total o.displayed o.price result table.old table.new }
+    ensures { EnterSays o.key o.total o.displayed o.price (answer result) table.old table.new }
 {
     let l = level_of(q.sizes, q.top, o.key);
     let first = lead(table, q, l, o.key);
     let more = growth(table, q, first, l, o.key);
     if q.sizes.blocks < full + more {
-        return 8;
+        return Err(Refusal::BlocksFull);
     }
-    enter_new(table, q, first, l, o);
+    change_levels(table, q, first, l, Change::Enter(o));
     put2(table, Header::HELD, held + 1);
-    0
+    Ok(())
 }
 
 // The question of 14: has the table a place for the price?
+#[tactic(auto, unfolding(skiplist::specs::Questions::price_allowed))]
 fn price_allowed(s: Sizes, price: u32) -> bool
     ensures { result ≡ price_allowed s price }
 {
-    if s.version == 1 {
-        return price == 0;
-    }
-    true
+    s.version != 1 || price == 0
 }
 
 // The price of an order: none in version 1, at least 1 in version 2.
+#[tactic(auto, unfolding(skiplist::specs::Image::price_good))]
 fn price_good(s: Sizes, price: u32) -> bool
     ensures { result ≡ price_good s price }
 {
     if s.version == 1 {
-        return price == 0;
+        price == 0
+    } else {
+        1 <= price
     }
-    1 <= price
+}
+
+// The question of 6: is something to be traded, no more of it shown than there is, and at a price?
+#[tactic(auto, unfolding(skiplist::specs::Image::quantities_good))]
+fn quantities_good(s: Sizes, o: Order) -> bool
+    ensures { result ≡ quantities_good s o.total o.displayed o.price }
+{
+    1 <= o.total && o.displayed <= o.total && price_good(s, o.price)
 }
 
 // The questions of an image that enter and amend share: 14, 5, 6.
-fn asked(s: Sizes, o: Order) -> u32
-    ensures { result ≡ first_no (asks_order s o.key o.total o.displayed o.price) }
+#[tactic(auto, unfolding(skiplist::specs::Questions::asks_order, skiplist::specs::Questions::first_no))]
+fn asked(s: Sizes, o: Order) -> Result<(), Refusal>
+    ensures { answer result ≡ first_no (asks_order s o.key o.total o.displayed o.price) }
 {
     if !price_allowed(s, o.price) {
-        return 14;
+        return Err(Refusal::NoPrices);
     }
     if !is_key(o.key) {
-        return 5;
+        return Err(Refusal::NoKey);
     }
-    if o.total == 0 {
-        return 6;
+    if !quantities_good(s, o) {
+        return Err(Refusal::BadQuantities);
     }
-    if o.total < o.displayed {
-        return 6;
-    }
-    if !price_good(s, o.price) {
-        return 6;
-    }
-    0
+    Ok(())
 }
 
 // Enter: 4, 14, 5, 6, 13, 7, 8.
-pub fn enter(table: &mut [u8], o: Order) -> u32
-    ensures { EnterSays o.key o.total o.displayed o.price result table.old table.new }
+pub fn enter(table: &mut [u8], o: Order) -> Result<(), Refusal>
+    ensures { EnterSays o.key o.total o.displayed o.price (answer result) table.old table.new }
 {
-    let t = examine(table);
-    if !t.clean {
-        return 4;
-    }
+    let full = examine(table)?;
     let q = geometry_of(table);
-    let n = asked(q.sizes, o);
-    if n != 0 {
-        return n;
-    }
+    asked(q.sizes, o)?;
     let None = order_of(table, q, o.key) else {
-        return 13;
+        return Err(Refusal::HeldAlready);
     };
     let held = field(table, Header::HELD_FIELD);
     if q.sizes.orders <= held {
-        return 7;
+        return Err(Refusal::OrdersFull);
     }
-    enter_free(table, q, held, t.full, o)
+    enter_free(table, q, held, full, o)
 }
 
 // Amend: 4, 14, 5, 6, 9. Quantities and price are replaced where the way down to the key has ended.
-pub fn amend(table: &mut [u8], o: Order) -> u32
-    ensures { AmendSays o.key o.total o.displayed o.price result table.old table.new }
+pub fn amend(table: &mut [u8], o: Order) -> Result<(), Refusal>
+    ensures { AmendSays o.key o.total o.displayed o.price (answer result) table.old table.new }
 {
-    if check(table) != 0 {
-        return 4;
-    }
+    examine(table)?;
     let q = geometry_of(table);
-    let n = asked(q.sizes, o);
-    if n != 0 {
-        return n;
-    }
+    asked(q.sizes, o)?;
     let w = way_down(table, q, 0, o.key);
-    let Some(was) = order_at(table, q.sizes, w.at, o.key) else {
-        return 9;
-    };
+    order_at(table, q.sizes, w.at, o.key).ok_or(Refusal::NotHeld)?;
     write_node(table, q.sizes, w.at, o);
-    0
-}
-
-// One level of a cancel, the key's own or one below it; the first key of the partition one level down.
-fn cancel_level(table: &mut [u8], q: Geometry, level: u32, l: u32, first: u32, y: u32) -> u32
-    requires { Shaped q.sizes table.old × Reckoned q × (2 ≤ q.sizes.nodes) × (level ≤ q.top) }
-    ensures { CancelTurn q.sizes level l first y table.old table.new result }
-{
-    let x = scan(table, q, level, first, y);
-    if level == l {
-        cancel_in(table, q.sizes, level, first, x);
-        return x.last;
-    }
-    let own = scan(table, q, level, y, y);
-    cancel_below(table, q.sizes, level, first, x, y, own.size);
-    x.last
-}
-
-// A key goes out at each level, from its own down; `first` leads to it there.
-fn cancel_held(table: &mut [u8], q: Geometry, first: u32, l: u32, y: u32)
-    requires { Shaped q.sizes table.old × Reckoned q × (2 ≤ q.sizes.nodes) × (l ≤ q.top) }
-    ensures { CancelHeld q.sizes first l y table.old table.new }
-{
-    let mut from = first;
-    let mut level = l;
-    while 0 < level {
-        from = cancel_level(table, q, level, l, from, y);
-        level -= 1;
-    }
+    Ok(())
 }
 
 // A cancel of a held key.
-fn cancel_sure(table: &mut [u8], q: Geometry, key: u32)
+fn cancel_held(table: &mut [u8], q: Geometry, key: u32)
     requires { (is_image table.old ≡ true) × (is_key key ≡ true) × (held key (orders_in table.old) ≡ true) × (q.sizes ≡ sizes_in table.old) × Reckoned q }
     ensures { CancelSays key 0 table.old table.new }
 {
     let held = field(table, Header::HELD_FIELD);
     let l = level_of(q.sizes, q.top, key);
     let first = lead(table, q, l, key);
-    cancel_held(table, q, first, l, key);
+    change_levels(table, q, first, l, Change::Cancel(key));
     put2(table, Header::HELD, held - 1);
 }
 
 // Cancel: 4, 5, 9.
-pub fn cancel(table: &mut [u8], key: u32) -> u32
-    ensures { CancelSays key result table.old table.new }
+pub fn cancel(table: &mut [u8], key: u32) -> Result<(), Refusal>
+    ensures { CancelSays key (answer result) table.old table.new }
 {
-    if check(table) != 0 {
-        return 4;
-    }
+    examine(table)?;
     if !is_key(key) {
-        return 5;
+        return Err(Refusal::NoKey);
     }
     let q = geometry_of(table);
-    let Some(o) = order_of(table, q, key) else {
-        return 9;
+    let Some(_) = order_of(table, q, key) else {
+        return Err(Refusal::NotHeld);
     };
-    cancel_sure(table, q, o.key);
-    0
+    cancel_held(table, q, key);
+    Ok(())
 }

@@ -19,10 +19,6 @@ unfoldable pub one : List Order → ℕ
 one [] = 0
 one (o ∷ os) = 1
 
--- the bytes of the nodes that are carried from chunk to chunk: two chunks of 32 nodes at most, of 16 bytes at most
-abbrev pub poured : ℕ
-poured = 1024
-
 -- what the functions keep of any bytes: the form of the table, and the length of the carry
 pub record Kept (s : Sizes) (bs' cs cs' : List ℕ) : Type 0 where
   pub shaped : Shaped s bs'

@@ -9,10 +9,6 @@ use Rattle.skiplist.specs.Parts.{pieces}
 use Rattle.levels.specs.Edit.{Pieces}
 use Rattle.levels.specs.Pour.{Front, one, numbers, Writable}
 
--- the bytes of the nodes that are carried from chunk to chunk: two chunks of 32 nodes and one node at most, of 16 bytes at most
-abbrev pub shifted : ℕ
-shifted = 1040
-
 -- A CHUNK IS SET to some nodes, or cleared where there are none
 pub record Stored (s : Sizes) (F : Map) (m : ℕ) (hd : List ℕ) (w : Label) (ns : List Order) (bs : List ℕ) : Type 0 where
   pub full : ℕ

@@ -1,31 +1,26 @@
 // One level of an edit. A key comes into its partition at its own level and starts one at each level below; taken out, the same backwards.
-ghost use Rattle.std.specs.Prelude.{◌≡◌, ◌+◌, ◌*◌, ◌-◌, ◌≤◌, ◌<◌, length};
+ghost use Rattle.std.specs.Prelude.{◌≡◌, ◌+◌, ◌*◌, ◌-◌, ◌/◌, ◌%◌, ◌≤◌, ◌<◌};
 ghost use Rattle.std.proofs.lemmas.List.Edits.{sets};
 ghost use Rattle.sizes.specs.Sizes.{row};
 ghost use Rattle.placement.specs.Chunks.{node_bytes};
+ghost use Rattle.placement.specs.Labels.{label};
 ghost use Rattle.skiplist.specs.Lists.{masked};
+ghost use Rattle.skiplist.specs.Parts.{pieces};
 ghost use Rattle.placement.specs.Place.{Shaped};
 ghost use Rattle.levels.specs.Edit.{followed, EntersIn, EntersBelow, CancelsIn, CancelsBelow};
 
-use crate::Spot;
-use crate::pour::{pour, read, take};
+use crate::pour::pour;
 use crate::shift::{shift, store};
 use crate::spots::later;
-use placement::Order;
+use crate::{CHUNK, Carry, POURED, SHIFTED, Spot};
+use placement::rows::write_node;
+use placement::{Label, Order};
 use sizes::Sizes;
 use sizes::header::{row, rows};
 use sizes::numbers::bring;
 
-// The bytes of 32 nodes, the most that a chunk has, where a node has 16, the most.
-const CHUNK: usize = 16 * 32;
-
-// The bytes of the nodes that `pour` carries: two chunks at most.
-const POURED: usize = 2 * CHUNK;
-
-// The bytes of the nodes that `shift` carries: two chunks and a node at most.
-const SHIFTED: usize = 2 * CHUNK + 16;
-
 // An order as a node of a level: quantities and price 0 above level 1.
+#[tactic(auto, unfolding(skiplist::specs::Lists::masked))]
 fn masked(level: u32, o: Order) -> Order
     ensures { result ≡ masked level o }
 {
@@ -33,28 +28,65 @@ fn masked(level: u32, o: Order) -> Order
         return o;
     }
     Order {
-        key: o.key,
         total: 0,
         displayed: 0,
         price: 0,
+        ..o
     }
 }
 
-// A node of a level, as node i of a carry.
-fn write_node(carry: &mut [u8], s: Sizes, i: u32, level: u32, o: Order)
-    requires { 16 * i + 16 ≤ length carry.old }
-    ensures { carry.new ≡ sets carry.old (row s * i) (node_bytes (row s) (masked level o)) }
-{
-    placement::rows::write_node(carry, s, rows(row(s), i), masked(level, o));
+impl<const N: usize> Carry<N> {
+    // A node comes behind those of the carry.
+    fn push(&mut self, s: Sizes, o: Order)
+        requires { 16 * (self.old.count + 1) ≤ N }
+        ensures { (self.new.count ≡ self.old.count + 1) × (self.new.nodes ≡ sets self.old.nodes (row s * self.old.count) (node_bytes (row s) o)) }
+    {
+        write_node(&mut self.nodes, s, rows(row(s), self.count), o);
+        self.count += 1;
+    }
+
+    // Nodes a to n of a chunk come behind those of the carry.
+    #[tactic(auto, unfolding(crate::specs::Edit::followed))]
+    fn follow(&mut self, s: Sizes, chunk: &Carry<CHUNK>, a: u32, n: u32)
+        requires { (a ≤ n) × (n ≤ chunk.now.count) × (16 * (self.old.count + (n - a)) ≤ N) }
+        ensures { (self.new.count ≡ self.old.count + (n - a)) × (self.new.nodes ≡ followed (row s) self.old.count a n self.old.nodes chunk.now.nodes) }
+    {
+        let w = row(s);
+        let more = n - a;
+        bring(
+            &mut self.nodes,
+            rows(w, self.count),
+            &chunk.nodes,
+            rows(w, a),
+            rows(w, more),
+        );
+        self.count += more;
+    }
 }
 
-// Nodes a to n of a chunk, behind the k nodes of a carry.
-fn follow(carry: &mut [u8], s: Sizes, k: u32, chunk: &[u8], a: u32, n: u32)
-    requires { (a ≤ n) × (16 * n ≤ length chunk.now) × (16 * k + 16 * (n - a) ≤ length carry.old) }
-    ensures { carry.new ≡ followed (row s) k a n carry.old chunk.now }
+// Where a key comes in a partition: the chunk, how many of its nodes come before the key, and how many chunks come after it.
+#[derive(Clone, Copy)]
+struct Place {
+    label: Label,
+    kept: u32,
+    later: u32,
+}
+
+fn place_of(s: Sizes, level: u32, first: u32, x: Spot) -> Place
+    requires { 0 < s.nodes }
+    ensures { (result.label ≡ label level first (x.below / s.nodes)) × (result.kept ≡ x.below % s.nodes) × (result.later ≡ pieces s.nodes x.size - (x.below / s.nodes + 1)) }
 {
-    let w = row(s);
-    bring(carry, rows(w, k), chunk, rows(w, a), rows(w, n - a));
+    let number = x.below / s.nodes;
+    let label = Label {
+        level,
+        first,
+        number,
+    };
+    Place {
+        label,
+        kept: x.below % s.nodes,
+        later: later(s.nodes, x.size, number),
+    }
 }
 
 // The key comes into partition `first`, behind the nodes below it.
@@ -62,19 +94,17 @@ pub fn enter_in(table: &mut [u8], s: Sizes, level: u32, first: u32, x: Spot, o: 
     requires { Shaped s table.old × (2 ≤ s.nodes) × (level < 256) }
     ensures { EntersIn s level first x o table.old table.new }
 {
-    let mut chunk = [0u8; CHUNK];
-    let mut carry = [0u8; SHIFTED];
-    let number = x.below / s.nodes;
-    let kept = x.below % s.nodes;
-    let count = later(s.nodes, x.size, number);
-    let n = read(table, s, level, first, number, &mut chunk, 0);
-    if n < kept {
+    let mut chunk = Carry::<CHUNK>::new();
+    let mut carry = Carry::<SHIFTED>::new();
+    let here = place_of(s, level, first, x);
+    chunk.read(table, s, here.label);
+    if chunk.count < here.kept {
         return;
     }
-    follow(&mut carry, s, 0, &chunk, 0, kept);
-    write_node(&mut carry, s, kept, level, o);
-    follow(&mut carry, s, kept + 1, &chunk, kept, n);
-    shift(table, s, level, first, number, count, &mut carry, n + 1);
+    carry.follow(s, &chunk, 0, here.kept);
+    carry.push(s, masked(level, o));
+    carry.follow(s, &chunk, here.kept, chunk.count);
+    shift(table, s, here.label, here.later, &mut carry);
 }
 
 // The key starts a partition of its own with the nodes behind it.
@@ -82,30 +112,26 @@ pub fn enter_below(table: &mut [u8], s: Sizes, level: u32, first: u32, x: Spot, 
     requires { Shaped s table.old × (2 ≤ s.nodes) × (level < 256) }
     ensures { EntersBelow s level first x o table.old table.new }
 {
-    let mut chunk = [0u8; CHUNK];
-    let mut carry = [0u8; POURED];
-    let number = x.below / s.nodes;
-    let kept = x.below % s.nodes;
-    let count = later(s.nodes, x.size, number);
-    let n = read(table, s, level, first, number, &mut chunk, 0);
-    if n < kept {
+    let mut chunk = Carry::<CHUNK>::new();
+    let mut carry = Carry::<POURED>::new();
+    let here = place_of(s, level, first, x);
+    chunk.read(table, s, here.label);
+    if chunk.count < here.kept {
         return;
     }
-    store(table, s, level, first, number, kept, &chunk);
-    write_node(&mut carry, s, 0, level, o);
-    follow(&mut carry, s, 1, &chunk, kept, n);
-    pour(
-        table,
-        s,
+    store(table, s, here.label, here.kept, &chunk.nodes);
+    carry.push(s, masked(level, o));
+    carry.follow(s, &chunk, here.kept, chunk.count);
+    let next = Label {
+        number: here.label.number + 1,
+        ..here.label
+    };
+    let own = Label {
         level,
-        first,
-        number + 1,
-        count,
-        o.key,
-        0,
-        &mut carry,
-        n - kept + 1,
-    );
+        first: o.key,
+        number: 0,
+    };
+    pour(table, s, next, here.later, own, &mut carry);
 }
 
 // The key goes out of partition `first`; it stands behind the nodes below it.
@@ -113,18 +139,16 @@ pub fn cancel_in(table: &mut [u8], s: Sizes, level: u32, first: u32, x: Spot)
     requires { Shaped s table.old × (2 ≤ s.nodes) × (level < 256) }
     ensures { CancelsIn s level first x table.old table.new }
 {
-    let mut chunk = [0u8; CHUNK];
-    let mut carry = [0u8; SHIFTED];
-    let number = x.below / s.nodes;
-    let kept = x.below % s.nodes;
-    let count = later(s.nodes, x.size, number);
-    let n = read(table, s, level, first, number, &mut chunk, 0);
-    if n <= kept {
+    let mut chunk = Carry::<CHUNK>::new();
+    let mut carry = Carry::<SHIFTED>::new();
+    let here = place_of(s, level, first, x);
+    chunk.read(table, s, here.label);
+    if chunk.count <= here.kept {
         return;
     }
-    follow(&mut carry, s, 0, &chunk, 0, kept);
-    follow(&mut carry, s, kept, &chunk, kept + 1, n);
-    shift(table, s, level, first, number, count, &mut carry, n - 1);
+    carry.follow(s, &chunk, 0, here.kept);
+    carry.follow(s, &chunk, here.kept + 1, chunk.count);
+    shift(table, s, here.label, here.later, &mut carry);
 }
 
 // The partition that the key y starts joins the one before it, of x.below nodes; it has `size` nodes itself.
@@ -132,26 +156,26 @@ pub fn cancel_below(table: &mut [u8], s: Sizes, level: u32, first: u32, x: Spot,
     requires { Shaped s table.old × (2 ≤ s.nodes) × (level < 256) }
     ensures { CancelsBelow s level first y x.below size table.old table.new }
 {
-    let mut chunk = [0u8; CHUNK];
-    let mut carry = [0u8; POURED];
+    let mut chunk = Carry::<CHUNK>::new();
+    let mut carry = Carry::<POURED>::new();
     let number = x.below / s.nodes;
     let count = later(s.nodes, size, 0);
-    let kept = take(table, s, level, first, number, &mut carry, 0);
-    let n = take(table, s, level, y, 0, &mut chunk, 0);
-    if n == 0 {
-        return;
-    }
-    follow(&mut carry, s, kept, &chunk, 1, n);
-    pour(
-        table,
-        s,
+    let here = Label {
         level,
-        y,
-        1,
-        count,
         first,
         number,
-        &mut carry,
-        kept + n - 1,
-    );
+    };
+    let own = Label {
+        level,
+        first: y,
+        number: 0,
+    };
+    carry.take(table, s, here);
+    chunk.take(table, s, own);
+    if chunk.count == 0 {
+        return;
+    }
+    carry.follow(s, &chunk, 1, chunk.count);
+    let next = Label { number: 1, ..own };
+    pour(table, s, next, count, here, &mut carry);
 }

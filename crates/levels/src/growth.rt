@@ -15,10 +15,12 @@ fn grown(nodes: u32, level: u32, l: u32, x: Spot) -> u32
     requires { (0 < nodes) × (x.below ≤ x.size) × (x.size ≤ most_nodes) }
     ensures { Grown nodes level l x result }
 {
-    if level == l {
-        return chunks_of(nodes, x.size + 1) - chunks_of(nodes, x.size);
-    }
-    chunks_of(nodes, x.below) + chunks_of(nodes, x.size - x.below + 1) - chunks_of(nodes, x.size)
+    let then = if level == l {
+        chunks_of(nodes, x.size + 1)
+    } else {
+        chunks_of(nodes, x.below) + chunks_of(nodes, x.size - x.below + 1)
+    };
+    then - chunks_of(nodes, x.size)
 }
 
 // How many chunks the table has more once a key of level l is there: none above that level, where `first` leads to the key.
@@ -26,14 +28,12 @@ pub fn growth(table: &[u8], q: Geometry, first: u32, l: u32, y: u32) -> u32
     requires { Shaped q.sizes table.now × Reckoned q × (2 ≤ q.sizes.nodes) × (l ≤ q.top) }
     ensures { Grows q.sizes table.now first l y result × (result ≤ 2 * l) }
 {
-    let mut sum: u32 = 0;
+    let mut sum = 0;
     let mut from = first;
-    let mut level = l;
-    while 0 < level {
+    for level in (1..=l).rev() {
         let x = scan(table, q, level, from, y);
-        sum = sum + grown(q.sizes.nodes, level, l, x);
+        sum += grown(q.sizes.nodes, level, l, x);
         from = x.last;
-        level -= 1;
     }
     sum
 }
@@ -43,6 +43,5 @@ pub fn lead(table: &[u8], q: Geometry, l: u32, y: u32) -> u32
     requires { Shaped q.sizes table.now × Reckoned q × (1 ≤ y) }
     ensures { Leads q.sizes table.now l y result }
 {
-    let t = way_down(table, q, l, y - 1);
-    t.first
+    way_down(table, q, l, y - 1).first
 }

@@ -3,161 +3,126 @@
 ghost use Rattle.std.specs.Prelude.{◌≡◌, ◌+◌, ◌*◌, ◌-◌, ◌≤◌, ◌<◌, length, take, drop};
 ghost use Rattle.std.proofs.lemmas.List.Edits.{sets};
 ghost use Rattle.sizes.specs.Sizes.{row};
-ghost use Rattle.placement.specs.Labels.{label};
 ghost use Rattle.placement.specs.Place.{Shaped};
-ghost use Rattle.levels.specs.Pour.{poured, Kept, Reads, Takes, Flushes, Puts, Pours};
+ghost use Rattle.levels.specs.Pour.{Kept, Reads, Takes, Flushes, Puts, Pours};
 
+use crate::{Carry, POURED};
+use placement::Label;
 use placement::edits::{insert, remove};
 use placement::labels::offset;
 use placement::search::{count_at, find};
-use placement::Label;
 use sizes::Sizes;
 use sizes::header::{row, rows, used};
 use sizes::numbers::{bring, copy};
 
-// The nodes of a chunk come behind n nodes of the carry; how many nodes the carry then has. None come where there is no such chunk.
-pub fn read(
-    table: &[u8],
-    s: Sizes,
-    level: u32,
-    first: u32,
-    number: u32,
-    carry: &mut [u8],
-    n: u32,
-) -> u32
-    requires { Shaped s table.now × (16 * (n + s.nodes) ≤ length carry.old) × (length carry.old ≤ 1040) }
-    ensures { (length carry.new ≡ length carry.old) × (result ≤ n + s.nodes) × Reads s (label level first number) n table.now carry.old carry.new result }
-{
-    let Some(i) = find(
-        table,
-        s,
-        Label {
-            level: level,
-            first: first,
-            number: number,
-        },
-    ) else {
-        return n;
-    };
-    let more = count_at(table, s, i);
-    if s.nodes < more {
-        return n;
+impl<const N: usize> Carry<N> {
+    // None yet.
+    pub fn new() -> Self
+        requires { N ≤ 1040 }
+        ensures { (length result.nodes ≡ N) × (result.count ≡ 0) }
+    {
+        Carry {
+            nodes: [0; N],
+            count: 0,
+        }
     }
-    let start = offset(s, i) + 8;
-    bring(carry, rows(row(s), n), table, start, used(s, more));
-    n + more
-}
 
-// Takes a chunk out of the table, its nodes behind n nodes of the carry; how many nodes the carry then has. Nothing changes where there is no such chunk.
-pub fn take(
-    table: &mut [u8],
-    s: Sizes,
-    level: u32,
-    first: u32,
-    number: u32,
-    carry: &mut [u8],
-    n: u32,
-) -> u32
-    requires { Shaped s table.old × (16 * (n + s.nodes) ≤ length carry.old) × (length carry.old ≤ 1040) }
-    ensures { Kept s table.new carry.old carry.new × (result ≤ n + s.nodes) × Takes s (label level first number) n table.old table.new carry.old carry.new result }
-{
-    let now = read(table, s, level, first, number, carry, n);
-    remove(
-        table,
-        s,
-        Label {
-            level: level,
-            first: first,
-            number: number,
-        },
-    );
-    now
+    // The nodes of a chunk come behind those of the carry. None come where there is no such chunk.
+    pub fn read(&mut self, table: &[u8], s: Sizes, want: Label)
+        requires { Shaped s table.now × (16 * (self.old.count + s.nodes) ≤ N) }
+        ensures { (length self.new.nodes ≡ length self.old.nodes) × (self.new.count ≤ self.old.count + s.nodes) × Reads s want self.old.count table.now self.old.nodes self.new.nodes self.new.count }
+    {
+        let Some(i) = find(table, s, want) else {
+            return;
+        };
+        let more = count_at(table, s, i);
+        if s.nodes < more {
+            return;
+        }
+        let start = offset(s, i) + 8;
+        bring(
+            &mut self.nodes,
+            rows(row(s), self.count),
+            table,
+            start,
+            used(s, more),
+        );
+        self.count += more;
+    }
+
+    // Takes a chunk out of the table, its nodes behind those of the carry. Nothing changes where there is no such chunk.
+    pub fn take(&mut self, table: &mut [u8], s: Sizes, want: Label)
+        requires { Shaped s table.old × (16 * (self.old.count + s.nodes) ≤ N) }
+        ensures { Kept s table.new self.old.nodes self.new.nodes × (self.new.count ≤ self.old.count + s.nodes) × Takes s want self.old.count table.old table.new self.old.nodes self.new.nodes self.new.count }
+    {
+        self.read(table, s, want);
+        remove(table, s, want);
+    }
+
+    // The nodes behind the first B move to the front.
+    pub fn advance(&mut self, s: Sizes)
+        requires { s.nodes ≤ self.old.count }
+        ensures { (self.new.count ≡ self.old.count - s.nodes) × (self.new.nodes ≡ sets self.old.nodes 0 (take (row s * self.new.count) (drop (row s * s.nodes) self.old.nodes))) }
+    {
+        let w = row(s);
+        let left = self.count - s.nodes;
+        copy(&mut self.nodes, rows(w, s.nodes), 0, rows(w, left));
+        self.count = left;
+    }
+
+    // A chunk of the first B nodes is written, if there are so many, and the others move to the front.
+    fn flush(&mut self, table: &mut [u8], s: Sizes, want: Label)
+        requires { Shaped s table.old × (want.level < 256) }
+        ensures { Kept s table.new self.old.nodes self.new.nodes × (self.old.count < 2 * s.nodes → self.new.count < s.nodes) × Flushes s want self.old.count table.old table.new self.old.nodes self.new.nodes self.new.count }
+    {
+        if self.count < s.nodes {
+            return;
+        }
+        write_some(table, s, want, s.nodes, &self.nodes);
+        self.advance(s);
+    }
 }
 
 // The first n of some nodes, as a chunk that is not there yet, if there are any.
-pub fn write_some(
-    table: &mut [u8],
-    s: Sizes,
-    level: u32,
-    first: u32,
-    number: u32,
-    n: u32,
-    nodes: &[u8],
-)
-    requires { Shaped s table.old × (level < 256) × (n ≤ s.nodes) × (16 * n ≤ length nodes.now) }
-    ensures { Shaped s table.new × Puts s (label level first number) n table.old table.new nodes.now }
+pub fn write_some(table: &mut [u8], s: Sizes, want: Label, n: u32, nodes: &[u8])
+    requires { Shaped s table.old × (want.level < 256) × (n ≤ s.nodes) × (16 * n ≤ length nodes.now) }
+    ensures { Shaped s table.new × Puts s want n table.old table.new nodes.now }
 {
     if 0 < n {
-        insert(
-            table,
-            s,
-            Label {
-                level: level,
-                first: first,
-                number: number,
-            },
-            n,
-            nodes,
-            0,
-        );
+        insert(table, s, want, n, nodes, 0);
     }
 }
 
-// Moves the nodes of a carry that come behind the first B to its front; how many they are.
-pub fn advance(s: Sizes, carry: &mut [u8], n: u32) -> u32
-    requires { (s.nodes ≤ n) × (16 * n ≤ length carry.old) }
-    ensures { (result ≡ n - s.nodes) × (carry.new ≡ sets carry.old 0 (take (row s * result) (drop (row s * s.nodes) carry.old))) }
-{
-    let w = row(s);
-    let left = n - s.nodes;
-    copy(carry, rows(w, s.nodes), 0, rows(w, left));
-    left
-}
-
-// Writes a chunk of the first B nodes of the carry, if there are so many, and moves the others to its front; how many are left.
-fn flush(
-    table: &mut [u8],
-    s: Sizes,
-    level: u32,
-    first: u32,
-    number: u32,
-    carry: &mut [u8],
-    n: u32,
-) -> u32
-    requires { Shaped s table.old × (level < 256) × (16 * n ≤ length carry.old) }
-    ensures { Kept s table.new carry.old carry.new × (n < 2 * s.nodes → result < s.nodes) × Flushes s (label level first number) n table.old table.new carry.old carry.new result }
-{
-    if n < s.nodes {
-        return n;
-    }
-    write_some(table, s, level, first, number, s.nodes, carry);
-    advance(s, carry, n)
-}
-
-// `count` chunks of partition `from`, from number j on, follow the n nodes of the carry; all are written as chunks of partition `to`, from number q on.
+// `count` chunks of a partition, from chunk `from` on, follow the nodes of the carry; all are written as chunks of another of that level, from chunk `to` on.
 pub fn pour(
     table: &mut [u8],
     s: Sizes,
-    level: u32,
-    from: u32,
-    j: u32,
+    from: Label,
     count: u32,
-    to: u32,
-    q: u32,
-    carry: &mut [u8],
-    n: u32,
+    to: Label,
+    carry: &mut Carry<POURED>,
 )
-    requires { Shaped s table.old × (2 ≤ s.nodes) × (level < 256) × (n < 2 * s.nodes) × (length carry.old ≡ poured) × (q + 1 + count < 4294967296) × (j + count < 4294967296) }
-    ensures { Pours s level from j count to q n table.old table.new carry.old }
+    requires { Shaped s table.old × (2 ≤ s.nodes) × (to.level ≡ from.level) × (from.level < 256) × (carry.old.count < 2 * s.nodes) × (to.number + 1 + count < 4294967296) × (from.number + count < 4294967296) }
+    ensures { Pours s from.level from.first from.number count to.first to.number carry.old.count table.old table.new carry.old.nodes }
 {
-    let mut written = q + n / s.nodes;
-    let mut left = flush(table, s, level, to, q, carry, n);
-    let mut k: u32 = 0;
-    while k < count {
-        let now = take(table, s, level, from, j + k, carry, left);
-        left = flush(table, s, level, to, written, carry, now);
-        written = written + now / s.nodes;
-        k += 1;
+    let mut written = to.number + carry.count / s.nodes;
+    carry.flush(table, s, to);
+    for k in 0..count {
+        let taken = Label {
+            number: from.number + k,
+            ..from
+        };
+        carry.take(table, s, taken);
+        let next = Label {
+            number: written,
+            ..to
+        };
+        written += carry.count / s.nodes;
+        carry.flush(table, s, next);
     }
-    write_some(table, s, level, to, written, left, carry);
+    let last = Label {
+        number: written,
+        ..to
+    };
+    write_some(table, s, last, carry.count, &carry.nodes);
 }

@@ -1,77 +1,63 @@
 // Nodes on the move where labels stay: each chunk of a partition is written over in place, one comes behind the last, or the last goes.
 ghost use Rattle.std.specs.Prelude.{◌≡◌, ◌+◌, ◌*◌, ◌-◌, ◌≤◌, ◌<◌, length};
-ghost use Rattle.placement.specs.Labels.{label};
 ghost use Rattle.placement.specs.Place.{Shaped};
 ghost use Rattle.levels.specs.Pour.{Kept};
-ghost use Rattle.levels.specs.Shift.{shifted, Stores, Renews, Shifts};
+ghost use Rattle.levels.specs.Shift.{Stores, Renews, Shifts};
 
-use crate::pour::{advance, read, write_some};
+use crate::pour::write_some;
+use crate::{Carry, SHIFTED};
+use placement::Label;
 use placement::edits::{pull_back, write_block};
 use placement::search::find;
-use placement::Label;
 use sizes::Sizes;
 
 // The first n of some nodes are a chunk: over the one that is there, or in its place among the others; none where n is 0.
-pub fn store(table: &mut [u8], s: Sizes, level: u32, first: u32, number: u32, n: u32, nodes: &[u8])
-    requires { Shaped s table.old × (level < 256) × (n ≤ s.nodes) × (16 * n ≤ length nodes.now) }
-    ensures { Shaped s table.new × Stores s (label level first number) n table.old table.new nodes.now }
+pub fn store(table: &mut [u8], s: Sizes, want: Label, n: u32, nodes: &[u8])
+    requires { Shaped s table.old × (want.level < 256) × (n ≤ s.nodes) × (16 * n ≤ length nodes.now) }
+    ensures { Shaped s table.new × Stores s want n table.old table.new nodes.now }
 {
-    let label = Label {
-        level: level,
-        first: first,
-        number: number,
-    };
-    let Some(i) = find(table, s, label) else {
-        write_some(table, s, level, first, number, n, nodes);
+    let Some(i) = find(table, s, want) else {
+        write_some(table, s, want, n, nodes);
         return;
     };
     if n == 0 {
         pull_back(table, s, i);
         return;
     }
-    write_block(table, s, i, label, n, nodes, 0);
+    write_block(table, s, i, want, n, nodes, 0);
 }
 
-// A chunk gets the first B nodes of the carry, or all if they are fewer; the others move to its front. How many are left.
-fn renew(
-    table: &mut [u8],
-    s: Sizes,
-    level: u32,
-    first: u32,
-    number: u32,
-    carry: &mut [u8],
-    n: u32,
-) -> u32
-    requires { Shaped s table.old × (level < 256) × (16 * n ≤ length carry.old) }
-    ensures { Kept s table.new carry.old carry.new × (result ≤ n - s.nodes) × Renews s (label level first number) n table.old table.new carry.old carry.new result }
-{
-    if n <= s.nodes {
-        store(table, s, level, first, number, n, carry);
-        return 0;
+impl<const N: usize> Carry<N> {
+    // A chunk gets the first B nodes, or all if they are fewer; the others move to the front.
+    fn renew(&mut self, table: &mut [u8], s: Sizes, want: Label)
+        requires { Shaped s table.old × (want.level < 256) }
+        ensures { Kept s table.new self.old.nodes self.new.nodes × (self.new.count ≤ self.old.count - s.nodes) × Renews s want self.old.count table.old table.new self.old.nodes self.new.nodes self.new.count }
+    {
+        if self.count <= s.nodes {
+            store(table, s, want, self.count, &self.nodes);
+            self.count = 0;
+            return;
+        }
+        store(table, s, want, s.nodes, &self.nodes);
+        self.advance(s);
     }
-    store(table, s, level, first, number, s.nodes, carry);
-    advance(s, carry, n)
 }
 
-// The nodes of chunk q are to be the n nodes of the carry, and `count` chunks of the partition come after it: what does not fit goes on to the next.
-pub fn shift(
-    table: &mut [u8],
-    s: Sizes,
-    level: u32,
-    first: u32,
-    q: u32,
-    count: u32,
-    carry: &mut [u8],
-    n: u32,
-)
-    requires { Shaped s table.old × (2 ≤ s.nodes) × (level < 256) × (n ≤ s.nodes + 1) × (length carry.old ≡ shifted) × (q + count + 3 < 4294967296) }
-    ensures { Shifts s level first q count n table.old table.new carry.old }
+// The nodes of chunk `from` are to be those of the carry, and `count` chunks of the partition come after it: what does not fit goes on to the next.
+pub fn shift(table: &mut [u8], s: Sizes, from: Label, count: u32, carry: &mut Carry<SHIFTED>)
+    requires { Shaped s table.old × (2 ≤ s.nodes) × (from.level < 256) × (carry.old.count ≤ s.nodes + 1) × (from.number + count + 3 < 4294967296) }
+    ensures { Shifts s from.level from.first from.number count carry.old.count table.old table.new carry.old.nodes }
 {
-    let mut left = n;
-    let mut k: u32 = 0;
-    while k < count + 2 {
-        let now = read(table, s, level, first, q + k + 1, carry, left);
-        left = renew(table, s, level, first, q + k, carry, now);
-        k += 1;
+    for k in 0..count + 2 {
+        let here = Label {
+            number: from.number + k,
+            ..from
+        };
+        let next = Label {
+            number: here.number + 1,
+            ..from
+        };
+        carry.read(table, s, next);
+        carry.renew(table, s, here);
     }
 }

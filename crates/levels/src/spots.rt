@@ -2,7 +2,6 @@
 ghost use Rattle.std.specs.Prelude.{◌≡◌, ◌+◌, ◌*◌, ◌-◌, ◌≤◌, ◌<◌, length};
 ghost use Rattle.sizes.specs.Geometry.{Reckoned};
 ghost use Rattle.sizes.specs.Hash.{hash_from};
-ghost use Rattle.placement.specs.Labels.{label};
 ghost use Rattle.placement.specs.Place.{Shaped, search_in};
 ghost use Rattle.skiplist.specs.Parts.{pieces};
 ghost use Rattle.levels.specs.Edit.{most_nodes, Scans};
@@ -10,29 +9,28 @@ ghost use Rattle.levels.specs.Scan.{passed, passes};
 
 use crate::Spot;
 use crate::ways::key_at;
+use placement::Label;
 use placement::labels::offset;
 use placement::search::{count_at, find_high};
-use placement::Label;
 use sizes::Geometry;
 use sizes::hash::hash;
 use sizes::header::row;
 
 // A node comes by: it is counted, and kept if it is below the key.
+#[tactic(auto, unfolding(crate::specs::Scan::passed))]
 fn pass_node(key: u32, y: u32, x: Spot) -> Spot
     requires { (x.below ≤ x.size) × (x.size < most_nodes) }
     ensures { (result ≡ passed key y x) × (result.below ≤ result.size) × (result.size ≡ x.size + 1) }
 {
+    let size = x.size + 1;
     if key < y {
-        return Spot {
+        Spot {
             below: x.below + 1,
             last: key,
-            size: x.size + 1,
-        };
-    }
-    Spot {
-        below: x.below,
-        last: x.last,
-        size: x.size + 1,
+            size,
+        }
+    } else {
+        Spot { size, ..x }
     }
 }
 
@@ -42,31 +40,19 @@ fn pass_nodes(table: &[u8], w: usize, at: usize, n: u32, y: u32, x: Spot) -> Spo
     ensures { (result ≡ passes w table.now n at y x) × (result.below ≤ result.size) × (result.size ≡ x.size + n) }
 {
     let mut spot = x;
-    let mut i: u32 = 0;
-    while i < n {
+    for i in 0..n {
         let key = key_at(table, w, at, n, i);
         spot = pass_node(key, y, spot);
-        i += 1;
     }
     spot
 }
 
 // A chunk's block, by the hash g of the first key.
-fn chunk(table: &[u8], q: Geometry, g: u32, level: u32, first: u32, number: u32) -> Option<u32>
-    requires { Shaped q.sizes table.now × Reckoned q × (g ≡ hash_from 5 5 q.sizes.seed first) × (level ≤ q.top) × (number ≤ 65535) }
-    ensures { result ≡ search_in q.sizes table.now (label level first number) }
+fn chunk(table: &[u8], q: Geometry, g: u32, want: Label) -> Option<u32>
+    requires { Shaped q.sizes table.now × Reckoned q × (g ≡ hash_from 5 5 q.sizes.seed want.first) × (want.level ≤ q.top) × (want.number ≤ 65535) }
+    ensures { result ≡ search_in q.sizes table.now want }
 {
-    find_high(
-        table,
-        q.sizes,
-        q.round,
-        g,
-        Label {
-            level: level,
-            first: first,
-            number: number,
-        },
-    )
+    find_high(table, q.sizes, q.round, g, want)
 }
 
 // How many nodes of a partition are below a key, the key of the last of them, and how many nodes there are.
@@ -76,14 +62,14 @@ pub fn scan(table: &[u8], q: Geometry, level: u32, first: u32, y: u32) -> Spot
 {
     let s = q.sizes;
     let g = hash(s, 5, first);
-    let mut spot = Spot {
-        below: 0,
-        last: 0,
-        size: 0,
-    };
-    let mut number: u32 = 0;
-    while number < s.blocks {
-        let Some(i) = chunk(table, q, g, level, first, number) else {
+    let mut spot = Spot::default();
+    for number in 0..s.blocks {
+        let want = Label {
+            level,
+            first,
+            number,
+        };
+        let Some(i) = chunk(table, q, g, want) else {
             return spot;
         };
         let n = count_at(table, s, i);
@@ -97,7 +83,6 @@ pub fn scan(table: &[u8], q: Geometry, level: u32, first: u32, y: u32) -> Spot
         if n < s.nodes {
             return spot;
         }
-        number += 1;
     }
     spot
 }
@@ -107,10 +92,7 @@ pub fn chunks_of(nodes: u32, n: u32) -> u32
     requires { 0 < nodes }
     ensures { (result ≡ pieces nodes n) × (result ≤ n) }
 {
-    if n == 0 {
-        return 0;
-    }
-    1 + (n - 1) / nodes
+    n.div_ceil(nodes)
 }
 
 // The chunks of so many nodes that come after one of them.
@@ -118,9 +100,5 @@ pub fn later(nodes: u32, n: u32, number: u32) -> u32
     requires { 0 < nodes }
     ensures { result ≡ pieces nodes n - (number + 1) }
 {
-    let all = chunks_of(nodes, n);
-    if all <= number {
-        return 0;
-    }
-    all - number - 1
+    chunks_of(nodes, n).saturating_sub(number).saturating_sub(1)
 }

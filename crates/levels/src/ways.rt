@@ -9,9 +9,9 @@ ghost use Rattle.placement.specs.Place.{Shaped};
 ghost use Rattle.levels.specs.Ways.{starting, trek, number_in, upto_in, passed_in, reached_in, trod, along_in, down_in, way_down};
 
 use crate::Trail;
+use placement::Label;
 use placement::labels::{home_over, offset};
 use placement::search::{behind, count_at, find_past};
-use placement::Label;
 use sizes::hash::hash;
 use sizes::header::{row, rows, used};
 use sizes::numbers::{be4, put2};
@@ -30,17 +30,13 @@ pub fn upto(table: &[u8], w: usize, at: usize, n: u32, y: u32) -> u32
     requires { (12 ≤ w) × (w ≤ 16) × (at + w * n ≤ length table.now) }
     ensures { (result ≡ upto_in w table.now n at y) × (result ≤ n) }
 {
-    let mut i: u32 = 0;
-    while i < n {
-        if y < key_at(table, w, at, n, i) {
-            return i;
-        }
-        i += 1;
-    }
-    i
+    (0..n)
+        .find(|i| y < key_at(table, w, at, n, *i))
+        .unwrap_or(n)
 }
 
 // The same where keys rise, as they do in a table, and the way may go past all of them: the last key is asked first.
+#[tactic(auto, unfolding(crate::specs::Ways::passed_in, crate::specs::Ways::upto_in))]
 fn passed(table: &[u8], w: usize, at: usize, n: u32, y: u32) -> u32
     requires { (12 ≤ w) × (w ≤ 16) × (at + w * n ≤ length table.now) }
     ensures { (result ≡ passed_in w table.now n at y) × (result ≤ n) }
@@ -55,6 +51,7 @@ fn passed(table: &[u8], w: usize, at: usize, n: u32, y: u32) -> u32
 }
 
 // The same of the chunk in a block. No block of a table has more nodes than fit, and a way goes past none but full ones.
+#[tactic(auto, unfolding(crate::specs::Ways::reached_in))]
 fn reached(table: &[u8], s: Sizes, i: u32, y: u32) -> u32
     requires { Shaped s table.now × (i < s.blocks) }
     ensures { (result ≡ reached_in s table.now i y) × (result ≤ s.nodes) }
@@ -72,6 +69,7 @@ fn reached(table: &[u8], s: Sizes, i: u32, y: u32) -> u32
 }
 
 // The number of a block comes to the path, where it has room.
+#[tactic(auto, unfolding(crate::specs::Ways::number_in))]
 fn write_number(path: &mut [u8], count: u32, i: u32)
     ensures { path.new ≡ number_in path.old count i }
 {
@@ -82,6 +80,7 @@ fn write_number(path: &mut [u8], count: u32, i: u32)
 }
 
 // A block comes on the way; n nodes of its chunk are not above the key.
+#[tactic(auto, unfolding(crate::specs::Ways::trod, crate::specs::Ways::node_place))]
 fn tread(table: &[u8], s: Sizes, i: u32, n: u32, t: Trail, path: &mut [u8]) -> Trail
     requires { Shaped s table.now × (i < s.blocks) × (0 < n) × (n ≤ s.nodes) × (t.count < 4294967295) }
     ensures { (trek result path.new ≡ trod s table.now i n (trek t path.old)) × (result.count ≡ t.count + 1) × (result.at + row s ≤ length table.now) }
@@ -102,18 +101,24 @@ fn along(table: &[u8], q: Geometry, g: u32, level: u32, y: u32, t: Trail, path: 
     ensures { (trek result path.new ≡ along_in q.sizes table.now level y (trek t path.old)) × (result.count ≤ t.count + 65535) × (result.at + row q.sizes ≤ length table.now) }
 {
     let s = q.sizes;
-    let mut w = Trail {
-        count: t.count,
-        first: t.first,
-        at: 0,
-    };
-    let mut want = Label {
-        level: level,
-        first: t.first,
-        number: 0,
-    };
-    let mut start = home_over(s, q.round, g, want);
-    while want.number < s.blocks {
+    let first = t.first;
+    let mut w = Trail { at: 0, ..t };
+    let mut start = home_over(
+        s,
+        q.round,
+        g,
+        Label {
+            level,
+            first,
+            number: 0,
+        },
+    );
+    for number in 0..s.blocks {
+        let want = Label {
+            level,
+            first,
+            number,
+        };
         let Some(i) = find_past(table, s, start, want) else {
             return w;
         };
@@ -126,8 +131,11 @@ fn along(table: &[u8], q: Geometry, g: u32, level: u32, y: u32, t: Trail, path: 
         if ends_here {
             return w;
         }
-        want.number += 1;
-        start = behind(s, g, want, i);
+        let next = Label {
+            number: number + 1,
+            ..want
+        };
+        start = behind(s, g, next, i);
     }
     w
 }
@@ -137,27 +145,22 @@ pub fn descend(table: &[u8], q: Geometry, l: u32, y: u32, path: &mut [u8]) -> Tr
     requires { Shaped q.sizes table.now × Reckoned q }
     ensures { (trek result path.new ≡ down_in q.sizes table.now l y (q.top - l) (trek starting path.old)) × (result.at + row q.sizes ≤ length table.now) }
 {
-    let mut t = Trail {
-        count: 0,
-        first: 0,
-        at: 0,
-    };
+    let mut t = Trail::default();
     // One hash for a key: where the way stays with a partition's first key, the hash is that of the level above.
-    let mut first: u32 = 0;
-    let mut g = hash(q.sizes, 5, 0);
-    let mut level = q.top;
-    while l < level {
+    let mut first = 0;
+    let mut g = hash(q.sizes, 5, first);
+    for under in (l..q.top).rev() {
         if t.first != first {
             first = t.first;
             g = hash(q.sizes, 5, first);
         }
-        t = along(table, q, g, level, y, t, path);
-        level -= 1;
+        t = along(table, q, g, under + 1, y, t, path);
     }
     t
 }
 
 // The way alone, without its path.
+#[tactic(auto, unfolding(crate::specs::Ways::way_down))]
 pub fn way_down(table: &[u8], q: Geometry, l: u32, y: u32) -> Trail
     requires { Shaped q.sizes table.now × Reckoned q }
     ensures { (result ≡ way_down q.sizes table.now q.top l y) × (result.at + row q.sizes ≤ length table.now) }

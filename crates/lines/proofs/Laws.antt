@@ -1,5 +1,4 @@
 -- Laws by subject.
-pub mod Steps
 pub mod Pieces
 pub mod Words
 pub mod Reading

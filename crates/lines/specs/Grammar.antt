@@ -1,8 +1,9 @@
 -- What a line says. Document 01, "The program and one full run": "decimal fields of one or more digits with one blank between", the seven words with
 -- their fields, and "a line of another form, a field above 4,294,967,295 .. prints `?`".
-use Rattle.std.specs.Prelude.{Bool, true, false, ◌&&◌, cond, List, [], ◌∷◌, map, ℕ, ◌+◌, ◌*◌, ◌-◌, leb, eqb, length, take}
+use Rattle.std.specs.Prelude.{Bool, true, false, ◌&&◌, cond, Option, None, Some, List, [], ◌∷◌, map, ℕ, ◌+◌, ◌*◌, ◌-◌, leb, eqb, length, take, fold, find, bytes_eq}
+use Rattle.std.specs.List.{list_all}
 use Rattle.lines.specs.declared.Call.{Call}
-use Rattle.lines.specs.declared.Call.TheVariants.{Bad, Make, Put, Cancel, Show, Span, Seek, Blocks}
+use Rattle.lines.specs.declared.Call.TheVariants.{Make, Put, Cancel, Show, Span, Seek, Blocks}
 
 -- "make γ B N M with ten seed numbers; put k t d; cancel k; show k; span lo hi; seek lo hi r; blocks": the seven words, in ASCII
 unfoldable pub word : Call → List ℕ
@@ -13,7 +14,6 @@ word Show = 115 ∷ 104 ∷ 111 ∷ 119 ∷ []
 word Span = 115 ∷ 112 ∷ 97 ∷ 110 ∷ []
 word Seek = 115 ∷ 101 ∷ 101 ∷ 107 ∷ []
 word Blocks = 98 ∷ 108 ∷ 111 ∷ 99 ∷ 107 ∷ 115 ∷ []
-word Bad = []
 
 -- how many fields follow the word
 unfoldable pub fields : Call → ℕ
@@ -24,7 +24,6 @@ fields Show = 1
 fields Span = 2
 fields Seek = 3
 fields Blocks = 0
-fields Bad = 0
 
 abbrev pub calls : List Call
 calls = Make ∷ Put ∷ Cancel ∷ Show ∷ Span ∷ Seek ∷ Blocks ∷ []
@@ -44,12 +43,10 @@ pieces (b ∷ s) =
 -- "decimal fields of one or more digits", none "above 4,294,967,295": each byte is 48..57, and the value is what counts, so zeros in front count for
 -- nothing. `worth base nought v p` is the number v with the signs of p behind it; `nought` is the byte that counts 0
 unfoldable pub worth : (base nought v : ℕ) → List ℕ → ℕ
-worth base nought v [] = v
-worth base nought v (b ∷ p) = worth base nought (base * v + (b - nought)) p
+worth base nought v p = fold (λ v b. base * v + (b - nought)) v p
 
 unfoldable pub within : (low high : ℕ) → List ℕ → Bool
-within low high [] = true
-within low high (b ∷ p) = (leb low b && leb b high) && within low high p
+within low high p = list_all (λ b. leb low b && leb b high) p
 
 unfoldable pub some : List ℕ → Bool
 some [] = false
@@ -62,31 +59,23 @@ unfoldable pub number : List ℕ → Bool
 number p = some p && (within 48 57 p && leb (value p) 4294967295)
 
 unfoldable pub numbers : List (List ℕ) → Bool
-numbers [] = true
-numbers (p ∷ ps) = number p && numbers ps
+numbers ps = list_all number ps
 
--- the same bytes
-unfoldable pub same : (w v : List ℕ) → Bool
-same [] [] = true
-same [] (y ∷ v) = false
-same (x ∷ w) [] = false
-same (x ∷ w) (y ∷ v) = eqb x y && same w v
-
--- the call with this word and this number of fields; none: Bad
-unfoldable pub call_among : List Call → (w : List ℕ) (n : ℕ) → Call
-call_among [] w n = Bad
-call_among (c ∷ cs) w n = cond (same w (word c) && eqb n (fields c)) c (call_among cs w n)
+-- the call with this word and this number of fields, if there is one
+unfoldable pub call_among : List Call → (w : List ℕ) (n : ℕ) → Option Call
+call_among cs w n = find (λ c. bytes_eq w (word c) && eqb n (fields c)) cs
 
 -- WHAT A LINE ASKS FOR: a call and its numbers; a bad line has none
 pub record Asked : Type 0 where
-  pub call : Call
+  pub call : Option Call
   pub numbers : List ℕ
 
-unfoldable pub asks : Call → List ℕ → Asked
-asks c ns = record { call = c; numbers = take (fields c) ns }
+unfoldable pub asks : Option Call → List ℕ → Asked
+asks None ns = record { call = None; numbers = [] }
+asks (Some c) ns = record { call = Some c; numbers = take (fields c) ns }
 
 unfoldable pub asked : Pieces → Asked
-asked p = asks (cond (numbers p.others) (call_among calls p.first (length p.others)) Bad) (map value p.others)
+asked p = asks (cond (numbers p.others) (call_among calls p.first (length p.others)) None) (map value p.others)
 
 unfoldable pub line : List ℕ → Asked
 line s = asked (pieces s)

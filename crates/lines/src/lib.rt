@@ -4,10 +4,9 @@
 pub mod reading;
 pub mod writing;
 
-// What a line asks for. `Bad` is no call: the answer is `?`.
-#[derive(Clone, Copy)]
+// What a line asks for. A line that asks for nothing has no call: the answer is `?`.
+#[derive(Clone, Copy, Debug, PartialEq, Eq)]
 pub enum Call {
-    Bad,
     Make,
     Put,
     Cancel,
@@ -17,21 +16,28 @@ pub enum Call {
     Blocks,
 }
 
-// A line under way, as pieces parted by one blank: whether it may still ask for something; whether the piece under way has a sign, and its value so
-// far; how many pieces are whole, and their values. Piece 0 is the word, as a number of base 32.
+// The values of the pieces that are whole: the first `count` numbers. No call has more than fifteen pieces, and nothing here allocates, so they are an array.
 #[derive(Clone, Copy)]
-pub struct Reader {
-    pub good: bool,
-    pub some: bool,
-    pub value: u32,
+pub struct Values {
     pub count: usize,
-    pub pieces: [u32; 15],
+    pub numbers: [u32; 15],
 }
+
+// A line under way, as pieces parted by one blank: the whole ones, and the value so far of the piece under way, which has none before its first sign.
+// Piece 0 is the word, as a number of base 32.
+#[derive(Clone, Copy)]
+pub struct Parts {
+    pub whole: Values,
+    pub value: Option<u32>,
+}
+
+// What the bytes of a line say so far; `None` once they ask for nothing, whatever comes.
+pub type Reader = Option<Parts>;
 
 // A whole line: its call, and the values of its pieces. The call's numbers stand from 1 on.
 #[derive(Clone, Copy)]
 pub struct Line {
-    pub call: Call,
+    pub call: Option<Call>,
     pub pieces: [u32; 15],
 }
 

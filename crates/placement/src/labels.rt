@@ -8,10 +8,12 @@ ghost use Rattle.placement.specs.Labels.{level_before, before, home};
 ghost use Rattle.placement.specs.Place.{Shaped, label_in, Leading, met, meeting};
 
 use crate::{Ahead, Label, Met};
-use sizes::Sizes;
+use sizes::hash::hash;
 use sizes::header::{Header, block_length};
+use sizes::numbers::{be2, be4, remainder};
+use sizes::{PRIME, Sizes};
 
-// Where a block starts.
+// Where a block starts. As in Rust, no From makes a usize of a u32.
 pub fn offset(s: Sizes, i: u32) -> usize
     requires { (i < s.blocks) × (s.blocks ≤ 65535) × (s.nodes ≤ 32) }
     ensures { (result ≡ 53 + i * block_long s) × (result + block_long s ≤ 53 + s.blocks * block_long s) }
@@ -19,55 +21,52 @@ pub fn offset(s: Sizes, i: u32) -> usize
     Header::LENGTH + i as usize * (block_length(s) as usize)
 }
 
+#[tactic(auto, unfolding(crate::specs::Place::label_in))]
 pub fn label_at(table: &[u8], s: Sizes, i: u32) -> Label
     requires { Shaped s table.now × (i < s.blocks) }
     ensures { result ≡ label_in (block_long s) table.now i }
 {
     let at = offset(s, i);
-    let level = sizes::numbers::wide(table[at]);
-    let number = sizes::numbers::be2(table, at + 2);
-    let first = sizes::numbers::be4(table, at + 4);
+    let level = u32::from(table[at]);
+    let number = be2(table, at + 2);
+    let first = be4(table, at + 4);
     Label {
-        level: level,
-        first: first,
-        number: number,
+        level,
+        first,
+        number,
     }
 }
 
 // Do chunks of level a come before those of another level b? In version 1 the lower ones do, else the higher.
+#[tactic(auto, unfolding(crate::specs::Labels::level_before))]
 pub fn level_before(s: Sizes, a: u32, b: u32) -> bool
     requires { a ≢ b }
     ensures { result ≡ level_before s a b }
 {
-    if a < b {
-        return s.version == 1;
-    }
-    s.version != 1
+    (a < b) == (s.version == 1)
 }
 
+// Is a label before another? The version of the table decides too, so labels have no Ord of their own.
+#[tactic(auto, using(crate::proofs::Laws::Labels::before_parts))]
 pub fn before(s: Sizes, a: Label, b: Label) -> bool
     ensures { result ≡ before s a b }
 {
     if a.level != b.level {
         return level_before(s, a.level, b.level);
     }
-    if a.first != b.first {
-        return a.first < b.first;
-    }
-    a.number < b.number
+    (a.first, a.number) < (b.first, b.number)
 }
 
 // A label that is another: it is passed if it is smaller.
+#[tactic(auto, unfolding(crate::specs::Place::met))]
 fn past_if(smaller: bool) -> Met
     ensures { result ≡ met smaller false }
 {
-    if smaller {
-        return Met::Past;
-    }
-    Met::Other
+    if smaller { Met::Past } else { Met::Other }
 }
 
 // The levels that come before a level: in version 1 those from 1 up to it, else those from it on.
+#[tactic(auto, using(crate::proofs::Laws::Ahead::ahead))]
 pub fn ahead(s: Sizes, level: u32) -> Ahead
     ensures { Leading s level result }
 {
@@ -79,50 +78,53 @@ pub fn ahead(s: Sizes, level: u32) -> Ahead
     }
     Ahead {
         from: level,
-        many: 4294967295 - level,
+        many: u32::MAX - level,
     }
 }
 
 // What a search for a label meets in a block, where `a` are the levels before the label's. Most often the level decides, or else the first key; so no more is
-// read than what decides.
+// read than what decides: with whole labels, compared by `before`, a check takes 1.08 to 1.56 of its time (bench/NOTES.md, "Upper levels nearer home").
+#[tactic(auto, using(crate::proofs::Laws::Loops::meets))]
 pub fn meets(table: &[u8], s: Sizes, i: u32, a: Ahead, want: Label) -> Met
     requires { Shaped s table.now × (i < s.blocks) × Leading s want.level a }
     ensures { result ≡ meeting (before s) (label_in (block_long s) table.now i) want }
 {
     let at = offset(s, i);
-    let level = sizes::numbers::wide(table[at]);
+    let level = u32::from(table[at]);
     if level != want.level {
-        return past_if(std::num::wrapping_sub_u32(level, a.from) < a.many);
+        return past_if(level.wrapping_sub(a.from) < a.many);
     }
-    let first = sizes::numbers::be4(table, at + 4);
+    let first = be4(table, at + 4);
     if first != want.first {
         return past_if(first < want.first);
     }
-    let number = sizes::numbers::be2(table, at + 2);
+    let number = be2(table, at + 2);
     if number != want.number {
         return past_if(number < want.number);
     }
     Met::Here
 }
 
-// The block where the search for a label starts: mod p before mod M.
+// The block where the search for a label starts: mod p before mod M. It is below M, so `as` loses nothing.
+#[tactic(auto, unfolding(crate::specs::Labels::home, sizes::specs::Hash::g))]
 pub fn home(s: Sizes, want: Label) -> u32
     requires { (seed_good s.seed ≡ true) × (0 < s.blocks) × (s.blocks ≤ 65535) }
     ensures { (result ≡ home s want) × (result < s.blocks) }
 {
-    let h = sizes::hash::hash(s, 5, want.first);
-    let t = (h as u64 + 65536 * (want.level as u64) + want.number as u64) % 2147483647;
-    (t % (s.blocks as u64)) as u32
+    let g = hash(s, 5, want.first);
+    let t = (u64::from(g) + 65536 * u64::from(want.level) + u64::from(want.number))
+        % u64::from(PRIME);
+    (t % u64::from(s.blocks)) as u32
 }
 
-// The same from the hash g of the first key, without a division: `round` is 2^32 over the number of blocks, rounded up.
+// The same from the hash g of the first key, without a division: `round` is 2^32 over the number of blocks, rounded up. Two for speed: with divisions a check
+// takes 12.0 ns for each order in place of 11.2 (bench/NOTES.md, "The check, on the first machine"). And `home` is of labels of any size.
+#[tactic(auto, using(crate::proofs::Laws::Loops::home_below, crate::proofs::Laws::Loops::home_past))]
 pub fn home_over(s: Sizes, round: u64, g: u32, want: Label) -> u32
     requires { (0 < s.blocks) × (s.blocks ≤ 65535) × (round ≡ over s.blocks) × (g ≡ hash_from 5 5 s.seed want.first) × (g < 2147483647) × (want.level ≤ 19) × (want.number ≤ 65535) }
     ensures { (result ≡ home s want) × (result < s.blocks) }
 {
     let t = g + 65536 * want.level + want.number;
-    if t < 2147483647 {
-        return sizes::numbers::remainder(t, s.blocks, round);
-    }
-    sizes::numbers::remainder(t - 2147483647, s.blocks, round)
+    let t = if t < PRIME { t } else { t - PRIME };
+    remainder(t, s.blocks, round)
 }

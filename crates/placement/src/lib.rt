@@ -8,7 +8,7 @@ pub mod rows;
 pub mod search;
 
 // An order, and a node of a chunk: the front is a node of key 0. Its price is 0 where nodes have no place for one.
-#[derive(Clone, Copy)]
+#[derive(Clone, Copy, Debug, PartialEq, Eq)]
 pub struct Order {
     pub key: u32,
     pub total: u32,
@@ -17,7 +17,7 @@ pub struct Order {
 }
 
 // The label of a chunk; level 0 stands for an empty block.
-#[derive(Clone, Copy)]
+#[derive(Clone, Copy, Debug, PartialEq, Eq)]
 pub struct Label {
     pub level: u32,
     pub first: u32,
@@ -26,17 +26,16 @@ pub struct Label {
 
 // Levels that come before another, of which a block's level is told to be one by one comparison: `many` from `from` on, counted round at 2^32. That other
 // level may be among them, and is not asked.
-#[derive(Clone, Copy)]
+#[derive(Clone, Copy, Debug, PartialEq, Eq)]
 pub struct Ahead {
     pub from: u32,
     pub many: u32,
 }
 
 // What a search meets in a block: a smaller label, which it goes past; the label that it looks for; or neither, and so it ends.
-#[derive(Clone, Copy)]
+#[derive(Clone, Copy, Debug, PartialEq, Eq)]
 pub enum Met {
     Past,
     Here,
     Other,
 }
-

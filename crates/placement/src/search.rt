@@ -8,102 +8,87 @@ ghost use Rattle.placement.specs.Place.{Shaped, label_in, probe, GoesOn, is_lowe
 
 use crate::labels::{ahead, home, home_over, label_at, meets, offset};
 use crate::{Label, Met};
-use sizes::Sizes;
+use sizes::{PRIME, Sizes};
 
 // Block i of m, going round: behind the last comes the first.
 fn around(i: u32, m: u32) -> u32
     requires { (i ≤ m) × (0 < m) }
     ensures { (result ≡ i % m) × (result < m) }
 {
-    if i < m {
-        return i;
-    }
-    0
+    if i < m { i } else { 0 }
 }
 
 // The search for a label from a block on, going round: to the first block that is empty or has that label or a larger one, over so many blocks at most.
+#[tactic(auto, using(crate::proofs::Laws::Loops::probing))]
 pub fn find_from(table: &[u8], s: Sizes, start: u32, most: u32, want: Label) -> Option<u32>
     requires { Shaped s table.now × (start < s.blocks) }
     ensures { result ≡ probe (before s) (label_in (block_long s) table.now) s.blocks want most start }
 {
     let a = ahead(s, want.level);
     let mut i = start;
-    let mut left = most;
-    let found = loop {
-        if left == 0 {
-            break None;
+    for _ in 0..most {
+        match meets(table, s, i, a, want) {
+            Met::Past => i = around(i + 1, s.blocks),
+            Met::Here => return Some(i),
+            Met::Other => return None,
         }
-        let met = meets(table, s, i, a, want);
-        if let Met::Here = met {
-            break Some(i);
-        }
-        if let Met::Other = met {
-            break None;
-        }
-        i = around(i + 1, s.blocks);
-        left -= 1;
-    };
-    found
+    }
+    None
 }
 
 // Does a block hold a chunk of a lower level? One byte tells.
+#[tactic(auto, unfolding(crate::specs::Place::is_lower, crate::specs::Place::label_in))]
 fn lower(table: &[u8], s: Sizes, i: u32, level: u32) -> bool
     requires { Shaped s table.now × (i < s.blocks) }
     ensures { result ≡ is_lower (label_in (block_long s) table.now) level i }
 {
-    let l = sizes::numbers::wide(table[offset(s, i)]);
+    let l = u32::from(table[offset(s, i)]);
     0 < l && l < level
 }
 
-// Do four in a row?
+// Do four in a row? Counted from 0, for over i..i + 4 the compiler keeps a loop, and a descent takes a third more instructions.
 fn four_lower(table: &[u8], s: Sizes, i: u32, level: u32) -> bool
     requires { Shaped s table.now × (i + 4 ≤ s.blocks) }
     ensures { result ≡ four_lower (label_in (block_long s) table.now) level i }
 {
-    lower(table, s, i, level)
-        && (lower(table, s, i + 1, level)
-            && (lower(table, s, i + 2, level) && lower(table, s, i + 3, level)))
+    (0..4).all(|k| lower(table, s, i + k, level))
 }
 
-// In version 1, past blocks from one on, four in a turn, as far as all four hold chunks of lower levels: most of a search on a way down.
+// In version 1, past blocks from one on, four in a turn, as far as all four hold chunks of lower levels: most of a search on a way down. Counted by hand, for
+// speed: where blocks are small, a descent takes 1.02 of the instructions that it took before, and with `step_by` 1.05, which is past the bar of 1.03.
+#[tactic(auto, using(crate::proofs::Laws::Loops::goes_start, crate::proofs::Laws::Loops::goes_four))]
 fn past_fours(table: &[u8], s: Sizes, start: u32, want: Label) -> u32
     requires { Shaped s table.now × (start < s.blocks) × (s.version ≡ 1) }
     ensures { GoesOn s table.now want start result }
 {
     let mut i = start;
-    while i + 4 <= s.blocks {
-        if !four_lower(table, s, i, want.level) {
-            return i;
-        }
+    while i + 4 <= s.blocks && four_lower(table, s, i, want.level) {
         i += 4;
     }
     i
 }
 
 // .. and up to the first block, or the end of the table, that is empty or whose chunk is not of a lower level.
+#[tactic(auto, using(crate::proofs::Laws::Loops::goes_more))]
 fn past_lower(table: &[u8], s: Sizes, start: u32, want: Label) -> u32
     requires { Shaped s table.now × (start < s.blocks) × (s.version ≡ 1) }
     ensures { GoesOn s table.now want start result }
 {
-    let mut i = past_fours(table, s, start, want);
-    while i < s.blocks {
+    for i in past_fours(table, s, start, want)..s.blocks {
         if !lower(table, s, i, want.level) {
             return i;
         }
-        i += 1;
     }
-    i
+    s.blocks
 }
 
 // How far a search may go at once: in version 1 past lower levels, of which level 1 has none.
+#[tactic(auto, using(crate::proofs::Laws::Loops::goes_start))]
 fn passed(table: &[u8], s: Sizes, start: u32, want: Label) -> u32
     requires { Shaped s table.now × (start < s.blocks) }
     ensures { GoesOn s table.now want start result }
 {
-    if s.version != 1 {
-        return start;
-    }
-    if want.level <= 1 {
+    if s.version != 1 || want.level <= 1 {
         return start;
     }
     past_lower(table, s, start, want)
@@ -111,6 +96,7 @@ fn passed(table: &[u8], s: Sizes, start: u32, want: Label) -> u32
 
 // The search for a label from a block on, once around at most, on a way down, where most labels are of high levels. In version 1 such a chunk may stand far
 // behind its home, and all chunks of lower levels in between are passed first; else it is among the first to have its home.
+#[tactic(auto, using(crate::proofs::Laws::Loops::goes_search))]
 pub fn find_past(table: &[u8], s: Sizes, start: u32, want: Label) -> Option<u32>
     requires { Shaped s table.now × (start < s.blocks) }
     ensures { result ≡ probe (before s) (label_in (block_long s) table.now) s.blocks want s.blocks start }
@@ -120,6 +106,7 @@ pub fn find_past(table: &[u8], s: Sizes, start: u32, want: Label) -> Option<u32>
 }
 
 // The block with a label, or nothing: from home on, once around at most.
+#[tactic(auto, unfolding(crate::specs::Place::search_in))]
 pub fn find(table: &[u8], s: Sizes, want: Label) -> Option<u32>
     requires { Shaped s table.now }
     ensures { result ≡ search_in s table.now want }
@@ -127,7 +114,8 @@ pub fn find(table: &[u8], s: Sizes, want: Label) -> Option<u32>
     find_from(table, s, home(s, want), s.blocks, want)
 }
 
-// The same from the hash g of the first key, without a division: `round` is 2^32 over the number of blocks, rounded up.
+// The same from the hash g of the first key, without a division: `round` is 2^32 over the number of blocks, rounded up. Two for speed, as `home_over` says.
+#[tactic(auto, using(sizes::proofs::Laws::Hashes::hash_below), unfolding(crate::specs::Place::search_in))]
 pub fn find_over(table: &[u8], s: Sizes, round: u64, g: u32, want: Label) -> Option<u32>
     requires { Shaped s table.now × (round ≡ over s.blocks) × (g ≡ hash_from 5 5 s.seed want.first) × (want.level ≤ 19) × (want.number ≤ 65535) }
     ensures { result ≡ search_in s table.now want }
@@ -135,7 +123,9 @@ pub fn find_over(table: &[u8], s: Sizes, round: u64, g: u32, want: Label) -> Opt
     find_from(table, s, home_over(s, round, g, want), s.blocks, want)
 }
 
-// The same on a way down.
+// The same on a way down. A walk has `find_over`, for speed: with this a check takes 1.03 to 1.04 of its time where blocks are small (bench/NOTES.md, "Two
+// loops in the walk").
+#[tactic(auto, using(sizes::proofs::Laws::Hashes::hash_below), unfolding(crate::specs::Place::search_in))]
 pub fn find_high(table: &[u8], s: Sizes, round: u64, g: u32, want: Label) -> Option<u32>
     requires { Shaped s table.now × (round ≡ over s.blocks) × (g ≡ hash_from 5 5 s.seed want.first) × (want.level ≤ 19) × (want.number ≤ 65535) }
     ensures { result ≡ search_in s table.now want }
@@ -145,17 +135,19 @@ pub fn find_high(table: &[u8], s: Sizes, round: u64, g: u32, want: Label) -> Opt
 
 // Where the search for a chunk may start once the chunk before it was found in block i: behind that, for all on the way from its home are smaller. Only
 // where its place comes to p is its home another: the first block.
+#[tactic(auto, unfolding(crate::specs::Place::behind, sizes::specs::Hash::g))]
 pub fn behind(s: Sizes, g: u32, want: Label, i: u32) -> u32
     requires { (i < s.blocks) × (g ≡ hash_from 5 5 s.seed want.first) × (g < 2147483647) × (want.level ≤ 19) × (want.number ≤ 65535) }
     ensures { (result ≡ behind s want i) × (result < s.blocks) }
 {
-    if g + 65536 * want.level + want.number == 2147483647 {
+    if g + 65536 * want.level + want.number == PRIME {
         return 0;
     }
     around(i + 1, s.blocks)
 }
 
 // Does the search for a label start at an empty block, and end there?
+#[tactic(auto, using(sizes::proofs::Laws::Hashes::hash_below), unfolding(crate::specs::Place::label_in))]
 pub fn ends_at_once(table: &[u8], s: Sizes, round: u64, g: u32, want: Label) -> bool
     requires { Shaped s table.now × (round ≡ over s.blocks) × (g ≡ hash_from 5 5 s.seed want.first) × (want.level ≤ 19) × (want.number ≤ 65535) }
     ensures { result ≡ ((label_in (block_long s) table.now (home s want)).level == 0) }
@@ -169,19 +161,9 @@ pub fn free(table: &[u8], s: Sizes, start: u32) -> Option<u32>
     ensures { result ≡ free_in (label_in (block_long s) table.now) s.blocks s.blocks start }
 {
     let m = s.blocks;
-    let mut k: u32 = 0;
-    let found = loop {
-        if m <= k {
-            break None;
-        }
-        let i = (start + k) % m;
-        let l = label_at(table, s, i);
-        if l.level == 0 {
-            break Some(i);
-        }
-        k += 1;
-    };
-    found
+    (0..m)
+        .map(move |k| (start + k) % m)
+        .find(|i| label_at(table, s, *i).level == 0)
 }
 
 // How many nodes the chunk in a block has.
@@ -189,6 +171,5 @@ pub fn count_at(table: &[u8], s: Sizes, i: u32) -> u32
     requires { Shaped s table.now × (i < s.blocks) }
     ensures { (result ≡ slice_index table.now (53 + i * block_long s + 1)) × (result < 256) }
 {
-    let at = offset(s, i);
-    sizes::numbers::wide(table[at + 1])
+    u32::from(table[offset(s, i) + 1])
 }

@@ -1,10 +1,11 @@
--- What a visit does with the orders that come by, one after the other by rising keys: it counts those in lo..hi, writes their rows,
--- or stops at the first that has a reserve.
-use Rattle.std.specs.Prelude.{◌≡◌, Bool, true, false, ◌&&◌, cond, List, [], ◌∷◌, ◌++◌, map, ℕ, zero, suc, ◌+◌, ◌*◌, ◌-◌, ◌≤◌, ◌<◌, ltb, leb, length, Option, Some, None}
+-- What a visit does with the orders that come by, one after the other by rising keys: it counts those in lo..hi that have the reserve and writes their rows, where
+-- the output has room, until it has found as many as it may find.
+use Rattle.std.specs.Prelude.{◌≡◌, Bool, true, ◌&&◌, cond, List, [], ◌∷◌, ◌++◌, map, ℕ, zero, suc, ◌+◌, ◌*◌, ◌-◌, ◌≤◌, ◌<◌, ltb, leb, length, drop, Option, Some, None}
 use Rattle.std.proofs.lemmas.List.Edits.{sets}
 use Rattle.sizes.specs.Numbers.{field}
-use Rattle.sizes.specs.Sizes.{made}
+use Rattle.sizes.specs.Sizes.{made, row}
 use Rattle.placement.specs.Chunks.{node_bytes}
+use Rattle.placement.specs.Decode.{nodes_from}
 use Rattle.placement.specs.Place.{Shaped}
 use Rattle.sizes.specs.declared.Sizes.{Sizes}
 use Rattle.placement.specs.declared.Order.{Order}
@@ -25,31 +26,20 @@ abbrev pub scan : (row : ℕ) → Visit → (output : List ℕ) → Scan
 scan w v o = record { row = w; visit = v; output = o }
 
 -- a visit that begins
-abbrev pub starting : (lo hi least : ℕ) → (writes seeks : Bool) → Visit
-starting lo hi l w k =
-    record { lo = lo; hi = hi; least = l; writes = w; seeks = k; found = 0; ended = false; key = 0; total = 0; displayed = 0; price = 0 }
+abbrev pub starting : (lo hi least most : ℕ) → Visit
+starting lo hi l m = record { lo = lo; hi = hi; least = l; most = m; found = 0; last = None }
 
--- the most orders that a table can hold
-abbrev pub most_orders : ℕ
-most_orders = 65535
+-- so many more orders are found, the last of them this one
+abbrev pub more_found : Visit → (n : ℕ) → (last : Order) → Visit
+more_found v n o = record { lo = v.lo; hi = v.hi; least = v.least; most = v.most; found = v.found + n; last = Some o }
 
--- one more, up to the most
-unfoldable pub next_found : ℕ → ℕ
-next_found n = cond (ltb n most_orders) (n + 1) n
+-- nothing more need come: it may find what it has found
+abbrev pub ended_visit : Visit → Visit
+ended_visit v = record { lo = v.lo; hi = v.hi; least = v.least; most = v.found; found = v.found; last = v.last }
 
--- one more order is counted; a seek ends with it
-unfoldable pub more_found : Order → Visit → Visit
-more_found o v =
-    record { lo = v.lo; hi = v.hi; least = v.least; writes = v.writes; seeks = v.seeks; found = next_found v.found; ended = v.seeks; key = o.key; total = o.total; displayed = o.displayed; price = o.price }
-
--- nothing more need come
-unfoldable pub ended_visit : Visit → Visit
-ended_visit v =
-    record { lo = v.lo; hi = v.hi; least = v.least; writes = v.writes; seeks = v.seeks; found = v.found; ended = true; key = v.key; total = v.total; displayed = v.displayed; price = v.price }
-
--- is the order one that is looked for? A seek asks for the reserve
+-- is the order one that is looked for?
 unfoldable pub wanted_by : Visit → Order → Bool
-wanted_by v o = leb v.lo o.key && cond v.seeks (leb v.least (reserve o)) true
+wanted_by v o = leb v.lo o.key && leb v.least (reserve o)
 
 -- past the last row that a count of 32 bits can have
 abbrev pub most_rows : ℕ
@@ -62,10 +52,9 @@ row_in w x a o = cond (leb (a + w) (length x)) (sets x a (node_bytes w o)) x
 -- AN ORDER COMES BY
 unfoldable pub step_by : Order → Scan → Scan
 step_by o x =
-    cond x.visit.ended x
+    cond (leb x.visit.most x.visit.found) x
     (cond (ltb x.visit.hi o.key) (scan x.row (ended_visit x.visit) x.output)
-    (cond (wanted_by x.visit o)
-    (scan x.row (more_found o x.visit) (cond x.visit.writes (row_in x.row x.output (x.row * x.visit.found) o) x.output)) x))
+    (cond (wanted_by x.visit o) (scan x.row (more_found x.visit 1 o) (row_in x.row x.output (x.row * x.visit.found) o)) x))
 
 -- ORDERS, one after the other
 unfoldable pub steps : List Order → Scan → Scan
@@ -88,15 +77,15 @@ pub record Row (s : Sizes) (os : List Order) (l : ℕ) (ns : List Order) : Type 
   pub there : list_at s l os ≡ before ++ (own ++ behind)
   pub is : ns ≡ map (masked l) own
 
--- nodes from a place on that are all in the range of a visit that counts or writes, the first and the last by their keys, with room for their rows
+-- nodes from a place on that are all in the range of a visit that asks for no reserve, the first and the last by their keys, and no more than it may find; an output
+-- that has room for a row at all has room for theirs
 pub record Whole (w : ℕ) (bs : List ℕ) (a j : ℕ) (v : Visit) (room : ℕ) : Type 0 where
-  pub counts : v.seeks ≡ false
-  pub goes_on : v.ended ≡ false
+  pub any : v.least ≡ 0
   pub some : 0 < j
   pub low : v.lo ≤ field a 4 bs
   pub high : field (a + w * (j - 1)) 4 bs ≤ v.hi
-  pub few : v.found + j ≤ most_orders
-  pub held : v.writes ≡ true → w * (v.found + j) ≤ room
+  pub few : v.found + j ≤ v.most
+  pub held : w ≤ room → w * (v.found + j) ≤ room
 
 -- at how many nodes at the front of a chunk the next one does not come after the lowest key
 unfoldable pub passed_front : (w : ℕ) → List ℕ → (left at lo : ℕ) → ℕ
@@ -109,6 +98,14 @@ under s bs l o = spread s (orders_in bs) l o
 
 unfoldable pub all_under : Sizes → List ℕ → (level : ℕ) → List Order → List Order
 all_under s bs l ns = each (spread s (orders_in bs) l) ns
+
+-- NODES OF A CHUNK, j of them from a place on, which stand in the table and one after the other in the list of a level; and the orders under them
+pub record Listed (s : Sizes) (bs : List ℕ) (l a j : ℕ) : Type 0 where
+  pub room : a + row s * j ≤ length bs
+  pub nodes : Row s (orders_in bs) l (nodes_from (row s) j (drop a bs))
+
+abbrev pub under_nodes : Sizes → List ℕ → (level at many : ℕ) → List Order
+under_nodes s bs l a j = all_under s bs l (nodes_from (row s) j (drop a bs))
 
 -- THE FIRST of some orders, if there is one
 unfoldable pub first_of : List Order → Option Order

@@ -8,9 +8,9 @@ ghost use Rattle.skiplist.specs.Image.{is_image, orders_in};
 ghost use Rattle.skiplist.specs.Questions.{between};
 ghost use Rattle.table.specs.Calls.{DescentSays};
 ghost use Rattle.readings.specs.Visit.{Known, first_of};
-ghost use Rattle.readings.specs.Descent.{way, landed, Written};
+ghost use Rattle.readings.specs.Descent.{way, landed, Written, path_reply};
 
-use crate::calls::{answered, is_key, refused};
+use crate::calls::is_key;
 use levels::ways::{descend, way_down};
 use placement::Order;
 use placement::rows::node_of;
@@ -18,7 +18,7 @@ use sizes::hash::reckon;
 use sizes::header::{Header, rule_of};
 use sizes::numbers::bring;
 use sizes::{Geometry, Sizes};
-use table::Reply;
+use table::{Refusal, Reply};
 
 // The sizes of an image, with what follows from them.
 pub fn geometry_of(table: &[u8]) -> Geometry
@@ -30,6 +30,7 @@ pub fn geometry_of(table: &[u8]) -> Geometry
 }
 
 // The order at the place where a way has ended, if it has the key.
+#[tactic(auto, using(crate::proofs::Laws::Descents::landed_none))]
 pub fn order_at(table: &[u8], s: Sizes, at: usize, key: u32) -> Option<Order>
     requires { at + row s ≤ length table.now }
     ensures { result ≡ landed (row s) table.now at key }
@@ -38,10 +39,7 @@ pub fn order_at(table: &[u8], s: Sizes, at: usize, key: u32) -> Option<Order>
         return None;
     }
     let o = node_of(table, s, at);
-    if o.key != key {
-        return None;
-    }
-    Some(o)
+    (o.key == key).then_some(o)
 }
 
 // The order with a key.
@@ -66,29 +64,41 @@ fn write_path(table: &[u8], q: Geometry, key: u32, count: u32, short: &[u8], pat
     }
 }
 
-// Descent: 4 of the header and the length alone, 5, 11, 9. No byte of the output is written before 11 is answered for the whole path.
-pub fn descent(table: &[u8], key: u32, path: &mut [u8]) -> Reply
-    ensures { DescentSays table.now key result path.old path.new × (table.exit.now ≡ table.entry.now) }
+// The count of the path to a key, which is written, and the order with the key: 4 of the header and the length alone, 5, 11. No byte of the output is written
+// before 11 is answered for the whole path.
+fn path_to(table: &[u8], key: u32, path: &mut [u8]) -> Result<(u32, Option<Order>), Refusal>
+    ensures { DescentSays table.now key (path_reply result) path.old path.new }
 {
     if table.len() < Header::LENGTH {
-        return refused(4, 0);
+        return Err(Refusal::NoImage);
     }
     let h = Header::read(table);
     if !rule_of(table, h) {
-        return refused(4, 0);
+        return Err(Refusal::NoImage);
     }
     if !is_key(key) {
-        return refused(5, 0);
+        return Err(Refusal::NoKey);
     }
     let q = reckon(h.sizes);
+    // The rule of no heap: a buffer of its own, as no byte of the output may be written yet.
     let mut short = [0u8; 128];
     let t = descend(table, q, 0, key, &mut short);
     if path.len() < 2 * (t.count as usize) {
-        return refused(11, 0);
+        return Err(Refusal::OutputShort);
     }
     write_path(table, q, key, t.count, &short, path);
-    let Some(o) = order_at(table, q.sizes, t.at, key) else {
-        return refused(9, t.count);
-    };
-    answered(o, t.count)
+    Ok((t.count, order_at(table, q.sizes, t.at, key)))
+}
+
+// Descent: 4, 5, 11, and 9, which has the count of the path too.
+pub fn descent(table: &[u8], key: u32, path: &mut [u8]) -> Reply
+    ensures { DescentSays table.now key result path.old path.new × (table.exit.now ≡ table.entry.now) }
+{
+    match path_to(table, key, path) {
+        Ok((count, found)) => Reply {
+            count,
+            ..Reply::from(found.ok_or(Refusal::NotHeld))
+        },
+        Err(e) => Reply::from(e),
+    }
 }

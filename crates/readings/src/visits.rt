@@ -4,7 +4,7 @@ ghost use Rattle.sizes.specs.Sizes.{beta, row};
 ghost use Rattle.placement.specs.Decode.{nodes_from};
 ghost use Rattle.skiplist.specs.Image.{orders_in};
 ghost use Rattle.skiplist.specs.Questions.{reserve};
-ghost use Rattle.readings.specs.Visit.{most_rows, scan, next_found, more_found, ended_visit, wanted_by, row_in, step_by, steps, Known, Row, Whole, passed_front, under, all_under};
+ghost use Rattle.readings.specs.Visit.{most_rows, scan, wanted_by, row_in, step_by, steps, Known, Listed, Whole, passed_front, under, under_nodes};
 
 use crate::Visit;
 use levels::ways::{key_at, upto};
@@ -13,77 +13,31 @@ use placement::{Label, Order};
 use sizes::Sizes;
 use sizes::header::{row, rows};
 
-// The most orders that a table can hold.
-const MOST: u32 = 65535;
 // A chunk's number has two bytes.
 const NUMBERS: u32 = 65536;
 
-// Nothing more need come.
-fn ended(v: Visit) -> Visit
-    ensures { result ≡ ended_visit v }
-{
-    let mut w = v;
-    w.ended = true;
-    w
-}
-
-// One more, up to the most.
-fn next(n: u32) -> u32
-    ensures { result ≡ next_found n }
-{
-    if n < MOST {
-        return n + 1;
-    }
-    n
-}
-
-// One more order is counted; a seek ends with it.
-fn more_found(o: Order, v: Visit) -> Visit
-    ensures { result ≡ more_found o v }
-{
-    Visit {
-        lo: v.lo,
-        hi: v.hi,
-        least: v.least,
-        writes: v.writes,
-        seeks: v.seeks,
-        found: next(v.found),
-        ended: v.seeks,
-        key: o.key,
-        total: o.total,
-        displayed: o.displayed,
-        price: o.price,
-    }
-}
-
-// What an order keeps in reserve: only what stands behind a displayed part.
+// What an order keeps in reserve: only what stands behind a displayed part. No order displays more than there is.
+#[tactic(auto, using(crate::proofs::Laws::Visits::reserve_hidden, crate::proofs::Laws::Visits::reserve_shown))]
 fn reserve_of(o: Order) -> u32
     ensures { result ≡ reserve o }
 {
     if o.displayed == 0 {
-        return 0;
+        0
+    } else {
+        o.total.saturating_sub(o.displayed)
     }
-    // No order displays more than there is; the test spares the callers a promise.
-    if o.total < o.displayed {
-        return 0;
-    }
-    o.total - o.displayed
 }
 
-// Is the order one that is looked for? A seek asks for the reserve.
+// Is the order one that is looked for, where its key is not above the range?
+#[tactic(auto, using(crate::proofs::Laws::Visits::wanted_low, crate::proofs::Laws::Visits::wanted_some))]
 fn wanted(v: Visit, o: Order) -> bool
     ensures { result ≡ wanted_by v o }
 {
-    if o.key < v.lo {
-        return false;
-    }
-    if !v.seeks {
-        return true;
-    }
-    v.least <= reserve_of(o)
+    v.lo <= o.key && v.least <= reserve_of(o)
 }
 
 // A row of the output, where it has room.
+#[tactic(auto, using(crate::proofs::Laws::Visits::row_none, crate::proofs::Laws::Visits::row_made))]
 fn write_row(output: &mut [u8], s: Sizes, at: usize, o: Order)
     requires { at ≤ most_rows }
     ensures { output.new ≡ row_in (row s) output.old at o }
@@ -97,94 +51,58 @@ fn write_row(output: &mut [u8], s: Sizes, at: usize, o: Order)
 fn step(o: Order, s: Sizes, v: Visit, output: &mut [u8]) -> Visit
     ensures { scan (row s) result output.new ≡ step_by o (scan (row s) v output.old) }
 {
-    if v.ended {
+    if v.has_ended() {
         return v;
     }
     if v.hi < o.key {
-        return ended(v);
+        return v.ended();
     }
     if !wanted(v, o) {
         return v;
     }
-    if v.writes {
-        write_row(output, s, rows(row(s), v.found), o);
-        return more_found(o, v);
-    }
-    more_found(o, v)
+    write_row(output, s, rows(row(s), v.found), o);
+    v.with(1, o)
 }
 
-// Are the nodes from a place on all in the range, and is there room for their rows? Keys rise, so the first and the last of them tell.
+// May the nodes from a place on come by together? Keys rise, so the first and the last of them tell whether all are in the range. There has to be room for all
+// their rows, or for no row at all. Place and number of nodes stay two parameters: in a struct that holds the slice each clause would speak of self at two moments.
 fn whole(table: &[u8], w: usize, at: usize, left: u32, v: Visit, room: usize) -> bool
     requires { (12 ≤ w) × (w ≤ 16) × (at + w * left ≤ length table.now) }
     ensures { result ≡ true → Whole w table.now at left v room }
 {
-    if v.seeks {
-        return false;
-    }
-    if v.ended {
-        return false;
-    }
-    if left == 0 {
-        return false;
-    }
-    if key_at(table, w, at, left, 0) < v.lo {
-        return false;
-    }
-    if v.hi < key_at(table, w, at, left, left - 1) {
-        return false;
-    }
-    if (MOST as u64) < v.found as u64 + left as u64 {
-        return false;
-    }
-    if !v.writes {
-        return true;
-    }
-    rows(w, v.found + left) <= room
+    v.least == 0
+        && 0 < left
+        && left <= v.most.saturating_sub(v.found)
+        && v.lo <= key_at(table, w, at, left, 0)
+        && key_at(table, w, at, left, left - 1) <= v.hi
+        && (room < w || rows(w, v.found + left) <= room)
 }
 
 // They come by together: a node has the bytes of its row.
 fn visit_whole(table: &[u8], s: Sizes, at: usize, left: u32, v: Visit, output: &mut [u8]) -> Visit
-    requires { Known s table.now × Whole (row s) table.now at left v (length output.old) × (at + row s * left ≤ length table.now) × Row s (orders_in table.now) 1 (nodes_from (row s) left (drop at table.now)) }
-    ensures { scan (row s) result output.new ≡ steps (all_under s table.now 0 (nodes_from (row s) left (drop at table.now))) (scan (row s) v output.old) }
+    requires { Known s table.now × Whole (row s) table.now at left v (length output.old) × Listed s table.now 1 at left }
+    ensures { scan (row s) result output.new ≡ steps (under_nodes s table.now 0 at left) (scan (row s) v output.old) }
 {
     let long = row(s);
     let last = node_of(table, s, at + rows(long, left - 1));
-    let w = Visit {
-        lo: v.lo,
-        hi: v.hi,
-        least: v.least,
-        writes: v.writes,
-        seeks: v.seeks,
-        found: v.found + left,
-        ended: v.ended,
-        key: last.key,
-        total: last.total,
-        displayed: last.displayed,
-        price: last.price,
-    };
-    if !v.writes {
-        return w;
+    if long <= output.len() {
+        sizes::numbers::bring(output, rows(long, v.found), table, at, rows(long, left));
     }
-    sizes::numbers::bring(output, rows(long, v.found), table, at, rows(long, left));
-    w
+    v.with(left, last)
 }
 
 // The nodes of a chunk of level 1 are orders: they come by together or one after the other.
 fn visit_orders(table: &[u8], s: Sizes, at: usize, left: u32, v: Visit, output: &mut [u8]) -> Visit
-    requires { Known s table.now × (at + row s * left ≤ length table.now) × Row s (orders_in table.now) 1 (nodes_from (row s) left (drop at table.now)) }
-    ensures { scan (row s) result output.new ≡ steps (all_under s table.now 0 (nodes_from (row s) left (drop at table.now))) (scan (row s) v output.old) }
+    requires { Known s table.now × Listed s table.now 1 at left }
+    ensures { scan (row s) result output.new ≡ steps (under_nodes s table.now 0 at left) (scan (row s) v output.old) }
 {
     let long = row(s);
     if whole(table, long, at, left, v, output.len()) {
         return visit_whole(table, s, at, left, v, output);
     }
     let mut w = v;
-    let mut place = at;
-    let mut k = left;
-    while 0 < k {
-        w = step(node_of(table, s, place), s, w, output);
-        place += long;
-        k -= 1;
+    for k in 0..left {
+        w = step(node_of(table, s, at + rows(long, k)), s, w, output);
     }
     w
 }
@@ -203,20 +121,16 @@ pub fn visit_partition(
     ensures { scan (row s) result output.new ≡ steps (under s table.now level o) (scan (row s) v output.old) }
 {
     let mut w = v;
-    let mut number: u32 = 0;
-    while number < NUMBERS {
-        if w.ended {
+    for number in 0..NUMBERS {
+        if w.has_ended() {
             return w;
         }
-        let Some(i) = placement::search::find(
-            table,
-            s,
-            Label {
-                level: level,
-                first: o.key,
-                number: number,
-            },
-        ) else {
+        let label = Label {
+            level,
+            first: o.key,
+            number,
+        };
+        let Some(i) = placement::search::find(table, s, label) else {
             return w;
         };
         let at = placement::labels::offset(s, i);
@@ -225,7 +139,6 @@ pub fn visit_partition(
         if n < s.nodes {
             return w;
         }
-        number += 1;
     }
     w
 }
@@ -241,30 +154,28 @@ pub fn visit_nodes(
     v: Visit,
     output: &mut [u8],
 ) -> Visit
-    requires { Known s table.now × (1 ≤ level) × (level ≤ beta s) × (v.lo ≤ v.hi) × (at + row s * left ≤ length table.now) × Row s (orders_in table.now) level (nodes_from (row s) left (drop at table.now)) }
-    ensures { scan (row s) result output.new ≡ steps (all_under s table.now (level - 1) (nodes_from (row s) left (drop at table.now))) (scan (row s) v output.old) }
+    requires { Known s table.now × (1 ≤ level) × (level ≤ beta s) × (v.lo ≤ v.hi) × Listed s table.now level at left }
+    ensures { scan (row s) result output.new ≡ steps (under_nodes s table.now (level - 1) at left) (scan (row s) v output.old) }
 {
     let long = row(s);
     let n = skipped(table, long, at, left, v.lo);
-    let mut place = at + rows(long, n);
-    let mut k = left - n;
     if level == 1 {
-        return visit_orders(table, s, place, k, v, output);
+        return visit_orders(table, s, at + rows(long, n), left - n, v, output);
     }
     let mut w = v;
-    while 0 < k {
-        if w.ended {
+    for k in n..left {
+        if w.has_ended() {
             return w;
         }
-        w = visit_partition(table, s, level - 1, node_of(table, s, place), w, output);
-        place += long;
-        k -= 1;
+        let o = node_of(table, s, at + rows(long, k));
+        w = visit_partition(table, s, level - 1, o, w, output);
     }
     w
 }
 
 // How many nodes at the front of a chunk end before the range starts: the node behind each does not come after the lowest key, so all orders under it are below
 // that.
+#[tactic(auto, using(crate::proofs::Laws::Tours::skipped_none, crate::proofs::Laws::Tours::skipped_some))]
 fn skipped(table: &[u8], w: usize, at: usize, left: u32, lo: u32) -> u32
     requires { (12 ≤ w) × (w ≤ 16) × (at + w * left ≤ length table.now) }
     ensures { (result ≡ passed_front w table.now left at lo) × (result ≤ left) }

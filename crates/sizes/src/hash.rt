@@ -7,7 +7,7 @@ ghost use Rattle.sizes.specs.Powers.{Powers, Ready};
 ghost use Rattle.sizes.specs.Geometry.{Reckoned};
 
 use crate::numbers::{divisible, over};
-use crate::{Geometry, Sizes};
+use crate::{Geometry, PRIME, Sizes};
 
 // Nearer to a number mod 2^31 - 1: 2^31 is 1 there, so what stands above 31 bits is added below them.
 fn fold(t: u64) -> u64
@@ -33,10 +33,10 @@ fn reduce(t: u64) -> u32
 fn residue(x: u32) -> u64
     ensures { (result ≡ x % 2147483647) × (result < 2147483647) }
 {
-    if x < 2147483647 {
-        return x as u64;
+    if x < PRIME {
+        return u64::from(x);
     }
-    (x % 2147483647) as u64
+    u64::from(x % PRIME)
 }
 
 // One power on: folded, so it grows by less than 2^31 a step.
@@ -49,17 +49,16 @@ fn times(power: u64, y: u64) -> u64
 
 // The powers of a key mod p, from the 0th to the 4th: `power` is the i-th after i steps, folded and not reduced. Who wants both hashes of a key weighs the same
 // powers twice.
+#[tactic(auto, using(crate::proofs::Laws::Powers::powering))]
 pub fn powers(x: u32) -> [u64; 5]
     ensures { Powers x result }
 {
     let y = residue(x);
     let mut all = [1u64; 5];
     let mut power: u64 = 1;
-    let mut i: usize = 0;
-    while i < 5 {
-        all[i] = power;
+    for p in all.iter_mut() {
+        *p = power;
         power = times(power, y);
-        i += 1;
     }
     all
 }
@@ -75,15 +74,14 @@ fn ready(sum: u64, k: usize) -> u64
 }
 
 // The polynomial of five numbers of the seed, from one on, by the powers of the key; the key itself stands in the contract alone.
+#[tactic(auto, using(crate::proofs::Laws::Hashes::weighing))]
 pub fn weigh(s: Sizes, at: usize, x: u32, all: [u64; 5]) -> u32
     requires { (seed_good s.seed ≡ true) × (at ≤ 5) × Powers x all }
     ensures { (result ≡ hash_from 5 at s.seed x) × (result < 2147483647) }
 {
     let mut sum: u64 = 0;
-    let mut k: usize = 0;
-    while k < 5 {
-        sum = ready(sum, k) + s.seed[at + k] as u64 * all[k];
-        k += 1;
+    for (k, p) in all.iter().enumerate() {
+        sum = ready(sum, k) + u64::from(s.seed[at + k]) * *p;
     }
     reduce(fold(sum))
 }
@@ -98,6 +96,7 @@ pub fn hash(s: Sizes, at: usize, x: u32) -> u32
 
 // The largest j up to most such that gamma^j divides h, where gamma does: `power` is gamma^j after j steps. Every power divides 0; any other number is at least
 // as large as a power that divides it, so the next one fits.
+#[tactic(auto, using(crate::proofs::Laws::Powers::dividing))]
 fn higher(h: u32, gamma: u32, most: u32) -> u32
     requires { (0 < gamma) × (h % gamma ≡ 0) × (1 ≤ most) }
     ensures { (result ≡ divides_from most 0 gamma h) × (result ≤ most) }
@@ -105,37 +104,35 @@ fn higher(h: u32, gamma: u32, most: u32) -> u32
     if h == 0 {
         return most;
     }
-    let mut j: u32 = 1;
-    let mut power: u64 = gamma as u64;
-    while j < most {
-        let next = power * (gamma as u64);
-        if h as u64 % next != 0 {
+    let mut power = u64::from(gamma);
+    for j in 1..most {
+        let next = power * u64::from(gamma);
+        if u64::from(h) % next != 0 {
             return j;
         }
         power = next;
-        j += 1;
     }
-    j
+    most
 }
 
 // The least e, up to 17, with gamma^e at least n.
+#[tactic(auto, using(crate::proofs::Laws::Hashes::growing))]
 fn least(gamma: u32, n: u32) -> u32
     requires { (gamma ≤ 64) × (n ≤ 65535) }
     ensures { (result ≡ least_power 17 0 gamma n) × (result ≤ 17) }
 {
-    let mut e: u32 = 0;
     let mut p: u32 = 1;
-    while e < 17 {
+    for e in 0..17 {
         if n <= p {
             return e;
         }
-        p = p * gamma;
-        e += 1;
+        p *= gamma;
     }
-    e
+    17
 }
 
 // β, the highest level.
+#[tactic(auto, unfolding(crate::specs::Sizes::beta))]
 pub fn highest(s: Sizes) -> u32
     requires { (s.gamma ≤ 64) × (s.orders ≤ 65535) }
     ensures { (result ≡ beta s) × (2 ≤ result) × (result ≤ 19) }
@@ -157,6 +154,7 @@ pub fn reckon(s: Sizes) -> Geometry
 }
 
 // The level of a key, β being given; the front, of key 0, has β.
+#[tactic(auto, using(crate::proofs::Laws::Hashes::levels))]
 pub fn level_of(s: Sizes, top: u32, key: u32) -> u32
     requires { (seed_good s.seed ≡ true) × (0 < s.gamma) × (top ≡ beta s) }
     ensures { (result ≡ level s key) × (result ≤ top) }
@@ -173,6 +171,7 @@ pub fn level_of(s: Sizes, top: u32, key: u32) -> u32
 
 // Is the level of a key, which is not the front's, exactly l? No more powers of gamma are tried than that takes, and the first without a division: it is the
 // only one for most keys.
+#[tactic(auto, using(crate::proofs::Laws::Hashes::exact_levels))]
 pub fn has_level(s: Sizes, ratio: u64, top: u32, l: u32, key: u32) -> bool
     requires { (seed_good s.seed ≡ true) × (0 < s.gamma) × (ratio ≡ over s.gamma) × (top ≡ beta s) × (1 ≤ l) × (l ≤ top) × (0 < key) }
     ensures { result ≡ eqb (level s key) l }

@@ -1,11 +1,13 @@
 // The header of a table: the sizes, the seed and the number of orders, read and written by one table of its fields; the seed's ten numbers stand in a row.
-ghost use Rattle.std.specs.Prelude.{◌≡◌, true, ◌++◌, ◌+◌, ◌*◌, ◌%◌, ◌<◌, ◌≤◌, length, drop};
+ghost use Rattle.std.specs.Prelude.{◌≡◌, true, ◌++◌, ◌+◌, ◌*◌, ◌%◌, ◌<◌, ◌≤◌, ◌⊎◌, length, drop};
 ghost use Rattle.std.proofs.lemmas.List.Edits.{sets};
 ghost use Rattle.sizes.specs.Numbers.{big, field};
 ghost use Rattle.sizes.specs.Sizes.{row, sizes_good, seed_good, made};
 ghost use Rattle.sizes.specs.Header.{block_long, table_long, header_at, header_wide, header, header_value, sizes_in, held_in, rule_1};
 
-use crate::{Field, Sizes, hash, numbers};
+use crate::numbers::{be2, be4, put};
+use crate::{Field, PRIME, Sizes, hash};
+use std::array;
 
 // What a header says: the sizes and the seed, and the number of orders held.
 #[derive(Clone, Copy)]
@@ -53,12 +55,6 @@ impl Header {
         requires { 53 ≤ length table.now }
         ensures { (result.sizes ≡ sizes_in table.now) × (result.held ≡ held_in table.now) }
     {
-        let mut seed = [0u32; 10];
-        let mut i: usize = 0;
-        while i < 10 {
-            seed[i] = numbers::be4(table, Header::SEED + 4 * i);
-            i += 1;
-        }
         Header {
             sizes: Sizes {
                 version: field(table, 0),
@@ -66,109 +62,70 @@ impl Header {
                 nodes: field(table, 3),
                 orders: field(table, 4),
                 blocks: field(table, 5),
-                seed: seed,
+                seed: array::from_fn(|i| be4(table, Header::SEED + 4 * i)),
             },
             held: field(table, Header::HELD_FIELD),
         }
     }
 
     // The value of field k. Past the first seven it is a number of the seed.
+    #[tactic(auto, using(crate::proofs::Laws::HeaderWrites::value_seed), unfolding(crate::specs::Header::header_value))]
     fn value(self, k: usize) -> u32
         requires { (k < 17) × (self.sizes.nodes ≤ 32) × (self.sizes.blocks ≤ 65535) }
         ensures { result ≡ header_value self.sizes self.held k }
     {
-        if k == 0 {
-            return self.sizes.version;
+        match k {
+            0 => self.sizes.version,
+            1 => table_length(self.sizes),
+            2 => self.sizes.gamma,
+            3 => self.sizes.nodes,
+            4 => self.sizes.orders,
+            5 => self.sizes.blocks,
+            6 => self.held,
+            _ => self.sizes.seed[k - 7],
         }
-        if k == 1 {
-            return table_length(self.sizes);
-        }
-        if k == 2 {
-            return self.sizes.gamma;
-        }
-        if k == 3 {
-            return self.sizes.nodes;
-        }
-        if k == 4 {
-            return self.sizes.orders;
-        }
-        if k == 5 {
-            return self.sizes.blocks;
-        }
-        if k == 6 {
-            return self.held;
-        }
-        let s = self.sizes;
-        s.seed[k - 7]
     }
 
     // Field by field, by the table that `read` goes by.
+    #[tactic(auto, using(crate::proofs::Laws::HeaderWrites::writing, crate::proofs::Laws::HeaderLoops::placed))]
     pub fn write(self, table: &mut [u8])
         requires { (53 ≤ length table.old) × (made self.sizes ≡ true) × (self.held ≤ 65535) }
         ensures { table.new ≡ header self.sizes self.held ++ drop 53 table.old }
     {
-        let mut k: usize = 0;
-        while k < 17 {
-            let f = place(k);
+        for (k, f) in Header::FIELDS.iter().enumerate() {
             put(table, f.at, f.width, self.value(k));
-            k += 1;
         }
-    }
-}
-
-// A big-endian number of at most four bytes.
-fn number(s: &[u8], at: usize, n: usize) -> u32
-    requires { (at + n ≤ length s.now) × (n ≤ 4) }
-    ensures { result ≡ field at n s.now }
-{
-    let mut v: u32 = 0;
-    let mut k: usize = 0;
-    while k < n {
-        v = 256 * v + numbers::wide(s[at + k]);
-        k += 1;
-    }
-    v
-}
-
-// A number in n bytes, big-endian, from its low end on.
-fn put(s: &mut [u8], at: usize, n: usize, v: u32)
-    requires { at + n ≤ length s.old }
-    ensures { s.new ≡ sets s.old at (big n v) }
-{
-    let mut rest: u32 = v;
-    let mut k: usize = 0;
-    while k < n {
-        k += 1;
-        s[at + (n - k)] = (rest % 256) as u8;
-        rest = rest / 256;
     }
 }
 
 // The place and the width of field k.
 fn place(k: usize) -> Field
     requires { k < 17 }
-    ensures { (result.at ≡ header_at k) × (result.width ≡ header_wide k) × (result.at + result.width ≤ 53) × (result.width ≤ 4) }
+    ensures { (result.at ≡ header_at k) × (result.width ≡ header_wide k) × (result.at + result.width ≤ 53) × ((result.width ≡ 1) ⊎ (result.width ≡ 2) ⊎ (result.width ≡ 4)) }
 {
     Header::FIELDS[k]
 }
 
 // The header's field k.
+#[tactic(auto, using(crate::proofs::Laws::HeaderLoops::field_one))]
 pub fn field(table: &[u8], k: usize) -> u32
     requires { (53 ≤ length table.now) × (k < 17) }
     ensures { result ≡ field (header_at k) (header_wide k) table.now }
 {
     let f = place(k);
-    number(table, f.at, f.width)
+    match f.width {
+        1 => u32::from(table[f.at]),
+        2 => be2(table, f.at),
+        _ => be4(table, f.at),
+    }
 }
 
 // The bytes of a node, and of a span's row.
+#[tactic(auto, unfolding(crate::specs::Sizes::row))]
 pub fn row(s: Sizes) -> usize
     ensures { (result ≡ row s) × (12 ≤ result) × (result ≤ 16) × (result % 4 ≡ 0) }
 {
-    if s.version == 1 {
-        return 12;
-    }
-    16
+    if s.version == 1 { 12 } else { 16 }
 }
 
 // The bytes of n rows.
@@ -180,6 +137,7 @@ pub fn rows(w: usize, n: u32) -> usize
 }
 
 // The bytes of n nodes of a block.
+#[tactic(auto, using(crate::proofs::Laws::HeaderLoops::rows_room), unfolding(crate::specs::Header::block_long))]
 pub fn used(s: Sizes, n: u32) -> usize
     requires { (n ≤ s.nodes) × (s.nodes ≤ 32) }
     ensures { (result ≡ row s * n) × (8 + result ≤ block_long s) × (result ≤ 512) }
@@ -188,6 +146,7 @@ pub fn used(s: Sizes, n: u32) -> usize
 }
 
 // The bytes of a block.
+#[tactic(auto, unfolding(crate::specs::Header::block_long))]
 pub fn block_length(s: Sizes) -> u32
     requires { s.nodes ≤ 32 }
     ensures { (result ≡ block_long s) × (result ≤ 520) }
@@ -196,6 +155,7 @@ pub fn block_length(s: Sizes) -> u32
 }
 
 // The length of a table of these sizes: the header, and the blocks.
+#[tactic(auto, using(crate::proofs::Laws::HeaderLoops::long_fits, crate::proofs::Laws::HeaderLoops::long_sum), unfolding(crate::specs::Header::table_long))]
 pub fn table_length(s: Sizes) -> u32
     requires { (s.nodes ≤ 32) × (s.blocks ≤ 65535) }
     ensures { result ≡ table_long s }
@@ -207,67 +167,31 @@ pub fn table_length(s: Sizes) -> u32
 pub fn sizes_allowed(s: Sizes) -> bool
     ensures { result ≡ sizes_good s }
 {
-    if s.version < 1 {
-        return false;
-    }
-    if Header::VERSION < s.version {
-        return false;
-    }
-    if s.gamma < 2 {
-        return false;
-    }
-    if 64 < s.gamma {
-        return false;
-    }
-    if s.nodes < 2 {
-        return false;
-    }
-    if 32 < s.nodes {
-        return false;
-    }
-    if s.orders < 1 {
-        return false;
-    }
-    if 65535 < s.orders {
-        return false;
-    }
-    if 65535 < s.blocks {
-        return false;
-    }
-    hash::highest(s) <= s.blocks
+    (1..=Header::VERSION).contains(&s.version)
+        && (2..=64).contains(&s.gamma)
+        && (2..=32).contains(&s.nodes)
+        && (1..=65535).contains(&s.orders)
+        && s.blocks <= 65535
+        && hash::highest(s) <= s.blocks
 }
 
 // Each seed number is below p.
 pub fn seed_allowed(s: Sizes) -> bool
     ensures { result ≡ seed_good s.seed }
 {
-    let mut i: usize = 0;
-    while i < 10 {
-        if 2147483647 <= s.seed[i] {
-            return false;
-        }
-        i += 1;
-    }
-    true
+    s.seed.iter().all(|n| *n < PRIME)
 }
 
 // Rule 1 of an image, of bytes whose header was read. The sizes are tested first: only of sizes in range is the length sure to fit.
+#[tactic(auto, using(crate::proofs::Laws::HeaderLoops::good_nodes, crate::proofs::Laws::HeaderLoops::good_blocks), unfolding(crate::specs::Header::rule_1))]
 pub fn rule_of(table: &[u8], h: Header) -> bool
     requires { (53 ≤ length table.now) × (h.sizes ≡ sizes_in table.now) × (h.held ≡ held_in table.now) }
     ensures { result ≡ rule_1 table.now }
 {
-    if !sizes_allowed(h.sizes) {
+    let s = h.sizes;
+    if !(sizes_allowed(s) && seed_allowed(s)) {
         return false;
     }
-    if !seed_allowed(h.sizes) {
-        return false;
-    }
-    let long = table_length(h.sizes);
-    if field(table, 1) != long {
-        return false;
-    }
-    if table.len() != long as usize {
-        return false;
-    }
-    h.held <= h.sizes.orders
+    let long = table_length(s);
+    field(table, 1) == long && table.len() == long as usize && h.held <= s.orders
 }

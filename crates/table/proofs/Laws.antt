@@ -27,6 +27,7 @@ pub mod Demands
 pub mod Wrong
 pub mod Checking
 pub mod Decided
+pub mod Refusals
 pub mod Seeds
 pub mod Fronts
 pub mod Making

@@ -1,11 +1,12 @@
 -- The check as it is computed: rule 1, one pass over the blocks, and the walk.
-use Rattle.std.specs.Prelude.{◌≡◌, Bool, true, false, ◌&&◌, cond, List, ℕ, zero, suc, ◌+◌, ◌*◌, ◌-◌, ◌/◌, ◌≤◌, ◌<◌, eqb, length, get_or}
+use Rattle.std.specs.Prelude.{◌≡◌, Bool, true, false, ◌&&◌, cond, List, ℕ, zero, suc, ◌+◌, ◌*◌, ◌-◌, ◌/◌, ◌≤◌, ◌<◌, eqb, length, get_or, Option, Some, None, option_and_then, MatchOption, Result, Ok, Err}
 use Rattle.sizes.specs.Sizes.{beta, row}
 use Rattle.sizes.specs.Header.{block_long, sizes_in, held_in, rule_1}
 use Rattle.sizes.specs.declared.Sizes.{Sizes}
 use Rattle.skiplist.specs.Image.{is_image}
+use Rattle.table.specs.declared.Refusal.{Refusal}
+use Rattle.table.specs.declared.Refusal.TheVariants.{NoImage}
 use Rattle.table.specs.declared.Seen.{Seen}
-use Rattle.table.specs.declared.Tally.{Tally}
 use Rattle.table.specs.Walk.{opens_of}
 
 -- THE PASS over the blocks: unused bytes are zero
@@ -41,32 +42,32 @@ unused k w bs i = used_of k (get_or bs (53 + i * w) 0) (get_or bs (53 + i * w + 
 unfoldable pub block_clean : (row w : ℕ) → List ℕ → (i : ℕ) → Bool
 block_clean k w bs i = zeros_from bs (w - unused k w bs i) (53 + i * w + unused k w bs i)
 
-unfoldable pub sweep_from : (row w : ℕ) → List ℕ → (left i full : ℕ) → Tally
-sweep_from k w bs zero i m = record { clean = true; full = m }
-sweep_from k w bs (suc j) i m =
-    cond (block_clean k w bs i) (sweep_from k w bs j (suc i) (more_of m (get_or bs (53 + i * w) 0))) (record { clean = false; full = m })
+-- how many blocks are full, where all unused bytes are zero
+unfoldable pub sweep_from : (row w : ℕ) → List ℕ → (left i full : ℕ) → Option ℕ
+sweep_from k w bs zero i m = Some m
+sweep_from k w bs (suc j) i m = cond (block_clean k w bs i) (sweep_from k w bs j (suc i) (more_of m (get_or bs (53 + i * w) 0))) None
 
-unfoldable pub swept : Sizes → List ℕ → Tally
+unfoldable pub swept : Sizes → List ℕ → Option ℕ
 swept s bs = sweep_from (row s) (block_long s) bs s.blocks 0 0
 
 -- THE WALK from (β, front): n orders and the front are to come, and so many chunks
-unfoldable pub walked : Sizes → List ℕ → (held chunks : ℕ) → Seen
-walked s bs n m = opens_of s bs (beta s) 0 (record { ok = true; low = 0; orders = n + 1; chunks = m })
+unfoldable pub walked : Sizes → List ℕ → (held chunks : ℕ) → Option Seen
+walked s bs n m = opens_of s bs (beta s) 0 (record { low = 0; orders = n + 1; chunks = m })
 
-unfoldable pub ended : Seen → Bool
-ended x = x.ok && (eqb x.orders 0 && eqb x.chunks 0)
+-- .. and it has come to its end, with all of them seen
+unfoldable pub ended : Option Seen → Bool
+ended (Some x) = eqb x.orders 0 && eqb x.chunks 0
+ended None = false
 
 -- THE CHECK
 unfoldable pub check_passes : List ℕ → Bool
-check_passes bs =
-    rule_1 bs && ((swept (sizes_in bs) bs).clean && ended (walked (sizes_in bs) bs (held_in bs) (swept (sizes_in bs) bs).full))
+check_passes bs = rule_1 bs && ended (option_and_then (walked (sizes_in bs) bs (held_in bs)) (swept (sizes_in bs) bs))
 
 -- what it gives: whether the bytes pass, and where they do the number of full blocks that the pass counted
-pub record Passed (bs : List ℕ) (r : Tally) : Type 0 where
-  pub passes : r.clean ≡ check_passes bs
-  pub count : r.clean ≡ true → r.full ≡ (swept (sizes_in bs) bs).full
+abbrev pub Passed : List ℕ → Option ℕ → Type 0
+Passed bs r = MatchOption r (check_passes bs ≡ false) (λ n. (check_passes bs ≡ true) × (swept (sizes_in bs) bs ≡ Some n))
 
--- .. and bytes that pass are an image
-pub record Examined (bs : List ℕ) (r : Tally) : Type 0 where
-  pub image : r.clean ≡ is_image bs
-  pub count : r.clean ≡ true → r.full ≡ (swept (sizes_in bs) bs).full
+-- .. and bytes that pass are an image, of so many chunks; others are turned down by 4
+abbrev pub Examined : List ℕ → Result ℕ Refusal → Type 0
+Examined bs (Ok n) = (is_image bs ≡ true) × (swept (sizes_in bs) bs ≡ Some n)
+Examined bs (Err e) = (is_image bs ≡ false) × (e ≡ NoImage)

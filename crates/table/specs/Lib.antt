@@ -2,4 +2,5 @@ pub mod Walk
 pub mod Check
 pub mod Make
 pub mod Calls
+pub mod Refusals
 pub mod Promise

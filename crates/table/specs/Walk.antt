@@ -1,12 +1,11 @@
--- What the walk of a check gives, over the bytes of a table. These are the steps that the code takes; that they decide whether the bytes are
--- an image is proved in proofs/.
-use Rattle.std.specs.Prelude.{Bool, true, false, ◌&&◌, not, cond, List, ℕ, zero, suc, ◌+◌, ◌*◌, ◌-◌, ◌≤◌, ltb, leb, eqb, get_or, Option, Some, None}
+-- What the walk of a check gives, over the bytes of a table: what has been seen, or None where the table is no image. These are the steps that the
+-- code takes; that they decide whether the bytes are an image is proved in proofs/.
+use Rattle.std.specs.Prelude.{Bool, false, ◌&&◌, not, cond, List, ℕ, zero, suc, ◌+◌, ◌*◌, ◌-◌, ◌≤◌, ltb, leb, eqb, get_or, Option, Some, None, option_and_then}
 use Rattle.sizes.specs.Sizes.{prime, row}
 use Rattle.sizes.specs.Hash.{level}
 use Rattle.sizes.specs.Header.{block_long}
 use Rattle.placement.specs.Decode.{node_of}
-use Rattle.placement.specs.Labels.{home}
-use Rattle.placement.specs.Place.{Shaped, label_in, search_in, found_at}
+use Rattle.placement.specs.Place.{Shaped, search_in, found_at}
 use Rattle.sizes.specs.declared.Sizes.{Sizes}
 use Rattle.placement.specs.declared.Order.{Order}
 use Rattle.skiplist.specs.Image.{price_good}
@@ -18,10 +17,6 @@ pub record Walkable (s : Sizes) (bs : List ℕ) : Type 0 where
   pub base : 2 ≤ s.gamma
   pub base_most : s.gamma ≤ 64
   pub orders_most : s.orders ≤ 65535
-
--- the walk of a table that is no image
-unfoldable pub wrong_seen : Seen
-wrong_seen = record { ok = false; low = 0; orders = 0; chunks = 0 }
 
 -- quantities are 0 above level 1, and for the front; an order has a total of at least 1, and at most that displayed
 unfoldable pub nothing_in : Order → Bool
@@ -43,34 +38,30 @@ fits_in s l f o n = belongs_in s l f o n.key && quantities_ok l n
 
 -- a node of level 1 comes by: its key is not below `low`, and below p
 unfoldable pub counts : (key : ℕ) → Seen → Bool
-counts key x = x.ok && (leb x.low key && (ltb key prime && leb 1 x.orders))
+counts key x = leb x.low key && (ltb key prime && leb 1 x.orders)
 
-unfoldable pub counted : (key : ℕ) → Seen → Seen
-counted key x = cond (counts key x) (record { ok = true; low = key + 1; orders = x.orders - 1; chunks = x.chunks }) wrong_seen
+unfoldable pub counted : (key : ℕ) → Seen → Option Seen
+counted key x = cond (counts key x) (Some (record { low = key + 1; orders = x.orders - 1; chunks = x.chunks })) None
 
 -- a chunk of n nodes comes by
 unfoldable pub enters_ok : (nodes n : ℕ) → Seen → Bool
-enters_ok b n x = x.ok && (leb 1 n && (leb n b && leb 1 x.chunks))
+enters_ok b n x = leb 1 n && (leb n b && leb 1 x.chunks)
 
 unfoldable pub entered_seen : Seen → Seen
-entered_seen x = record { ok = x.ok; low = x.low; orders = x.orders; chunks = x.chunks - 1 }
+entered_seen x = record { low = x.low; orders = x.orders; chunks = x.chunks - 1 }
 
 -- a partition that has no chunk of a number ends there; it has at least one
-unfoldable pub ended_seen : (number : ℕ) → Seen → Seen
-ended_seen i x = cond (eqb i 0) wrong_seen x
-
--- no chunk comes after one of n nodes, or none need be looked for
-unfoldable pub stops_at : (nodes n : ℕ) → Seen → Bool
-stops_at b n x = cond x.ok (ltb n b) true
+unfoldable pub ended_seen : (number : ℕ) → Seen → Option Seen
+ended_seen i x = cond (eqb i 0) None (Some x)
 
 -- THE NODES of a chunk, from a place on; d is what each opens
-unfoldable pub node_good : Sizes → (level first : ℕ) → (opens : Bool) → Order → Seen → Bool
-node_good s l f o n x = x.ok && (price_ok s l n && fits_in s l f o n)
+unfoldable pub node_good : Sizes → (level first : ℕ) → (opens : Bool) → Order → Bool
+node_good s l f o n = price_ok s l n && fits_in s l f o n
 
-unfoldable pub nodes_by : ((key : ℕ) → Seen → Seen) → Sizes → List ℕ → (level first left at : ℕ) → (opens : Bool) → Seen → Seen
-nodes_by d s bs l f zero a o x = x
+unfoldable pub nodes_by : ((key : ℕ) → Seen → Option Seen) → Sizes → List ℕ → (level first left at : ℕ) → (opens : Bool) → Seen → Option Seen
+nodes_by d s bs l f zero a o x = Some x
 nodes_by d s bs l f (suc j) a o x =
-    cond (node_good s l f o (node_of (row s) bs a) x) (nodes_by d s bs l f j (a + row s) false (d (node_of (row s) bs a).key x)) wrong_seen
+    cond (node_good s l f o (node_of (row s) bs a)) (option_and_then (nodes_by d s bs l f j (a + row s) false) (d (node_of (row s) bs a).key x)) None
 
 -- A CHUNK OF LEVEL 1 comes by as a whole: each of its nodes is one of the orders to come, or the front
 unfoldable pub enters_lowest : (nodes n : ℕ) → Seen → Bool
@@ -82,7 +73,7 @@ comes_ok s f o y n = leb y n.key && (ltb n.key prime && (price_ok s 1 n && fits_
 
 -- all of them have come by
 unfoldable pub passed_seen : (n low : ℕ) → Seen → Seen
-passed_seen n y x = record { ok = true; low = y; orders = x.orders - n; chunks = x.chunks - 1 }
+passed_seen n y x = record { low = y; orders = x.orders - n; chunks = x.chunks - 1 }
 
 -- THE CHUNKS of a partition, from a number on
 unfoldable pub spot : Option ℕ → ℕ
@@ -92,27 +83,25 @@ spot None = 0
 unfoldable pub chunk_spot : Sizes → List ℕ → (level first number : ℕ) → Option ℕ
 chunk_spot s bs l f i = search_in s bs (record { level = l; first = f; number = i })
 
--- the search for a partition's first chunk starts at an empty block
-unfoldable pub empty_home : Sizes → List ℕ → (level first : ℕ) → Bool
-empty_home s bs l f = eqb (label_in (block_long s) bs (home s (record { level = l; first = f; number = 0 }))).level 0
-
 -- how many nodes block b says that it has
 unfoldable pub count_in : (long : ℕ) → List ℕ → (b : ℕ) → ℕ
 count_in w bs b = get_or bs (53 + b * w + 1) 0
 
-unfoldable pub chunk_by : ((key : ℕ) → Seen → Seen) → Sizes → List ℕ → (level first number b : ℕ) → Seen → Seen
+unfoldable pub chunk_by : ((key : ℕ) → Seen → Option Seen) → Sizes → List ℕ → (level first number b : ℕ) → Seen → Option Seen
 chunk_by d s bs l f i b x =
     cond (enters_ok s.nodes (count_in (block_long s) bs b) x)
-    (nodes_by d s bs l f (count_in (block_long s) bs b) (53 + b * block_long s + 8) (eqb i 0) (entered_seen x)) wrong_seen
+    (nodes_by d s bs l f (count_in (block_long s) bs b) (53 + b * block_long s + 8) (eqb i 0) (entered_seen x)) None
 
-unfoldable pub chunks_by : ((key : ℕ) → Seen → Seen) → Sizes → List ℕ → (level first fuel number : ℕ) → Seen → Seen
-chunks_by d s bs l f zero i x = x
+-- no chunk comes after one that is not full
+unfoldable pub chunks_by : ((key : ℕ) → Seen → Option Seen) → Sizes → List ℕ → (level first fuel number : ℕ) → Seen → Option Seen
+chunks_by d s bs l f zero i x = Some x
 chunks_by d s bs l f (suc j) i x =
     let r = chunk_spot s bs l f i in
-    let y = chunk_by d s bs l f i (spot r) x in
-    cond (found_at r) (cond (stops_at s.nodes (count_in (block_long s) bs (spot r)) y) y (chunks_by d s bs l f j (suc i) y)) (ended_seen i x)
+    cond (found_at r)
+    (option_and_then (λ y. cond (ltb (count_in (block_long s) bs (spot r)) s.nodes) (Some y) (chunks_by d s bs l f j (suc i) y)) (chunk_by d s bs l f i (spot r) x))
+    (ended_seen i x)
 
 -- A NODE OPENS its partition one level down; at level 0 it stands for itself
-unfoldable pub opens_of : Sizes → List ℕ → (level key : ℕ) → Seen → Seen
+unfoldable pub opens_of : Sizes → List ℕ → (level key : ℕ) → Seen → Option Seen
 opens_of s bs zero key x = counted key x
 opens_of s bs (suc l) f x = chunks_by (opens_of s bs l) s bs (suc l) f s.blocks 0 x

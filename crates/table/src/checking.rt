@@ -1,66 +1,48 @@
 // The check: question 4.
-ghost use Rattle.std.specs.Prelude.{◌≡◌, false};
+ghost use Rattle.std.specs.Prelude.{◌≡◌};
 ghost use Rattle.table.specs.Check.{Passed, Examined};
 ghost use Rattle.table.specs.Calls.{check_number};
+ghost use Rattle.table.specs.Refusals.{answer};
 
 use crate::sweep::{finished, sweep};
 use crate::walk::walk_partition;
-use crate::{Seen, Tally};
+use crate::{Refusal, Seen};
 use sizes::hash::{hash, reckon};
 use sizes::header::{Header, rule_of};
 
-// Bytes that are no table.
-fn nothing() -> Tally
-    ensures { result ≡ record { clean = false; full = 0 } }
-{
-    Tally {
-        clean: false,
-        full: 0,
-    }
-}
-
-// Do the bytes pass rule 1, the pass over the blocks and the walk? Where they do, how many blocks are full.
-fn passes(table: &[u8]) -> Tally
+// How many blocks are full, where the bytes pass rule 1, the pass over the blocks and the walk.
+fn passes(table: &[u8]) -> Option<u32>
     ensures { Passed table.now result }
 {
     if table.len() < Header::LENGTH {
-        return nothing();
+        return None;
     }
     let h = Header::read(table);
     if !rule_of(table, h) {
-        return nothing();
+        return None;
     }
     let q = reckon(h.sizes);
-    let t = sweep(table, q.sizes);
-    if !t.clean {
-        return t;
-    }
+    let full = sweep(table, q.sizes)?;
     let x = Seen {
-        ok: true,
         low: 0,
         orders: h.held + 1,
-        chunks: t.full,
+        chunks: full,
     };
-    let clean = finished(walk_partition(table, q, q.top, 0, hash(q.sizes, 5, 0), x));
-    Tally {
-        clean: clean,
-        full: t.full,
-    }
+    let end = walk_partition(table, q, q.top, 0, hash(q.sizes, 5, 0), x)?;
+    finished(end).then_some(full)
 }
 
-// Are the bytes an image, and of how many chunks?
-pub fn examine(table: &[u8]) -> Tally
+// Are the bytes an image, and how many of its blocks are full?
+pub fn examine(table: &[u8]) -> Result<u32, Refusal>
     ensures { Examined table.now result }
 {
-    passes(table)
+    passes(table).ok_or(Refusal::NoImage)
 }
 
 // Check: question 4.
-pub fn check(table: &[u8]) -> u32
-    ensures { (result ≡ check_number table.now) × (table.exit.now ≡ table.entry.now) }
+pub fn check(table: &[u8]) -> Result<(), Refusal>
+    ensures { (answer result ≡ check_number table.now) × (table.exit.now ≡ table.entry.now) }
 {
-    if examine(table).clean {
-        return 0;
-    }
-    4
+    examine(table)?;
+    Ok(())
 }

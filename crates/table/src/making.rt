@@ -7,29 +7,29 @@ ghost use Rattle.skiplist.specs.Image.{image};
 ghost use Rattle.skiplist.specs.Questions.{parameters, sizes};
 ghost use Rattle.table.specs.Make.{Fronts};
 ghost use Rattle.table.specs.Calls.{MakeSays};
+ghost use Rattle.table.specs.Refusals.{answer};
 
+use crate::Refusal;
+use placement::Label;
+use placement::edits::insert;
 use sizes::Sizes;
 use sizes::hash::highest;
 use sizes::header::{Header, seed_allowed, sizes_allowed, table_length};
+use sizes::numbers::be4;
+use std::array;
 
 // The numbers of the header's sizes and seed, as make is given them.
 fn sizes_of(version: u32, gamma: u32, nodes: u32, orders: u32, blocks: u32, seed: &[u8]) -> Sizes
     requires { length seed.now ≡ 40 }
     ensures { result ≡ sizes (parameters version gamma nodes orders blocks seed.now) }
 {
-    let mut numbers = [0u32; 10];
-    let mut i: usize = 0;
-    while i < 10 {
-        numbers[i] = sizes::numbers::be4(seed, 4 * i);
-        i += 1;
-    }
     Sizes {
-        version: version,
-        gamma: gamma,
-        nodes: nodes,
-        orders: orders,
-        blocks: blocks,
-        seed: numbers,
+        version,
+        gamma,
+        nodes,
+        orders,
+        blocks,
+        seed: array::from_fn(|i| be4(seed, 4 * i)),
     }
 }
 
@@ -38,22 +38,13 @@ fn fronts(table: &mut [u8], s: Sizes, top: u32)
     requires { Shaped s table.old × (1 ≤ s.nodes) × (top < 256) }
     ensures { Fronts s top table.old table.new }
 {
-    let node = [0u8; 16];
-    let mut l: u32 = 1;
-    while l <= top {
-        placement::edits::insert(
-            table,
-            s,
-            placement::Label {
-                level: l,
-                first: 0,
-                number: 0,
-            },
-            1,
-            &node,
-            0,
-        );
-        l += 1;
+    for level in 1..=top {
+        let front = Label {
+            level,
+            first: 0,
+            number: 0,
+        };
+        insert(table, s, front, 1, &[0u8; 16], 0);
     }
 }
 
@@ -62,14 +53,14 @@ fn write_empty(table: &mut [u8], s: Sizes)
     requires { (made s ≡ true) × (length table.old ≡ table_long s) }
     ensures { table.new ≡ image s [] }
 {
-    let n = table.len();
-    sizes::numbers::fill(table, 0, n);
+    table.fill(0);
     let h = Header { sizes: s, held: 0 };
     h.write(table);
     fronts(table, s, highest(s));
 }
 
-// Make: questions 1, 2, 3; then the image of no orders.
+// Make: questions 1, 2, 3; then the image of no orders. The numbers stand apart, as C hands them over: a struct of them would be taken apart here at once.
+#[tactic(auto, unfolding(crate::specs::Calls::MakeSays, skiplist::specs::Book::make_refusal, skiplist::specs::Questions::asks_make, skiplist::specs::Questions::first_no))]
 pub fn make(
     table: &mut [u8],
     version: u32,
@@ -78,22 +69,22 @@ pub fn make(
     orders: u32,
     blocks: u32,
     seed: &[u8],
-) -> u32
-    ensures { MakeSays (parameters version gamma nodes orders blocks seed.now) result table.old table.new × (seed.exit.now ≡ seed.entry.now) }
+) -> Result<(), Refusal>
+    ensures { MakeSays (parameters version gamma nodes orders blocks seed.now) (answer result) table.old table.new × (seed.exit.now ≡ seed.entry.now) }
 {
     if seed.len() != 40 {
-        return 1;
+        return Err(Refusal::BadSeed);
     }
     let s = sizes_of(version, gamma, nodes, orders, blocks, seed);
     if !seed_allowed(s) {
-        return 1;
+        return Err(Refusal::BadSeed);
     }
     if !sizes_allowed(s) {
-        return 2;
+        return Err(Refusal::BadSizes);
     }
     if table.len() != table_length(s) as usize {
-        return 3;
+        return Err(Refusal::BadLength);
     }
     write_empty(table, s);
-    0
+    Ok(())
 }

@@ -1,12 +1,12 @@
 // One pass over the blocks, and the whole check.
-ghost use Rattle.std.specs.Prelude.{◌≡◌, ◌+◌, ◌-◌, ◌<◌, ◌≤◌, eqb, length};
+ghost use Rattle.std.specs.Prelude.{◌≡◌, Some, ◌+◌, ◌-◌, ◌<◌, ◌≤◌, eqb, length};
 ghost use Rattle.placement.specs.Place.{Shaped};
 ghost use Rattle.table.specs.Check.{longest, Words, Mask, zeros_from, used_of, more_of, swept, ended};
 
-use crate::{Seen, Tally};
+use crate::Seen;
+use placement::labels::offset;
 use sizes::Sizes;
 use sizes::header::{block_length, row, rows};
-use sizes::numbers::wide;
 
 // The words, of four bytes each, of the longest block: a head and 32 nodes.
 const WORDS: usize = 130;
@@ -15,6 +15,7 @@ const WORDS: usize = 130;
 const MASK: usize = 2 * WORDS;
 
 // Where the unused bytes of a block start, with w bytes for each node: at once in an empty one.
+#[tactic(auto, unfolding(crate::specs::Check::used_of))]
 fn used(w: usize, level: u32, n: u32) -> usize
     requires { (w ≤ 16) × (n < 256) }
     ensures { result ≡ used_of w level n }
@@ -26,6 +27,7 @@ fn used(w: usize, level: u32, n: u32) -> usize
 }
 
 // One more block that is not empty.
+#[tactic(auto, unfolding(crate::specs::Check::more_of))]
 fn more(full: u32, level: u32) -> u32
     requires { full < 65535 }
     ensures { (result ≡ more_of full level) × (result ≤ full + 1) }
@@ -40,12 +42,8 @@ fn more(full: u32, level: u32) -> u32
 fn mask() -> [u32; MASK]
     ensures { Mask result }
 {
-    let mut m = [4294967295u32; MASK];
-    let mut i: usize = 0;
-    while i < WORDS {
-        m[i] = 0;
-        i += 1;
-    }
+    let mut m = [u32::MAX; MASK];
+    m[..WORDS].fill(0);
     m
 }
 
@@ -54,9 +52,7 @@ fn word(table: &[u8], at: usize) -> u32
     requires { at + 4 ≤ length table.now }
     ensures { eqb result 0 ≡ zeros_from table.now 4 at }
 {
-    wide(table[at])
-        + (256 * wide(table[at + 1])
-            + (65536 * wide(table[at + 2]) + 16777216 * wide(table[at + 3])))
+    u32::from_le_bytes([table[at], table[at + 1], table[at + 2], table[at + 3]])
 }
 
 // Whether the bytes of a block are zero but for the used ones, both whole words. The mask leaves the used ones out: the same steps are taken wherever some are
@@ -68,55 +64,39 @@ fn zeros(table: &[u8], at: usize, long: usize, used: usize, mask: &[u32]) -> boo
     if long <= used {
         return true;
     }
-    let words = long / 4;
     let off = WORDS - used / 4;
     let mut any: u32 = 0;
-    let mut j: usize = 0;
-    while j < words {
-        any = any | (word(table, at + 4 * j) & mask[off + j]);
-        j += 1;
+    for j in 0..long / 4 {
+        any |= word(table, at + 4 * j) & mask[off + j];
     }
     any == 0
 }
 
-// Whether all unused bytes are zero, and how many blocks are not empty.
-pub fn sweep(table: &[u8], s: Sizes) -> Tally
+// How many blocks are not empty, where all unused bytes are zero.
+pub fn sweep(table: &[u8], s: Sizes) -> Option<u32>
     requires { Shaped s table.now }
     ensures { result ≡ swept s table.now }
 {
     let w = row(s);
     let long = block_length(s) as usize;
-    let m = s.blocks;
     let looked = mask();
-    let mut clean = true;
-    let mut full: u32 = 0;
-    let mut i: u32 = 0;
-    while i < m {
-        let at = placement::labels::offset(s, i);
-        let level = wide(table[at]);
-        let n = wide(table[at + 1]);
+    let mut full = 0;
+    for i in 0..s.blocks {
+        let at = offset(s, i);
+        let level = u32::from(table[at]);
+        let n = u32::from(table[at + 1]);
         if !zeros(table, at, long, used(w, level, n), &looked) {
-            clean = false;
-            break;
+            return None;
         }
         full = more(full, level);
-        i += 1;
     }
-    Tally {
-        clean: clean,
-        full: full,
-    }
+    Some(full)
 }
 
 // The walk has come to its end, with every order and every chunk seen.
+#[tactic(auto, unfolding(crate::specs::Check::ended))]
 pub fn finished(x: Seen) -> bool
-    ensures { result ≡ ended x }
+    ensures { result ≡ ended (Some x) }
 {
-    if !x.ok {
-        return false;
-    }
-    if x.orders != 0 {
-        return false;
-    }
-    x.chunks == 0
+    x.orders == 0 && x.chunks == 0
 }

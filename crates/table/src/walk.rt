@@ -3,57 +3,33 @@ ghost use Rattle.std.specs.Prelude.{◌≡◌, true, ◌+◌, ◌*◌, ◌-◌, 
 ghost use Rattle.sizes.specs.Sizes.{row, seed_good};
 ghost use Rattle.sizes.specs.Hash.{hash_from};
 ghost use Rattle.sizes.specs.Geometry.{Reckoned};
-ghost use Rattle.placement.specs.Labels.{label, home};
-ghost use Rattle.placement.specs.Place.{Starts, behind};
+ghost use Rattle.placement.specs.Labels.{label};
 ghost use Rattle.placement.specs.Decode.{node_of};
-ghost use Rattle.table.specs.Walk.{Walkable, wrong_seen, nothing_in, quantities_ok, price_ok, fits_in, node_good, enters_ok, entered_seen, ended_seen, stops_at, nodes_by, enters_lowest, comes_ok, passed_seen, chunk_spot, empty_home, opens_of};
+ghost use Rattle.table.specs.Walk.{Walkable, quantities_ok, price_ok, fits_in, node_good, enters_ok, entered_seen, ended_seen, nodes_by, enters_lowest, comes_ok, passed_seen, opens_of};
 
 use crate::Seen;
+use placement::labels::{home_over, offset};
 use placement::rows::node_of;
+use placement::search::{behind, ends_at_once, find_from, find_over};
 use placement::{Label, Order};
+use sizes::hash::hash;
 use sizes::header::row;
 use sizes::numbers::be4;
 use sizes::{Geometry, PRIME, Sizes};
 
-// The walk of a table that is no image.
-fn wrong() -> Seen
-    ensures { result ≡ wrong_seen }
-{
-    Seen {
-        ok: false,
-        low: 0,
-        orders: 0,
-        chunks: 0,
-    }
-}
-
-// No quantities.
-fn nothing(n: Order) -> bool
-    ensures { result ≡ nothing_in n }
-{
-    if n.total != 0 {
-        return false;
-    }
-    n.displayed == 0
-}
-
 // The quantities of a node: 0 above level 1 and for the front.
+#[tactic(auto, unfolding(crate::specs::Walk::quantities_ok, crate::specs::Walk::nothing_in))]
 fn quantities(level: u32, n: Order) -> bool
     ensures { result ≡ quantities_ok level n }
 {
-    if level != 1 {
-        return nothing(n);
+    if level != 1 || n.key == 0 {
+        return n.total == 0 && n.displayed == 0;
     }
-    if n.key == 0 {
-        return nothing(n);
-    }
-    if n.total < 1 {
-        return false;
-    }
-    n.displayed <= n.total
+    1 <= n.total && n.displayed <= n.total
 }
 
 // Where in a node its price stands, byte 12; where nodes have none, byte 0, the key, which no order has 0 either. Of nodes of w bytes both are 3 · (w − 12).
+#[tactic(auto, unfolding(sizes::specs::Sizes::row))]
 fn price_at(s: Sizes) -> usize
     ensures { (result ≡ 3 * (row s - 12)) × (result + 4 ≤ row s) }
 {
@@ -69,16 +45,14 @@ fn priced(table: &[u8], s: Sizes, level: u32, at: usize, n: Order) -> bool
     requires { (at + row s ≤ length table.now) × (n ≡ node_of (row s) table.now at) }
     ensures { result ≡ price_ok s level n }
 {
-    if level != 1 {
-        return node_of(table, s, at).price == 0;
-    }
-    if n.key == 0 {
+    if level != 1 || n.key == 0 {
         return node_of(table, s, at).price == 0;
     }
     1 <= be4(table, at + price_at(s))
 }
 
 // Does a node fit into a partition? The first key is known, any other has exactly the level of its list.
+#[tactic(auto, unfolding(crate::specs::Walk::fits_in, crate::specs::Walk::belongs_in))]
 fn fits(q: Geometry, level: u32, first: u32, opens: bool, n: Order) -> bool
     requires { (seed_good q.sizes.seed ≡ true) × (0 < q.sizes.gamma) × Reckoned q × (1 ≤ level) × (level ≤ q.top) }
     ensures { result ≡ fits_in q.sizes level first opens n }
@@ -89,259 +63,142 @@ fn fits(q: Geometry, level: u32, first: u32, opens: bool, n: Order) -> bool
     if opens {
         return n.key == first;
     }
-    if n.key == 0 {
-        return false;
-    }
-    sizes::hash::has_level(q.sizes, q.ratio, q.top, level, n.key)
+    n.key != 0 && sizes::hash::has_level(q.sizes, q.ratio, q.top, level, n.key)
 }
 
 // May the node at a place come by, above level 1?
-fn comes_by(
-    table: &[u8],
-    q: Geometry,
-    level: u32,
-    first: u32,
-    opens: bool,
-    at: usize,
-    x: Seen,
-) -> bool
+#[tactic(auto, unfolding(crate::specs::Walk::node_good))]
+fn comes_by(table: &[u8], q: Geometry, level: u32, first: u32, opens: bool, at: usize) -> bool
     requires { (seed_good q.sizes.seed ≡ true) × (0 < q.sizes.gamma) × Reckoned q × (1 ≤ level) × (level ≤ q.top) × (at + row q.sizes ≤ length table.now) }
-    ensures { result ≡ node_good q.sizes level first opens (node_of (row q.sizes) table.now at) x }
+    ensures { result ≡ node_good q.sizes level first opens (node_of (row q.sizes) table.now at) }
 {
-    if !x.ok {
-        return false;
-    }
     let n = node_of(table, q.sizes, at);
-    if !priced(table, q.sizes, level, at, n) {
-        return false;
-    }
-    fits(q, level, first, opens, n)
+    priced(table, q.sizes, level, at, n) && fits(q, level, first, opens, n)
 }
 
 // A chunk of so many nodes may come next.
+#[tactic(auto, unfolding(crate::specs::Walk::enters_ok))]
 fn enters(nodes: u32, n: u32, x: Seen) -> bool
     ensures { result ≡ enters_ok nodes n x }
 {
-    if !x.ok {
-        return false;
-    }
-    if n < 1 {
-        return false;
-    }
-    if nodes < n {
-        return false;
-    }
-    1 <= x.chunks
+    1 <= n && n <= nodes && 1 <= x.chunks
 }
 
 // One chunk fewer to come.
+#[tactic(auto, unfolding(crate::specs::Walk::entered_seen))]
 fn entered(x: Seen) -> Seen
     requires { 1 ≤ x.chunks }
     ensures { result ≡ entered_seen x }
 {
     Seen {
-        ok: x.ok,
-        low: x.low,
-        orders: x.orders,
         chunks: x.chunks - 1,
+        ..x
     }
 }
 
 // A partition without a chunk of that number ends there; it has at least one.
-fn ended(number: u32, x: Seen) -> Seen
+#[tactic(auto, unfolding(crate::specs::Walk::ended_seen))]
+fn ended(number: u32, x: Seen) -> Option<Seen>
     ensures { result ≡ ended_seen number x }
 {
-    if number == 0 {
-        return wrong();
-    }
-    x
-}
-
-// No chunk comes after this one, or none need be looked for.
-fn stops(nodes: u32, n: u32, x: Seen) -> bool
-    ensures { result ≡ stops_at nodes n x }
-{
-    if !x.ok {
-        return true;
-    }
-    n < nodes
+    (number != 0).then_some(x)
 }
 
 // May a level 1 chunk of so many nodes come next? Each of them is an order, or the front.
+#[tactic(auto, unfolding(crate::specs::Walk::enters_lowest))]
 fn enters_lowest(nodes: u32, n: u32, x: Seen) -> bool
     ensures { result ≡ enters_lowest nodes n x }
 {
-    if !enters(nodes, n, x) {
-        return false;
-    }
-    n <= x.orders
+    enters(nodes, n, x) && n <= x.orders
 }
 
 // May the node at a place come by at level 1, an order or the front? Its key is at least `low`, and below p.
+#[tactic(auto, unfolding(crate::specs::Walk::comes_ok))]
 fn comes(table: &[u8], q: Geometry, first: u32, opens: bool, low: u32, at: usize) -> bool
     requires { (seed_good q.sizes.seed ≡ true) × (0 < q.sizes.gamma) × Reckoned q × (1 ≤ q.top) × (at + row q.sizes ≤ length table.now) }
     ensures { result ≡ comes_ok q.sizes first opens low (node_of (row q.sizes) table.now at) }
 {
     let n = node_of(table, q.sizes, at);
-    if n.key < low {
-        return false;
-    }
-    if PRIME <= n.key {
-        return false;
-    }
-    if !priced(table, q.sizes, 1, at, n) {
-        return false;
-    }
-    fits(q, 1, first, opens, n)
+    low <= n.key && n.key < PRIME && priced(table, q.sizes, 1, at, n) && fits(q, 1, first, opens, n)
 }
 
 // A level 1 chunk has come by: the next key is at least `low`.
+#[tactic(auto, unfolding(crate::specs::Walk::passed_seen))]
 fn passed(n: u32, low: u32, x: Seen) -> Seen
     requires { (n ≤ x.orders) × (1 ≤ x.chunks) }
     ensures { result ≡ passed_seen n low x }
 {
     Seen {
-        ok: true,
-        low: low,
+        low,
         orders: x.orders - n,
         chunks: x.chunks - 1,
     }
 }
 
-// The block of a chunk; `g` is the hash g of its first key.
-fn chunk(table: &[u8], q: Geometry, level: u32, first: u32, g: u32, number: u32) -> Option<u32>
-    requires { Walkable q.sizes table.now × Reckoned q × (level ≤ 19) × (g ≡ hash_from 5 5 q.sizes.seed first) × (number ≤ 65535) }
-    ensures { result ≡ chunk_spot q.sizes table.now level first number }
+// The label of a chunk.
+fn label(level: u32, first: u32, number: u32) -> Label
+    ensures { result ≡ label level first number }
 {
-    placement::search::find_over(
-        table,
-        q.sizes,
-        q.round,
-        g,
-        Label {
-            level: level,
-            first: first,
-            number: number,
-        },
-    )
+    Label {
+        level,
+        first,
+        number,
+    }
 }
 
-// The block of a chunk of level 1, where the search for it may start at another block than its home.
-fn chunk_from(table: &[u8], s: Sizes, start: u32, first: u32, number: u32) -> Option<u32>
-    requires { Walkable s table.now × Starts s table.now (label 1 first number) start }
-    ensures { result ≡ chunk_spot s table.now 1 first number }
-{
-    placement::search::find_from(
-        table,
-        s,
-        start,
-        s.blocks,
-        Label {
-            level: 1,
-            first: first,
-            number: number,
-        },
-    )
-}
-
-// Where the search for a partition's first chunk of level 1 starts: its home. `g` is the hash g of its first key.
-fn starts(q: Geometry, first: u32, g: u32) -> u32
-    requires { Reckoned q × (0 < q.sizes.blocks) × (q.sizes.blocks ≤ 65535) × (g ≡ hash_from 5 5 q.sizes.seed first) }
-    ensures { (result ≡ home q.sizes (label 1 first 0)) × (result < q.sizes.blocks) }
-{
-    placement::labels::home_over(
-        q.sizes,
-        q.round,
-        g,
-        Label {
-            level: 1,
-            first: first,
-            number: 0,
-        },
-    )
-}
-
-// .. and that for the next one, where the one before it stands in block i: behind that.
-fn goes_on(s: Sizes, first: u32, g: u32, number: u32, i: u32) -> u32
-    requires { (i < s.blocks) × (g ≡ hash_from 5 5 s.seed first) × (number ≤ 65535) }
-    ensures { (result ≡ behind s (label 1 first number) i) × (result < s.blocks) }
-{
-    placement::search::behind(
-        s,
-        g,
-        Label {
-            level: 1,
-            first: first,
-            number: number,
-        },
-        i,
-    )
-}
-
-// Does the search for a partition's first chunk start at an empty block, so that it has none? `g` is the hash g of its first key.
-fn absent(table: &[u8], q: Geometry, level: u32, first: u32, g: u32) -> bool
-    requires { Walkable q.sizes table.now × Reckoned q × (level ≤ 19) × (g ≡ hash_from 5 5 q.sizes.seed first) }
-    ensures { result ≡ empty_home q.sizes table.now level first }
-{
-    placement::search::ends_at_once(
-        table,
-        q.sizes,
-        q.round,
-        g,
-        Label {
-            level: level,
-            first: first,
-            number: 0,
-        },
-    )
-}
-
-// A partition of level 1: the blocks of its chunks, and in each its nodes, one after the other. A node that may not come by ends both.
-// `g` is the hash g of its first key.
-fn walk_lowest(table: &[u8], q: Geometry, first: u32, g: u32, x: Seen) -> Seen
+// A partition of level 1: the blocks of its chunks, and in each its nodes, one after the other. A node that may not come by leaves both by the
+// label. The search for the first chunk starts at its home, that for a next one behind the block of the one before it. `g` is the hash g of the partition's first key.
+fn walk_lowest(table: &[u8], q: Geometry, first: u32, g: u32, x: Seen) -> Option<Seen>
     requires { Walkable q.sizes table.now × Reckoned q × (1 ≤ q.top) × (g ≡ hash_from 5 5 q.sizes.seed first) }
     ensures { result ≡ opens_of q.sizes table.now 1 first x }
 {
     let w = row(q.sizes);
     let mut seen = x;
-    let mut number: u32 = 0;
-    let mut start = starts(q, first, g);
-    'blocks: while number < q.sizes.blocks {
-        let Some(i) = chunk_from(table, q.sizes, start, first, number) else {
-            return ended(number, seen);
-        };
-        let at = placement::labels::offset(q.sizes, i);
-        let n = sizes::numbers::wide(table[at + 1]);
-        if !enters_lowest(q.sizes.nodes, n, seen) {
-            return wrong();
-        }
-        let mut opens = number == 0;
-        let mut low = seen.low;
-        let mut place = at + 8;
-        let mut k = n;
-        while 0 < k {
-            if !comes(table, q, first, opens, low, place) {
-                seen = wrong();
-                break 'blocks;
+    let front = label(1, first, 0);
+    let mut start = home_over(q.sizes, q.round, g, front);
+    'blocks: {
+        for number in 0..q.sizes.blocks {
+            let want = label(1, first, number);
+            let Some(i) = find_from(table, q.sizes, start, q.sizes.blocks, want) else {
+                return ended(number, seen);
+            };
+            let at = offset(q.sizes, i);
+            let n = u32::from(table[at + 1]);
+            if !enters_lowest(q.sizes.nodes, n, seen) {
+                return None;
             }
-            opens = false;
-            low = be4(table, place) + 1;
-            place += w;
-            k -= 1;
+            let mut opens = number == 0;
+            let mut low = seen.low;
+            let mut place = at + 8;
+            for _k in 0..n {
+                if !comes(table, q, first, opens, low, place) {
+                    break 'blocks None;
+                }
+                opens = false;
+                low = be4(table, place) + 1;
+                place += w;
+            }
+            seen = passed(n, low, seen);
+            if n < q.sizes.nodes {
+                return Some(seen);
+            }
+            let next = label(1, first, number + 1);
+            start = behind(q.sizes, g, next, i);
         }
-        seen = passed(n, low, seen);
-        if n < q.sizes.nodes {
-            return seen;
-        }
-        number += 1;
-        start = goes_on(q.sizes, first, g, number, i);
+        Some(seen)
     }
-    seen
 }
 
 // A partition: its chunks, one after the other, a next one only behind a full one. `g` is the hash g of its first key.
 #[cycle(walk_nodes_walk_partition)]
-pub fn walk_partition(table: &[u8], q: Geometry, level: u32, first: u32, g: u32, x: Seen) -> Seen
+pub fn walk_partition(
+    table: &[u8],
+    q: Geometry,
+    level: u32,
+    first: u32,
+    g: u32,
+    x: Seen,
+) -> Option<Seen>
     requires { Walkable q.sizes table.now × Reckoned q × (1 ≤ level) × (level ≤ q.top) × (g ≡ hash_from 5 5 q.sizes.seed first) }
     ensures { result ≡ opens_of q.sizes table.now level first x }
 {
@@ -349,24 +206,23 @@ pub fn walk_partition(table: &[u8], q: Geometry, level: u32, first: u32, g: u32,
         return walk_lowest(table, q, first, g, x);
     }
     let mut seen = x;
-    let mut number: u32 = 0;
-    while number < q.sizes.blocks {
-        let Some(i) = chunk(table, q, level, first, g, number) else {
+    for number in 0..q.sizes.blocks {
+        let want = label(level, first, number);
+        let Some(i) = find_over(table, q.sizes, q.round, g, want) else {
             return ended(number, seen);
         };
-        let at = placement::labels::offset(q.sizes, i);
-        let n = sizes::numbers::wide(table[at + 1]);
+        let at = offset(q.sizes, i);
+        let n = u32::from(table[at + 1]);
         if !enters(q.sizes.nodes, n, seen) {
-            return wrong();
+            return None;
         }
         let opens = number == 0;
-        seen = walk_nodes(table, q, level, first, opens, at + 8, n, entered(seen));
-        if stops(q.sizes.nodes, n, seen) {
-            return seen;
+        seen = walk_nodes(table, q, level, first, opens, at + 8, n, entered(seen))?;
+        if n < q.sizes.nodes {
+            return Some(seen);
         }
-        number += 1;
     }
-    seen
+    Some(seen)
 }
 
 // The nodes of a chunk above level 1: each opens its partition one level down. The next partition's block is looked at while there is other
@@ -381,33 +237,32 @@ pub fn walk_nodes(
     at: usize,
     left: u32,
     x: Seen,
-) -> Seen
+) -> Option<Seen>
     requires { Walkable q.sizes table.now × Reckoned q × (2 ≤ level) × (level ≤ q.top) × (1 ≤ left) × (at + row q.sizes * left ≤ length table.now) }
     ensures { result ≡ nodes_by (opens_of q.sizes table.now (level - 1)) q.sizes table.now level first left at opens x }
 {
     let w = row(q.sizes);
-    let mut y = x;
-    let mut o = opens;
+    let mut seen = x;
+    let mut opens = opens;
     let mut place = at;
-    let mut k = left;
-    let mut g = sizes::hash::hash(q.sizes, 5, be4(table, at));
-    while 0 < k {
-        if !comes_by(table, q, level, first, o, place, y) {
-            return wrong();
+    let mut g = hash(q.sizes, 5, be4(table, at));
+    for behind in (0..left).rev() {
+        if !comes_by(table, q, level, first, opens, place) {
+            return None;
         }
-        let mut next: u32 = 0;
-        if 1 < k {
+        let mut next = 0;
+        if 0 < behind {
             let key = be4(table, place + w);
-            next = sizes::hash::hash(q.sizes, 5, key);
-            if absent(table, q, level - 1, key, next) {
-                return wrong();
+            next = hash(q.sizes, 5, key);
+            let want = label(level - 1, key, 0);
+            if ends_at_once(table, q.sizes, q.round, next, want) {
+                return None;
             }
         }
-        y = walk_partition(table, q, level - 1, be4(table, place), g, y);
+        seen = walk_partition(table, q, level - 1, be4(table, place), g, seen)?;
         g = next;
-        o = false;
+        opens = false;
         place += w;
-        k -= 1;
     }
-    y
+    Some(seen)
 }

@@ -20,6 +20,7 @@ use Rattle.table.specs.Calls.{gives, LookAs, LookSays, SpanAs, SpanSays, SeekAs,
 use Rattle.readings.proofs.Laws.Answers.{width}
 use Rattle.answers.specs.Answers.{answer_lines, show_lines, order_line, span_lines, seek_lines}
 use Rattle.answers.specs.Output.{Said}
+use Rattle.answers.specs.declared.printer.Printer.{Printer}
 use Rattle.answers.proofs.Laws.Orders.{span_back}
 use Rattle.answers.proofs.Laws.Output.{said_on}
 
@@ -40,17 +41,17 @@ unfolding gives answer_lines
 given_lines adds zero c o r e = rw e
 given_lines adds (suc n) c o r e = rw e
 
-module _ (old : List ℕ) (used : ℕ) (new : List ℕ) (p : ℕ) where
+module _ (old new : Printer) where
   -- SHOW
   module _ (x : List ℕ) (k : ℕ) (r : Reply) (h : LookSays x k r) where
     show_is : show_lines x k ≡ answer_lines r.number (r.total ∷ r.displayed ∷ []) []
     unfolding show_lines LookSays LookAs
     show_is = given_lines (λ k t d. t ∷ d ∷ []) (refusal (lookup k) x) 0 _ r h
 
-    pub show_no : r.number ≢ 0 → Said old used (row r.number [] ∷ []) new p → Said old used (show_lines x k) new p
+    pub show_no : r.number ≢ 0 → Said old (row r.number [] ∷ []) new → Said old (show_lines x k) new
     show_no e s = rw (show_is, no_lines) s
 
-    pub show_yes : r.number ≡ 0 → Said old used (row 0 (r.total ∷ r.displayed ∷ []) ∷ []) new p → Said old used (show_lines x k) new p
+    pub show_yes : r.number ≡ 0 → Said old (row 0 (r.total ∷ r.displayed ∷ []) ∷ []) new → Said old (show_lines x k) new
     show_yes e s = rw (show_is, yes_lines) s
 
   -- SEEK
@@ -59,10 +60,10 @@ module _ (old : List ℕ) (used : ℕ) (new : List ℕ) (p : ℕ) where
     unfolding seek_lines SeekSays SeekAs
     seek_is = given_lines (λ k t d. k ∷ t ∷ d ∷ []) (refusal (seek lo hi l) x) 0 _ r h
 
-    pub seek_no : r.number ≢ 0 → Said old used (row r.number [] ∷ []) new p → Said old used (seek_lines x lo hi l) new p
+    pub seek_no : r.number ≢ 0 → Said old (row r.number [] ∷ []) new → Said old (seek_lines x lo hi l) new
     seek_no e s = rw (seek_is, no_lines) s
 
-    pub seek_yes : r.number ≡ 0 → Said old used (row 0 (r.key ∷ r.total ∷ r.displayed ∷ []) ∷ []) new p → Said old used (seek_lines x lo hi l) new p
+    pub seek_yes : r.number ≡ 0 → Said old (row 0 (r.key ∷ r.total ∷ r.displayed ∷ []) ∷ []) new → Said old (seek_lines x lo hi l) new
     seek_yes e s = rw (seek_is, yes_lines) s
 
 -- SPAN
@@ -75,9 +76,9 @@ module _ (x : List ℕ) (lo hi : ℕ) (r : Reply) (o z : List ℕ) (h : SpanSays
       go zero s = ap (λ (q : Reply). q.number) s.0
       go (suc n) s = ap (λ (q : Reply). q.number) s.0
 
-  pub span_no : (old : List ℕ) (used : ℕ) (new : List ℕ) (p : ℕ) → r.number ≢ 0 → Said old used (row r.number [] ∷ []) new p → Said old used (span_lines x lo hi (length o)) new p
+  pub span_no : (old new : Printer) → r.number ≢ 0 → Said old (row r.number [] ∷ []) new → Said old (span_lines x lo hi (length o)) new
   unfolding span_lines refusal asks
-  span_no old used new p e s = rw (← number_is, no_lines) s
+  span_no old new e s = rw (← number_is, no_lines) s
 
   -- where it is not refused
   module _ (e : r.number ≡ 0) where
@@ -105,6 +106,5 @@ module _ (x : List ℕ) (lo hi : ℕ) (r : Reply) (o z : List ℕ) (h : SpanSays
       unfolding span_lines refusal asks SpanAs
       span_is = yes_lines _ _ _ passed ∙ sym (rw (ew, wrote.0, wrote.1, span_back x lo hi _ span_image))
 
-      pub span_yes : (old : List ℕ) (used : ℕ) (new : List ℕ) (p : ℕ) (mid : List ℕ) (q : ℕ) → Said old used (row 0 (r.count ∷ []) ∷ []) mid q
-          → Said mid q (map order_line (nodes_from w r.count z)) new p → Said old used (span_lines x lo hi (length o)) new p
-      span_yes old used new p mid q a b = rw span_is (said_on old mid new used q p _ _ a b)
+      pub span_yes : (old mid new : Printer) → Said old (row 0 (r.count ∷ []) ∷ []) mid → Said mid (map order_line (nodes_from w r.count z)) new → Said old (span_lines x lo hi (length o)) new
+      span_yes old mid new a b = rw span_is (said_on old mid new _ _ a b)

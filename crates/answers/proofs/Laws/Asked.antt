@@ -1,12 +1,13 @@
 -- A make's numbers: the seed's bytes, and the length of the table.
-use mathlib.Core.Path.{◌≡◌, refl, ap, sym, ◌∙◌, subst}
+use mathlib.Core.Path.{◌≡◌, ap, sym, ◌∙◌}
 use mathlib.Core.Bool.{Bool, true, false}
+use Rattle.std.proofs.Common.{Option, None, Some, MatchOption, unwrap_or}
 use mathlib.Core.List.{List, [], ◌∷◌, ◌++◌, append_assoc, append-nil}
 use Prim.Native.Nat.{ℕ, ◌+◌, ◌*◌, ◌≤◌, ◌<◌}
 use native.Mathlib.Numerals.{add-one}
 use native.Mathlib.Omega.{arith}
 use lib.ListN.{length, get_or, take, drop, length-drop}
-use lib.Seq.{sets, length-sets, take-suc, take_all, get_or-drop}
+use lib.Seq.{sets, length-take-le, take-suc, take_all}
 use Rattle.sizes.specs.Numbers.{big, rows}
 use Rattle.sizes.specs.Sizes.{beta, row, sizes_good}
 use Rattle.sizes.specs.Header.{seed_bytes, block_long, table_long}
@@ -23,37 +24,24 @@ unfolding rows
 rows_snoc [] v = append-nil (big 4 v)
 rows_snoc (x ∷ xs) v = rw (rows_snoc xs v) (sym (append_assoc (big 4 x) (rows (big 4) xs) (big 4 v)))
 
--- what the loop of `write_seed` keeps
-pub record Seeding (p seed : List ℕ) (i : ℕ) : Type 0 where
-  pub within : i ≤ 10
-  pub room : length seed ≡ 40
-  pub is : take (4 * i) seed ≡ seed_bytes (take i (drop 5 p))
+-- one number more
+module _ (xs seed : List ℕ) (i : ℕ) (room : length seed ≡ 40) (ten : length xs ≡ 10) (is : take (4 * i) seed ≡ seed_bytes (take i xs)) where
+  pub seeding_more : i < length xs → take (4 * (i + 1)) (sets seed (4 * i) (big 4 (get_or xs i 0))) ≡ seed_bytes (take (i + 1) xs)
+  seeding_more h =
+      let v = get_or xs i 0 in
+      let four : 4 * (i + 1) ≡ 4 * i + 4 = omega arith in
+      let next : take (4 * i + 4) (sets seed (4 * i) (big 4 v)) ≡ take (4 * i) seed ++ big 4 v =
+      ap (λ (k : ℕ). take (4 * i + k) (sets seed (4 * i) (big 4 v))) (sym (length_big 4 v)) ∙ take_sets_end seed (4 * i) (big 4 v) (omega (arith, length_big 4 v)) in
+      rw (four, next, add-one, take-suc xs i 0 h, rows_snoc, is)
 
-module _ (p : List ℕ) where
-  pub seeding_start : (seed : List ℕ) → length seed ≡ 40 → Seeding p seed 0
-  unfolding rows
-  seeding_start seed h = record { within = omega arith; room = h; is = refl }
+  pub seeding_end : i ≤ length xs → length xs ≤ i → seed ≡ seed_bytes xs
+  seeding_end h g =
+      let e : i ≡ 10 = omega arith in
+      sym (take_all 40 seed (omega arith)) ∙ (rw e at is) ∙ ap seed_bytes (take_all 10 xs (omega arith))
 
-  module _ (seed : List ℕ) (i : ℕ) (s : Seeding p seed i) where
-    pub seeding_more : (new : List ℕ) → length p ≡ 15 → i < 10 → new ≡ sets seed (4 * i) (big 4 (get_or p (5 + i) 0)) → Seeding p new (i + 1)
-    seeding_more new l h e =
-        let v = get_or p (5 + i) 0 in
-        let four : 4 * (i + 1) ≡ 4 * i + 4 = omega arith in
-        let next : take (4 * i + 4) (sets seed (4 * i) (big 4 v)) ≡ take (4 * i) seed ++ big 4 v =
-        ap (λ (k : ℕ). take (4 * i + k) (sets seed (4 * i) (big 4 v))) (sym (length_big 4 v)) ∙ take_sets_end seed (4 * i) (big 4 v) (omega (arith, length_big 4 v, s.room)) in
-        let more : take (i + 1) (drop 5 p) ≡ take i (drop 5 p) ++ (v ∷ []) =
-        rw (add-one, take-suc (drop 5 p) i 0 (simp length-drop (omega arith)), get_or-drop) in
-        record {
-          within = omega arith;
-          room = rw (e, length-sets) s.room;
-          is = rw (e, four, next, more, rows_snoc, s.is);
-        }
-
-    pub seeding_end : 10 ≤ i → seed ≡ seed_asked p
-    unfolding seed_asked
-    seeding_end h =
-        let e : i ≡ 10 = omega (arith, s.within) in
-        sym (take_all 40 seed (omega (arith, s.room))) ∙ subst (λ (k : ℕ). take (4 * k) seed ≡ seed_bytes (take k (drop 5 p))) e s.is
+-- the ten of a line
+pub ten_asked : (p : List ℕ) → length p ≡ 15 → length (take 10 (drop 5 p)) ≡ 10
+ten_asked p h = length-take-le 10 (drop 5 p) (simp length-drop (omega arith))
 
 -- make is called with those bytes
 pub make_asked : (p seed x z : List ℕ) (r : ℕ) → seed ≡ seed_asked p → MakeSays (parameters 1 (piece p 1) (piece p 2) (piece p 3) (piece p 4) seed) r x z → MakeAsked p r x z
@@ -69,10 +57,15 @@ module _ (p : List ℕ) (s : Sizes) (h : s ≡ plain_asked p) where
   unfolding sizes_asked sizes table_long block_long row
   asked_long = ap table_long (sym h)
 
-  pub long_yes : (t : Bool) → t ≡ sizes_good s → t ≡ true → (r : ℕ) → r ≡ table_long s → r ≡ long_asked p
+  pub long_yes : (t : Bool) → t ≡ sizes_good s → t ≡ true → (r : ℕ) → r ≡ table_long s → (sizes_good (sizes_asked p) ≡ true) × (r ≡ long_asked p)
   unfolding long_asked
-  long_yes t g y r e = e ∙ sym (rw (asked_good ∙ sym g ∙ y) asked_long)
+  long_yes t g y r e = let good = asked_good ∙ sym g ∙ y in (good, e ∙ sym (rw good asked_long))
 
-  pub long_no : (t : Bool) → t ≡ sizes_good s → t ≡ false → 0 ≡ long_asked p
-  unfolding long_asked
-  long_no t g y = sym (rw (asked_good ∙ sym g ∙ y))
+  pub long_no : (t : Bool) → t ≡ sizes_good s → t ≡ false → sizes_good (sizes_asked p) ≡ false
+  long_no t g y = asked_good ∙ sym g ∙ y
+
+pub long_or_none : (p : List ℕ) (r : Option ℕ) → MatchOption r (sizes_good (sizes_asked p) ≡ false) (λ n. (sizes_good (sizes_asked p) ≡ true) × (n ≡ long_asked p))
+    → unwrap_or r 0 ≡ long_asked p
+unfolding long_asked
+long_or_none p None e = sym (rw e)
+long_or_none p (Some n) e = e.1

@@ -1,10 +1,9 @@
 -- Orders in bytes, printed one line each.
-use mathlib.Core.Path.{◌≡◌, refl, ap, ◌∙◌, subst}
+use mathlib.Core.Path.{◌≡◌, refl, ap, ◌∙◌}
 use mathlib.Core.Bool.{true, ◌&&◌}
 use mathlib.Core.List.{List, [], ◌∷◌, ◌++◌, map, map-append}
-use Prim.Native.Nat.{ℕ, zero, suc, ◌+◌, ◌*◌, ◌≤◌, ◌<◌}
+use Prim.Native.Nat.{ℕ, zero, suc, ◌+◌, ◌*◌}
 use native.Mathlib.Nat.{add-zero, add_comm, suc-add, mul-zero, mul-suc}
-use native.Mathlib.Omega.{arith}
 use lib.Dec.{leb}
 use lib.ListN.{length, drop}
 use lib.Seq.{drop-drop}
@@ -19,7 +18,6 @@ use Rattle.sizes.specs.declared.Sizes.{Sizes}
 use Rattle.placement.specs.declared.Order.{Order}
 use Rattle.sizes.proofs.Laws.Numbers.{field_drop}
 use Rattle.sizes.proofs.Laws.Sizes.{row_least}
-use Rattle.sizes.proofs.Laws.HeaderLoops.{row_room}
 use Rattle.placement.proofs.Laws.Cells.{cond_valid}
 use Rattle.placement.proofs.Laws.Reading.{nodes_back}
 use Rattle.skiplist.specs.Image.{orders_good, orders_in, is_image}
@@ -29,14 +27,14 @@ use Rattle.skiplist.proofs.Laws.Sound.{fine_good}
 use Rattle.skiplist.proofs.Laws.Third.{image_parts}
 use Rattle.readings.proofs.Laws.Answers.{width}
 use Rattle.answers.specs.Answers.{order_line}
-use Rattle.answers.specs.Lent.{Lent}
 use Rattle.answers.specs.Output.{Said}
-use Rattle.answers.proofs.Laws.Output.{said_none, said_on}
+use Rattle.answers.specs.declared.printer.Printer.{Printer}
+use Rattle.answers.proofs.Laws.Output.{said_on}
 
 -- ONE ORDER, read by its three fields
-module _ (old : List ℕ) (used : ℕ) (found : List ℕ) (at : ℕ) (new : List ℕ) (r : ℕ) where
+module _ (old : Printer) (found : List ℕ) (at : ℕ) (new : Printer) where
   pub order_said : (k t d : ℕ) → k ≡ field at 4 found → t ≡ field (at + 4) 4 found → d ≡ field (at + 8) 4 found
-      → Said old used (line k (t ∷ d ∷ []) ∷ []) new r → Said old used (order_line (node_of 12 found at) ∷ []) new r
+      → Said old (line k (t ∷ d ∷ []) ∷ []) new → Said old (order_line (node_of 12 found at) ∷ []) new
   unfolding order_line node_of node_in
   order_said k t d ek et ed s = rw (field_drop 0 4 at found, field_drop 4 4 at found, field_drop 8 4 at found, add-zero, ← ek, ← et, ← ed) s
 
@@ -51,26 +49,10 @@ unfolding rows_in node_of
 nodes_more w zero bs = rw mul-zero
 nodes_more w (suc n) bs = rw suc-add (ap (λ (z : List Order). node_in w bs ∷ z) (nodes_more w n (drop w bs) ∙ rw (drop-drop, mul-suc w n, add_comm (w * n) w)))
 
--- what the loop of `say_orders` keeps
-pub record Saying (old : List ℕ) (used : ℕ) (found : List ℕ) (w n : ℕ) (out : List ℕ) (place i : ℕ) : Type 0 where
-  pub within : i ≤ n
-  pub said : Said old used (map order_line (nodes_from w i found)) out place
-
-pub saying_room : (w n i at l : ℕ) → 12 ≤ w → w * n ≤ l → i < n → at ≡ w * i → at + 12 ≤ l
-saying_room w n i at l least room h e = omega (arith, row_room w i n h)
-
-module _ (old : List ℕ) (used : ℕ) (found : List ℕ) (w n : ℕ) where
-  pub saying_start : Lent old used → Saying old used found w n old used 0
-  unfolding rows_in
-  saying_start l = record { within = omega arith; said = said_none old used l }
-
-  module _ (out : List ℕ) (place i : ℕ) (s : Saying old used found w n out place i) where
-    pub saying_more : (new : List ℕ) (r from : ℕ) → i < n → from ≡ w * i → Said out place (order_line (node_of 12 found from) ∷ []) new r → Saying old used found w n new r (i + 1)
-    saying_more new r from h e a =
-        record { within = omega arith; said = rw (nodes_more, map-append) (said_on old out new used place r _ _ s.said (rw (e, line_same w found (w * i)) at a)) }
-
-    pub saying_end : n ≤ i → Said old used (map order_line (nodes_from w n found)) out place
-    saying_end h = subst (λ (k : ℕ). Said old used (map order_line (nodes_from w k found)) out place) (omega (arith, s.within)) s.said
+-- one order more, in rows of w bytes
+module _ (old mid new : Printer) (found : List ℕ) (w i from : ℕ) where
+  pub saying_more : Said old (map order_line (nodes_from w i found)) mid → from ≡ w * i → Said mid (order_line (node_of 12 found from) ∷ []) new → Said old (map order_line (nodes_from w (i + 1) found)) new
+  saying_more s e a = rw (nodes_more, map-append) (said_on old mid new _ _ s (rw (e, line_same w found (w * i)) at a))
 
 -- WHAT A SPAN WROTE is read back: the orders of an image are such as a row can hold
 fines : (s : Sizes) (a lo hi : ℕ) (os : List Order) → orders_good s a os ≡ true → Fines (row s) (between lo hi os)

@@ -9,54 +9,49 @@ use lib.ListN.{length, take}
 use lib.Seq.{sets}
 use borrow.Author.Tests.{ltb-false, le-ltb, lt-ltb}
 use Rattle.lines.specs.Text.{Put, row, dash}
-use Rattle.lines.proofs.Laws.Writing.{put_long, row_short, dash_short}
-use Rattle.answers.specs.Lent.{Lent}
-use Rattle.answers.specs.Output.{Waiting, waiting, room_at, handed_on, with_line, told, handed, text, Said}
+use Rattle.lines.proofs.Laws.Writing.{row_short, dash_short}
+use Rattle.answers.specs.Output.{Waiting, waiting_in, waits, room_at, handed_on, with_line, told, handed, text, Said}
+use Rattle.answers.specs.declared.printer.Printer.{Printer}
 use Rattle.placement.proofs.Laws.Cells.{take_sets_end}
 
 -- ROOM for a line
-pub room_kept : (used r : ℕ) → used ≤ 65000 → r ≡ used → r ≡ room_at used
+pub room_kept : (used : ℕ) → used ≤ 65000 → room_at used ≡ used
 unfolding room_at
-room_kept used r h e = e ∙ sym (rw (le-ltb 65000 used h))
+room_kept used h = rw (le-ltb 65000 used h)
 
-pub room_made : (used : ℕ) → 65000 < used → 0 ≡ room_at used
+pub room_made : (used : ℕ) → 65000 < used → room_at used ≡ 0
 unfolding room_at
-room_made used h = sym (rw (lt-ltb 65000 used h))
+room_made used h = rw (lt-ltb 65000 used h)
 
--- ONE LINE
-module _ (old new : List ℕ) (used at r : ℕ) (l : Lent old used) (h : at ≡ room_at used) (m : at ≤ 65000) where
-  module _ (bytes : List ℕ) (s : length bytes ≤ 536) (p : Put old new at bytes r) where
-    line_is : waiting new r ≡ told (waiting old used) (bytes ∷ [])
+-- ONE LINE, behind the bytes that wait
+module _ (old mid new : Printer) (whole : length old.buffer ≡ 65536) (kept : mid.buffer ≡ old.buffer) (room : mid.used ≡ room_at old.used) where
+  module _ (bytes : List ℕ) (s : length bytes ≤ 536) (p : Put mid.buffer new.buffer mid.used bytes new.used) where
+    line_is : waiting_in new ≡ told (waiting_in old) (bytes ∷ [])
     unfolding told with_line
     line_is =
-        let b : new ≡ sets old (room_at used) bytes = p.is ∙ rw h in
-        let n : r ≡ room_at used + length bytes = p.next ∙ rw h in
+        let b : new.buffer ≡ sets old.buffer (room_at old.used) bytes = rw (kept, room) at p.is in
+        let n : new.used ≡ room_at old.used + length bytes = rw room at p.next in
         λ j. record { buffer = b j; used = n j }
 
-    line_whole : handed (waiting old used) (bytes ∷ []) ++ take r new ≡ take used old ++ text (bytes ∷ [])
+    line_whole : handed (waiting_in old) (bytes ∷ []) ++ waits new ≡ waits old ++ text (bytes ∷ [])
     unfolding handed handed_on text room_at
-    line_whole = rw (p.next, p.is, h) (go (ltb 65000 used) refl)
+    line_whole = rw (p.next, p.is, kept, room) (go (ltb 65000 old.used) refl)
       where
-        go : (t : Bool) → ltb 65000 used ≡ t
-            → (cond t (take used old) [] ++ []) ++ take (cond t 0 used + length bytes) (sets old (cond t 0 used) bytes) ≡ take used old ++ (bytes ++ [])
-        go true e = rw (append-nil (take used old), append-nil bytes) (ap (λ (z : List ℕ). take used old ++ z) (take_sets_end old 0 bytes (omega (arith, l.whole))))
-        go false e = rw (append-nil bytes) (take_sets_end old used bytes (omega (arith, l.whole, ltb-false 65000 used e)))
+        go : (t : Bool) → ltb 65000 old.used ≡ t
+            → (cond t (waits old) [] ++ []) ++ take (cond t 0 old.used + length bytes) (sets old.buffer (cond t 0 old.used) bytes) ≡ waits old ++ (bytes ++ [])
+        go true e = rw (append-nil (waits old), append-nil bytes) (ap (λ (z : List ℕ). waits old ++ z) (take_sets_end old.buffer 0 bytes (omega arith)))
+        go false e = rw (append-nil bytes) (take_sets_end old.buffer old.used bytes (omega (arith, ltb-false 65000 old.used e)))
 
-    said_line : Said old used (bytes ∷ []) new r
-    said_line =
-        record {
-          lent = record { whole = put_long old new at bytes r p ∙ l.whole; within = omega (arith, p.next) };
-          is = line_is;
-          whole = line_whole;
-        }
+    said_line : Said old (bytes ∷ []) new
+    said_line = record { is = line_is; whole = line_whole }
 
-  pub said_row : (first : ℕ) (others : List ℕ) → length others ≤ 36 → Put old new at (row first others) r → Said old used (row first others ∷ []) new r
+  pub said_row : (first : ℕ) (others : List ℕ) → length others ≤ 36 → Put mid.buffer new.buffer mid.used (row first others) new.used → Said old (row first others ∷ []) new
   said_row first others n p = said_line (row first others) (omega (arith, row_short first others)) p
 
-  pub said_mark : (mark : ℕ) → Put old new at (mark ∷ 10 ∷ []) r → Said old used ((mark ∷ 10 ∷ []) ∷ []) new r
+  pub said_mark : (mark : ℕ) → Put mid.buffer new.buffer mid.used (mark ∷ 10 ∷ []) new.used → Said old ((mark ∷ 10 ∷ []) ∷ []) new
   said_mark mark p = said_line (mark ∷ 10 ∷ []) (omega arith) p
 
-  pub said_dash : (n : ℕ) → Put old new at (dash n) r → Said old used (dash n ∷ []) new r
+  pub said_dash : (n : ℕ) → Put mid.buffer new.buffer mid.used (dash n) new.used → Said old (dash n ∷ []) new
   said_dash n p = said_line (dash n) (omega (arith, dash_short n)) p
 
 -- LINES and then others
@@ -75,18 +70,17 @@ unfolding text
 text_on [] ks = refl
 text_on (l ∷ ls) ks = rw (text_on ls ks) (sym (append_assoc l (text ls) (text ks)))
 
-pub said_none : (out : List ℕ) (used : ℕ) → Lent out used → Said out used [] out used
+pub said_none : (p : Printer) → Said p [] p
 unfolding told handed text
-said_none out used l = record { lent = l; is = refl; whole = sym (append-nil (take used out)) }
+said_none p = record { is = refl; whole = sym (append-nil (waits p)) }
 
-module _ (old mid new : List ℕ) (used p r : ℕ) (ls ks : List (List ℕ)) where
-  pub said_on : Said old used ls mid p → Said mid p ks new r → Said old used (ls ++ ks) new r
+module _ (old mid new : Printer) (ls ks : List (List ℕ)) where
+  pub said_on : Said old ls mid → Said mid ks new → Said old (ls ++ ks) new
   said_on a b =
-      let w = waiting old used in
-      let h : handed (told w ls) ks ++ take r new ≡ take p mid ++ text ks = ap (λ (v : Waiting). handed v ks ++ take r new) (sym a.is) ∙ b.whole in
+      let w = waiting_in old in
+      let h : handed (told w ls) ks ++ waits new ≡ waits mid ++ text ks = ap (λ (v : Waiting). handed v ks ++ waits new) (sym a.is) ∙ b.whole in
       record {
-        lent = b.lent;
         is = b.is ∙ ap (λ (v : Waiting). told v ks) a.is ∙ sym (told_on w ls ks);
         whole =
-            rw (handed_after w ls ks, append_assoc, h, text_on ls ks) (sym (append_assoc (handed w ls) (take p mid) (text ks)) ∙ rw a.whole (append_assoc (take used old) (text ls) (text ks)));
+            rw (handed_after w ls ks, append_assoc, h, text_on ls ks) (sym (append_assoc (handed w ls) (waits mid) (text ks)) ∙ rw a.whole (append_assoc (waits old) (text ls) (text ks)));
       }

@@ -4,7 +4,6 @@ use mathlib.Core.Bool.{Bool, true, false, not, ◌||◌, cond, true≢false}
 use mathlib.Core.List.{List, ◌∷◌, ◌++◌}
 use Prim.Native.Nat.{ℕ}
 use lib.Dec.{eqb}
-use lib.ListN.{take}
 use Rattle.sizes.specs.Header.{sizes_in}
 use Rattle.sizes.specs.declared.Sizes.{Sizes}
 use Rattle.sizes.proofs.Laws.Sizes.{some_nodes}
@@ -16,8 +15,8 @@ use Rattle.skiplist.proofs.Laws.Parts.{good_up}
 use Rattle.skiplist.proofs.Laws.Kept.{fits_over}
 use Rattle.skiplist.proofs.Laws.Third.{image_parts}
 use Rattle.table.specs.Calls.{EditSays, EnterSays, AmendSays}
-use Rattle.answers.specs.Lent.{Front}
 use Rattle.answers.specs.Put.{asks_put, put_refusal, put_leaves, PutDoes, put_call, AmendsOrEnters, Never9_13Or14}
+use Rattle.answers.specs.Table.{Held, Front}
 
 -- a put, an amend and an enter by their tests: image, price, key, quantities, held, fewer than N, fits
 abbrev put_by : (a p b c h l f : Bool) → ℕ
@@ -112,28 +111,28 @@ never_9_13_or_14 k t d x =
     )
 
 -- AS THE PROGRAM CALLS: enter, and where that answers 13, amend
-module _ (k t d n long : ℕ) (old mid : List ℕ) (f : Front long old mid (EnterSays k t d 0 n)) where
+module _ (k t d n : ℕ) (old mid : Held) (f : Front old mid (EnterSays k t d 0 n)) where
   abbrev x : List ℕ
-  x = take long old
+  x = old.bytes
 
-  pub put_entered : (n ≡ 13 → ⊥) → Front long old mid (PutDoes k t d n)
+  pub put_entered : (n ≡ 13 → ⊥) → Front old mid (PutDoes k t d n)
   unfolding EnterSays EditSays PutDoes changed
   put_entered z =
       let e = put_other k t d x (λ h. z (f.says.0 ∙ h)) in
-      record { says = (f.says.0 ∙ sym e, f.says.1 ∙ sym (put_as k t d x (enter k t d 0) e refl)); behind = f.behind; whole = f.whole }
+      record { says = (f.says.0 ∙ sym e, f.says.1 ∙ sym (put_as k t d x (enter k t d 0) e refl)); long = f.long; behind = f.behind }
 
   module _ (h : n ≡ 13) where
     thirteen : refusal (enter k t d 0) x ≡ 13
     unfolding EnterSays EditSays
     thirteen = sym f.says.0 ∙ h
 
-    kept : take long mid ≡ x
+    kept : mid.bytes ≡ x
     unfolding EnterSays EditSays done
     kept = f.says.1 ∙ rw thirteen
 
-    pub put_amended : (r : ℕ) (new : List ℕ) → Front long mid new (AmendSays k t d 0 r) → Front long old new (PutDoes k t d r)
+    pub put_amended : (r : ℕ) (new : Held) → Front mid new (AmendSays k t d 0 r) → Front old new (PutDoes k t d r)
     unfolding AmendSays EditSays PutDoes
     put_amended r new g =
         let e = amend_as k t d x (enter_13 k t d x thirteen) in
-        let w : (r ≡ refusal (amend k t d 0) x) × (take long new ≡ done (amend k t d 0) x) = rw kept at g.says in
-        record { says = (w.0 ∙ sym e.0, w.1 ∙ sym e.1); behind = g.behind ∙ f.behind; whole = g.whole ∙ f.whole }
+        let w : (r ≡ refusal (amend k t d 0) x) × (new.bytes ≡ done (amend k t d 0) x) = rw kept at g.says in
+        record { says = (w.0 ∙ sym e.0, w.1 ∙ sym e.1); long = g.long ∙ f.long; behind = g.behind ∙ f.behind }

@@ -1,7 +1,6 @@
--- A cancel's questions, 4, 5 and 9, and what it leaves. The order that was found has the key that was asked for.
-use Rattle.std.proofs.Common.{Option, Some}
+-- A cancel's questions, 5 and 9, and what it leaves.
 use mathlib.Core.Path.{◌≡◌, sym, ap, ◌∙◌, subst}
-use mathlib.Core.Bool.{Bool, true, false}
+use mathlib.Core.Bool.{true, false}
 use mathlib.Core.List.{List, ◌∷◌, ◌++◌}
 use Prim.Native.Nat.{ℕ, suc, ◌-◌, ◌≤◌}
 use native.Mathlib.Omega.{arith}
@@ -11,36 +10,20 @@ use Rattle.sizes.specs.Numbers.{big}
 use Rattle.sizes.specs.Hash.{level}
 use Rattle.sizes.specs.Header.{sizes_in, held_in}
 use Rattle.sizes.specs.declared.Sizes.{Sizes}
-use Rattle.placement.specs.declared.Order.{Order}
 use Rattle.skiplist.specs.Image.{image, is_image, orders_in}
-use Rattle.skiplist.specs.Questions.{first_no, asks_image, asks_key, is_key, held, between, without}
+use Rattle.skiplist.specs.Questions.{first_no, asks_image, asks_key, is_key, held, without}
 use Rattle.skiplist.specs.Book.{cancel, asks, changed, refusal}
 use Rattle.skiplist.proofs.Laws.Parts.{Up, good_up, without_here}
 use Rattle.skiplist.proofs.Laws.Edits.{level_most}
 use Rattle.table.specs.Calls.{CancelSays}
 use Rattle.levels.specs.Edit.{Leads}
-use Rattle.readings.specs.Visit.{first_of}
 use Rattle.readings.proofs.Laws.Answers.{known_image, known_at}
-use Rattle.readings.proofs.Laws.Replies.{sought_there, sought_key}
-use Rattle.edits.specs.Change.{Setting, CancelHeld}
+use Rattle.edits.specs.declared.changes.Change.TheVariants.{Cancel}
+use Rattle.edits.specs.Change.{Setting, Turned}
 use Rattle.edits.proofs.Laws.Settings.{held_way}
-use Rattle.edits.proofs.Laws.EditAnswers.{refused_4, refused, accepted, image_held, HeldAt, held_at}
-
-module _ (k : ℕ) (os : List Order) (q : Option Order) (e : q ≡ first_of (between k k os)) (o : Order) (z : q ≡ Some o) where
-  pub seen_held : held o.key os ≡ true
-  seen_held = ap (λ (i : ℕ). held i os) (sought_key k os q e o z) ∙ (sought_there k os q e o z).0
-
-  pub seen_is_key : (b : Bool) → b ≡ is_key k → b ≡ true → is_key o.key ≡ true
-  seen_is_key b eb h = ap is_key (sought_key k os q e o z) ∙ sym eb ∙ h
-
-  pub seen_cancels : (bs bs' : List ℕ) → CancelSays o.key 0 bs bs' → CancelSays k 0 bs bs'
-  seen_cancels bs bs' h = subst (λ (i : ℕ). CancelSays i 0 bs bs') (sought_key k os q e o z) h
+use Rattle.edits.proofs.Laws.EditAnswers.{refused, accepted, image_held, HeldAt, held_at}
 
 module _ (bs : List ℕ) (k : ℕ) where
-  pub cancel_no_4 : is_image bs ≡ false → CancelSays k 4 bs bs
-  unfolding CancelSays
-  cancel_no_4 e = refused_4 (cancel k) bs e
-
   pub cancel_no_5 : is_image bs ≡ true → is_key k ≡ false → CancelSays k 5 bs bs
   unfolding CancelSays refusal asks first_no asks_image asks_key
   cancel_no_5 e q = refused (cancel k) 5 bs (rw (e, q)) (λ z. omega arith)
@@ -66,8 +49,8 @@ module _ (bs : List ℕ) (k : ℕ) where
     pub held_some : (m : ℕ) → m ≡ held_in bs → 1 ≤ m
     held_some m q = omega (arith, image_held bs e, out_length)
 
-    pub cancel_done : (s : Sizes) (l f m : ℕ) (bs₁ bs' : List ℕ) → is_key k ≡ true → s ≡ sizes_in bs → l ≡ level s k → Leads s bs l k f → CancelHeld s f l k bs bs₁ → m ≡ held_in bs → bs' ≡ sets bs₁ 11 (big 2 (m - 1)) → CancelSays k 0 bs bs'
-    unfolding CancelSays refusal asks changed first_no asks_image asks_key CancelHeld Leads
+    pub cancel_done : (s : Sizes) (l f m : ℕ) (bs₁ bs' : List ℕ) → is_key k ≡ true → s ≡ sizes_in bs → l ≡ level s k → Leads s bs l k f → Turned s f l (Cancel k) bs bs₁ → m ≡ held_in bs → bs' ≡ sets bs₁ 11 (big 2 (m - 1)) → CancelSays k 0 bs bs'
+    unfolding CancelSays refusal asks changed first_no asks_image asks_key Turned Leads
     cancel_done s l f m bs₁ bs' q es el ld c n i =
         let w = known_at bs s e es in
         let r : m - 1 ≡ length (without k (orders_in bs)) = omega (arith, image_held bs e, out_length) in
@@ -77,4 +60,4 @@ module _ (bs : List ℕ) (k : ℕ) where
         (omega (arith, el, level_most s k)) in
         accepted (cancel k) bs bs' (rw (e, q, h))
         (subst (λ (x : Sizes). bs' ≡ image x (without k (orders_in bs))) es
-        (i ∙ rw (r, out_is) (c at.before at.own at.behind v at.key leads el was)))
+        (i ∙ rw (r, out_is) (c at.before at.own at.behind v at.key leads (el ∙ ap (level s) (sym at.key)) was)))

@@ -17,7 +17,8 @@ use Rattle.skiplist.proofs.Laws.Count.{pieces, count_same, count_high}
 use Rattle.skiplist.proofs.Laws.Edits.{level_most, head_part, tail_part, head_part_long, part_at, part_in, part_left, part_right, part_other}
 use Rattle.levels.specs.declared.Spot.{Spot}
 use Rattle.levels.specs.Edit.{Pieces, Scans, CancelsIn, CancelsBelow}
-use Rattle.edits.specs.Change.{Setting, Between, CancelTurn}
+use Rattle.edits.specs.declared.changes.Change.TheVariants.{Cancel}
+use Rattle.edits.specs.Change.{Setting, Between, Turn}
 use Rattle.table.proofs.Laws.MaskedKeys.{head_most, tail_most, up_masked}
 use Rattle.edits.proofs.Laws.WayLevels.{pred_suc}
 use Rattle.edits.proofs.Laws.Changed.{one_changed, two_changed}
@@ -91,16 +92,16 @@ module _ (s : Sizes) (xs : List Order) (o : Order) (zs : List Order) (w : Settin
                 (rw (length-append ps qs, length-map ps (masked (suc j)), length-map qs (masked (suc j))) (omega (arith, count_high s (suc j) xs o zs (key_pos s xs o zs w) h, pieces_none s.nodes))),
           )
 
--- THE TURN, as `cancel_level` has it
+-- THE TURN, as `change_level` has it
 module _ (s : Sizes) (l f y : ℕ) (bs : List ℕ) (x : Spot) where
-  pub cancel_turn_in : (k : ℕ) (bs' : List ℕ) → Scans s bs k f y x → k ≡ l → CancelsIn s k f x bs bs' → CancelTurn s k l f y bs bs' x.last
-  unfolding CancelTurn
+  pub cancel_turn_in : (k : ℕ) (bs' : List ℕ) → Scans s bs k f y x → k ≡ l → CancelsIn s k f x bs bs' → Turn s k l f (Cancel y) bs bs' x.last
+  unfolding Turn
   cancel_turn_in zero bs' sc h p xs o zs w ye e pos le fe b = absurd (omega arith)
   cancel_turn_in (suc j) bs' sc h p xs o zs w ye e pos le fe b =
-      rw (pred_suc j) (cancel_inside s xs o zs w j (omega (arith, e, le, level_most s y)) bs b x (rw (fe, ← ye) at sc) bs' (rw ye (omega (arith, e, h))) (rw fe at p))
+      rw (pred_suc j) (cancel_inside s xs o zs w j (omega (arith, e, le, level_most s o.key)) bs b x (rw (fe, ← ye) at sc) bs' (omega (arith, e, h)) (rw fe at p))
 
-  pub cancel_turn_below : (k : ℕ) (v : Spot) (bs' : List ℕ) → Scans s bs k f y x → (k ≡ l → ⊥) → Scans s bs k y y v → CancelsBelow s k f y x.below v.size bs bs' → CancelTurn s k l f y bs bs' x.last
-  unfolding CancelTurn
+  pub cancel_turn_below : (k : ℕ) (v : Spot) (bs' : List ℕ) → Scans s bs k f y x → (k ≡ l → ⊥) → Scans s bs k y y v → CancelsBelow s k f y x.below v.size bs bs' → Turn s k l f (Cancel y) bs bs' x.last
+  unfolding Turn
   cancel_turn_below zero v bs' sc h own p xs o zs w ye e pos le fe b = absurd (omega arith)
   cancel_turn_below (suc j) v bs' sc h own p xs o zs w ye e pos le fe b =
-      rw (pred_suc j) (cancel_under s xs o zs w j (omega (arith, e, le, level_most s y)) bs b x (rw (fe, ← ye) at sc) v bs' (rw ye (omega (arith, e, le, h))) (rw (← ye) at own) (rw (fe, ← ye) at p))
+      rw (pred_suc j) (cancel_under s xs o zs w j (omega (arith, e, le, level_most s o.key)) bs b x (rw (fe, ← ye) at sc) v bs' (omega (arith, e, le, h)) (rw (← ye) at own) (rw (fe, ← ye) at p))

@@ -29,7 +29,8 @@ use Rattle.levels.specs.Edit.{Way, Leads, Grows}
 use Rattle.readings.specs.Visit.{Known}
 use Rattle.readings.proofs.Laws.Answers.{known_at}
 use Rattle.readings.proofs.Laws.Replies.{key_least}
-use Rattle.edits.specs.Change.{Setting, EnterNew, Sure, Free}
+use Rattle.edits.specs.declared.changes.Change.TheVariants.{Enter}
+use Rattle.edits.specs.Change.{Setting, Turned, Sure, Free}
 use Rattle.edits.proofs.Laws.EditAnswers.{refused, accepted, image_held, known_kept, FreeAt, free_at}
 
 -- the number and the table, as the book of sizes s has them
@@ -133,13 +134,13 @@ module _ (bs : List ℕ) (s : Sizes) (own : Order) (p : Sure bs s own) (f : Free
         let fit = fits_make s (with_order own old) (rw new_length more) (omega (arith, counted)) in
         rw (p.price, p.key, p.quantities, f.absent_is, lt-ltb (length old) s.orders more, fit)
 
-    pub enter_done : (m : ℕ) (bs₁ bs' : List ℕ) → full + g ≤ s.blocks → EnterNew s first l own bs bs₁ → m ≡ held_in bs → bs' ≡ sets bs₁ 11 (big 2 (m + 1)) → Says bs s own p 0 bs'
-    unfolding EnterNew
+    pub enter_done : (m : ℕ) (bs₁ bs' : List ℕ) → full + g ≤ s.blocks → Turned s first l (Enter own) bs bs₁ → m ≡ held_in bs → bs' ≡ sets bs₁ 11 (big 2 (m + 1)) → Says bs s own p 0 bs'
+    unfolding Turned
     enter_done m bs₁ bs' h v e i =
         let r : m + 1 ≡ length (with_order own old) = omega (arith, new_length, image_held bs p.image) in
         let u = kept_enter s k own.total own.displayed own.price old (known_kept bs s w) (yes h) in
         let z : Setting s at.before own at.behind = record { sizes = w.sizes_made; good = rw enter_is at u.good; fit = rw enter_is at u.fit } in
-        accepts bs s own p bs' (yes h) (i ∙ rw (r, enter_is) (v at.before at.behind z leads el way.is))
+        accepts bs s own p bs' (yes h) (i ∙ rw (r, enter_is) (v at.before own at.behind z refl leads el way.is))
 
 -- the sum of question 8 is one that 32 bits hold
 pub enter_sum : (bs : List ℕ) (s : Sizes) (l top full g : ℕ) → full ≡ length (chunks s (orders_in bs)) → is_image bs ≡ true → s ≡ sizes_in bs → g ≤ 2 * l → l ≤ top → top ≤ 19 → Fits w32 (full + g)

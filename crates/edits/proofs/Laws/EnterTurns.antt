@@ -17,7 +17,8 @@ use Rattle.skiplist.proofs.Laws.Count.{count, count_same, count_high, counts_mor
 use Rattle.skiplist.proofs.Laws.Edits.{level_most, head_part, tail_part, head_part_long, part_at, part_in, part_left, part_right, part_other}
 use Rattle.levels.specs.declared.Spot.{Spot}
 use Rattle.levels.specs.Edit.{Pieces, Scans, EntersIn, EntersBelow}
-use Rattle.edits.specs.Change.{Setting, Between, EnterTurn}
+use Rattle.edits.specs.declared.changes.Change.TheVariants.{Enter}
+use Rattle.edits.specs.Change.{Setting, Between, Turn}
 use Rattle.table.proofs.Laws.MaskedKeys.{head_most, tail_most}
 use Rattle.edits.proofs.Laws.WayLevels.{pred_suc, counts_one}
 use Rattle.edits.proofs.Laws.Changed.{one_changed, two_changed}
@@ -90,16 +91,16 @@ module _ (s : Sizes) (xs : List Order) (o : Order) (zs : List Order) (w : Settin
                 (λ g n m. sym (part_other s (suc j) xs o zs (all_up s xs o zs w) g n m)) (rw (length_both (suc j) ps qs) more),
           )
 
--- THE TURN, as `enter_level` has it
+-- THE TURN, as `change_level` has it
 module _ (s : Sizes) (l f : ℕ) (o : Order) (bs : List ℕ) (x : Spot) where
-  pub enter_turn_in : (k : ℕ) (bs' : List ℕ) → Scans s bs k f o.key x → k ≡ l → EntersIn s k f x o bs bs' → EnterTurn s k l f o bs bs' x.last
-  unfolding EnterTurn
-  enter_turn_in zero bs' sc h p xs zs w e pos le fe b = absurd (omega arith)
-  enter_turn_in (suc j) bs' sc h p xs zs w e pos le fe b =
-      rw (pred_suc j) (enter_inside s xs o zs w j (omega (arith, e, le, level_most s o.key)) bs b x (rw fe at sc) bs' (omega (arith, e, h)) (rw fe at p))
+  pub enter_turn_in : (k : ℕ) (bs' : List ℕ) → Scans s bs k f o.key x → k ≡ l → EntersIn s k f x o bs bs' → Turn s k l f (Enter o) bs bs' x.last
+  unfolding Turn
+  enter_turn_in zero bs' sc h p xs y zs w co e pos le fe b = absurd (omega arith)
+  enter_turn_in (suc j) bs' sc h p xs y zs w co e pos le fe b =
+      rw (pred_suc j) (enter_inside s xs y zs w j (omega (arith, e, le, level_most s y.key)) bs b x (rw (fe, ← co) at sc) bs' (omega (arith, e, h)) (rw (fe, ← co) at p))
 
-  pub enter_turn_below : (k : ℕ) (bs' : List ℕ) → Scans s bs k f o.key x → (k ≡ l → ⊥) → EntersBelow s k f x o bs bs' → EnterTurn s k l f o bs bs' x.last
-  unfolding EnterTurn
-  enter_turn_below zero bs' sc h p xs zs w e pos le fe b = absurd (omega arith)
-  enter_turn_below (suc j) bs' sc h p xs zs w e pos le fe b =
-      rw (pred_suc j) (enter_under s xs o zs w j (omega (arith, e, le, level_most s o.key)) bs b x (rw fe at sc) bs' (omega (arith, e, le, h)) (rw fe at p))
+  pub enter_turn_below : (k : ℕ) (bs' : List ℕ) → Scans s bs k f o.key x → (k ≡ l → ⊥) → EntersBelow s k f x o bs bs' → Turn s k l f (Enter o) bs bs' x.last
+  unfolding Turn
+  enter_turn_below zero bs' sc h p xs y zs w co e pos le fe b = absurd (omega arith)
+  enter_turn_below (suc j) bs' sc h p xs y zs w co e pos le fe b =
+      rw (pred_suc j) (enter_under s xs y zs w j (omega (arith, e, le, level_most s y.key)) bs b x (rw (fe, ← co) at sc) bs' (omega (arith, e, le, h)) (rw (fe, ← co) at p))

@@ -4,7 +4,6 @@ use mathlib.Core.List.{List, [], ◌∷◌, ◌++◌, append_assoc, append-nil}
 use Prim.Native.Nat.{ℕ, ◌+◌, ◌*◌, ◌-◌, ◌≤◌}
 use native.Mathlib.Nat.{mul-zero, mul-add}
 use native.Mathlib.Omega.{arith}
-use borrow.Author.Tests.{eq-eqb, ne_eqb}
 use lib.ListN.{length, take, drop, take-append-drop, length-append, length-drop}
 use lib.Seq.{sets, take_at, drop_at, length-take-le, take_all}
 use Rattle.sizes.specs.Numbers.{rows}
@@ -16,7 +15,6 @@ use Rattle.placement.specs.Chunks.{node_bytes, nodes_bytes}
 use Rattle.placement.specs.declared.Order.{Order}
 use Rattle.placement.proofs.Laws.Cells.{take_sets_end}
 use Rattle.placement.proofs.Laws.Bridge.{length_nodes}
-use Rattle.skiplist.specs.Lists.{masked}
 use Rattle.levels.specs.Edit.{followed}
 use Rattle.levels.specs.Pour.{Front}
 
@@ -78,25 +76,3 @@ module _ (s : Sizes) where
   front_followed cs cs' ch c d e k a n f ek g h m q ec room =
       let l : length e ≡ n - a = ap length (sym q) ∙ length-take-le (n - a) (drop a d) (omega (arith, length-drop a d)) in
       front_more cs cs' c e (row s * k) _ f (ap (λ (z : ℕ). row s * z) ek) (rw q at (front_part ch d a (n - a) g (omega arith))) ec (omega arith)
-
--- AS `masked` ASKS
-module _ (l : ℕ) (o : Order) where
-  pub masked_low : l ≡ 1 → o ≡ masked l o
-  unfolding masked
-  masked_low e = rw (eq-eqb l 1 e)
-
-  pub masked_high : (l ≡ 1 → ⊥) → ◌≡◌ {A = Order} (record { key = o.key; total = 0; displayed = 0; price = 0 }) (masked l o)
-  unfolding masked
-  masked_high e = rw (ne_eqb l 1 e)
-
--- AS `write_node`, `follow` AND `advance` ASK
-module _ (s : Sizes) (cs z : List ℕ) (w : ℕ) (ew : w ≡ row s) where
-  pub node_put : (i a l : ℕ) (o m : Order) → a ≡ w * i → m ≡ masked l o → z ≡ sets cs a (node_bytes (row s) m) → z ≡ sets cs (row s * i) (node_bytes (row s) (masked l o))
-  node_put i a l o m ea em e = e ∙ ap (λ (x : Order). sets cs a (node_bytes (row s) x)) em ∙ rw (ea, ew)
-
-  pub follow_made : (ch : List ℕ) (k a n x y v : ℕ) → x ≡ w * k → y ≡ w * a → v ≡ w * (n - a) → z ≡ sets cs x (take v (drop y ch)) → z ≡ followed (row s) k a n cs ch
-  unfolding followed
-  follow_made ch k a n x y v ex ey ev e = e ∙ rw (ex, ey, ev, ew)
-
-  pub advanced : (n x y : ℕ) → x ≡ w * s.nodes → y ≡ w * n → z ≡ sets cs 0 (take y (drop x cs)) → z ≡ sets cs 0 (take (row s * n) (drop (row s * s.nodes) cs))
-  advanced n x y ex ey e = e ∙ rw (ex, ey, ew)

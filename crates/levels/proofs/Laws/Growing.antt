@@ -1,9 +1,12 @@
 -- Laws of a growth: the chunks of so many nodes, what a key adds at a level, and the way down to it.
+use Rattle.std.specs.Int.{div_ceil}
+use Rattle.std.proofs.lemmas.Grind.{div_ceil_times}
 use mathlib.Core.Path.{◌≡◌, refl, sym, ap, ◌∙◌}
 use mathlib.Core.Bool.{Bool, true, false}
 use mathlib.Core.List.{List, ◌∷◌, ◌++◌, map, map-append}
 use Prim.Native.Nat.{ℕ, zero, suc, ◌+◌, ◌*◌, ◌-◌, ◌/◌, ◌≤◌, ◌<◌}
-use native.Mathlib.Nat.{zero-add, div-le_self, div-mul-le_self, le-div_iff_mul-le}
+use native.Mathlib.Decide.{dec_lt}
+use native.Mathlib.Nat.{zero-add, suc-mul, div-le_self, div-mul-le_self, le-div_iff_mul-le}
 use native.Mathlib.Omega.{arith}
 use borrow.Author.Tests.{eqb-true, eqb-false}
 use lib.Dec.{eqb}
@@ -26,23 +29,24 @@ use Rattle.skiplist.proofs.Laws.Image.{image_keeps}
 use Rattle.levels.specs.declared.Spot.{Spot}
 use Rattle.levels.specs.Edit.{Pieces, Scans, Way, Grows}
 use Rattle.levels.specs.Scan.{Grown}
-use Rattle.levels.proofs.Laws.Chunking.{pieces_full, pieces_up_to}
+use Rattle.levels.proofs.Laws.Chunking.{pieces_most, pieces_over, pieces_full, pieces_up_to}
 
--- THE CHUNKS of so many nodes
-module _ (b n : ℕ) where
-  pub pieces_none : n ≡ 0 → 0 ≡ pieces b n
-  unfolding pieces
-  pieces_none e = ap (pieces b) (sym e)
+-- THE CHUNKS of so many nodes: their number over B, rounded up
+pub ceil_pieces : (b n : ℕ) → 0 < b → div_ceil n b ≡ pieces b n
+ceil_pieces b n h = go (div_ceil n b) (div_ceil_times n b h)
+  where
+    go : (q : ℕ) → (n ≤ q * b) × (q * b < n + b) → q ≡ pieces b n
+    go zero (l, u) = omega (arith, pieces_most b n 0 h l)
+    go (suc q) (l, u) = last (dec_lt q (pieces b n))
+      where
+        last : Dec (q < pieces b n) → suc q ≡ pieces b n
+        last (yes d) = omega (arith, pieces_most b n (suc q) h l)
+        last (no d) = absurd (omega (arith, pieces_over b n q h (omega (arith, d)), suc-mul q b))
 
-  pub pieces_some : (n ≡ 0 → ⊥) → 1 + (n - 1) / b ≡ pieces b n
-  unfolding pieces
-  pieces_some h =
-      let e : n ≡ suc (n - 1) = omega arith in
-      let z : 1 + (n - 1) / b ≡ suc ((n - 1) / b) = omega arith in
-      z ∙ ap (pieces b) (sym e)
-
-  pub pieces_fit : (n ≡ 0 → ⊥) → 1 + (n - 1) / b ≤ n
-  pieces_fit h = omega (arith, div-le_self (n - 1) b)
+pub pieces_few : (b n : ℕ) → pieces b n ≤ n
+unfolding pieces
+pieces_few b zero = omega arith
+pieces_few b (suc n) = omega (arith, div-le_self n b)
 
 -- WHAT A KEY ADDS at a level: at most 1 in its own, at most 2 below
 pub pieces_step : (b n : ℕ) → 0 < b → pieces b (suc n) ≤ pieces b n + 1

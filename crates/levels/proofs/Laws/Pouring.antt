@@ -6,9 +6,6 @@ use native.Mathlib.Decide.{dec_lt}
 use native.Mathlib.Nat.{div-eq_of_lt, suc-mul, zero-mul, mul-le-mul_right}
 use native.Mathlib.Numerals.{add-one}
 use native.Mathlib.Omega.{arith}
-use borrow.Author.Rules.{Fits-under}
-use mir.Syntax.{w32}
-use mir.Val.{Fits}
 use lib.ListN.{length, take, drop, length-append, length-drop, length-take}
 use lib.Seq.{take-append-le, drop-append-le, take_all, take-nil, drop-nil}
 use Rattle.sizes.specs.Sizes.{row}
@@ -19,7 +16,7 @@ use Rattle.sizes.specs.declared.Sizes.{Sizes}
 use Rattle.placement.specs.declared.Order.{Order}
 use Rattle.skiplist.proofs.Laws.Count.{pieces}
 use Rattle.levels.specs.Edit.{Pieces}
-use Rattle.levels.specs.Pour.{Front, one, Takes, Writable, Flushed, waits, writes, Flushes, Pourable, Poured, Pours, Put, Puts, Kept}
+use Rattle.levels.specs.Pour.{Front, one, Takes, Writable, Flushed, waits, writes, Flushes, Pourable, Poured, Pours, Put, Puts}
 use Rattle.levels.proofs.Laws.Takes.{one_some}
 use Rattle.levels.proofs.Laws.Flushes.{not_none, fines_append, fines_there, fines_drop}
 use Rattle.levels.proofs.Laws.MapLabels.{with_other, with_number, cleared_other, cleared_number}
@@ -241,46 +238,23 @@ pub record Turning (s : Sizes) (k f j count g q v₀ left₀ : ℕ) (bs₀ cs₀
   pub two : 2 ≤ s.nodes
   pub room : q + 1 + count < 4294967296
   pub shaped : Shaped s bs
-  pub long : length cs ≡ 1024
   pub within : t ≤ count
   pub short : left < s.nodes
   pub next : v ≤ q + 1 + t
   pub on : (F : Map) (m : ℕ) (hd : List ℕ) (c rest : List Order) → Pourable s F m k f j count g q c rest → Pouring s F m hd k f j g q c rest 0 v₀ left₀ bs₀ cs₀
       → Pouring s F m hd k f j g q c rest t v left bs cs
 
--- the number of the next chunk fits
-pub first_fits : (q count b n : ℕ) → q + 1 + count < 4294967296 → 2 ≤ b → n < 2 * b → Fits w32 (q + n / b)
-first_fits q count b n room two most = Fits-under w32 (q + n / b) 4294967296 (omega (arith, quotient_most b n (omega arith) most)) tt
-
 module _ (s : Sizes) (k f j count g q : ℕ) where
-  pub turning_start : (n : ℕ) (cs₀ bs cs : List ℕ) (r : ℕ) → 2 ≤ s.nodes → q + 1 + count < 4294967296 → n < 2 * s.nodes → length cs₀ ≡ 1024 → Kept s bs cs₀ cs → (n < 2 * s.nodes → r < s.nodes)
-      → Turning s k f j count g q (q + n / s.nodes) r bs cs 0 (q + n / s.nodes) r bs cs
-  turning_start n cs₀ bs cs r two room most long kept less = record {
-    two = two;
-    room = room;
-    shaped = kept.shaped;
-    long = kept.long ∙ long;
-    within = omega arith;
-    short = less most;
-    next = omega (arith, quotient_most s.nodes n (omega arith) most);
-    on = λ F m hd c rest pb p. p;
-  }
-
   module _ (v₀ left₀ : ℕ) (bs₀ cs₀ : List ℕ) (t v left : ℕ) (bs cs : List ℕ) (i : Turning s k f j count g q v₀ left₀ bs₀ cs₀ t v left bs cs) where
-    pub next_fits : (r : ℕ) → t < count → r ≤ left + s.nodes → Fits w32 (v + r / s.nodes)
-    next_fits r h most =
-        Fits-under w32 (v + r / s.nodes) 4294967296 (omega (arith, i.next, i.room, quotient_most s.nodes r (omega (arith, i.two)) (omega (arith, i.short)))) tt
-
-    pub turning_more : t < count → (bs₁ cs₁ : List ℕ) (r : ℕ) → Kept s bs₁ cs cs₁ → r ≤ left + s.nodes
-        → Takes s (label k f (j + t)) left bs bs₁ cs cs₁ r → (bs₂ cs₂ : List ℕ) (r₂ : ℕ) → Kept s bs₂ cs₁ cs₂ → (r < 2 * s.nodes → r₂ < s.nodes) → Flushes s (label k g v) r bs₁ bs₂ cs₁ cs₂ r₂
+    pub turning_more : t < count → (bs₁ cs₁ : List ℕ) (r : ℕ) → r ≤ left + s.nodes
+        → Takes s (label k f (j + t)) left bs bs₁ cs cs₁ r → (bs₂ cs₂ : List ℕ) (r₂ : ℕ) → Shaped s bs₂ → (r < 2 * s.nodes → r₂ < s.nodes) → Flushes s (label k g v) r bs₁ bs₂ cs₁ cs₂ r₂
         → Turning s k f j count g q v₀ left₀ bs₀ cs₀ (t + 1) (v + r / s.nodes) r₂ bs₂ cs₂
-    turning_more h bs₁ cs₁ r kept₁ most tk bs₂ cs₂ r₂ kept₂ less fl =
+    turning_more h bs₁ cs₁ r most tk bs₂ cs₂ r₂ shaped less fl =
         let e : r < 2 * s.nodes = omega (arith, i.short) in
         record {
           two = i.two;
           room = i.room;
-          shaped = kept₂.shaped;
-          long = kept₂.long ∙ kept₁.long ∙ i.long;
+          shaped = shaped;
           within = omega arith;
           short = less e;
           next = omega (arith, i.next, quotient_most s.nodes r (omega (arith, i.two)) e);

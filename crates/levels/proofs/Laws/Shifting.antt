@@ -15,7 +15,7 @@ use Rattle.sizes.specs.declared.Sizes.{Sizes}
 use Rattle.placement.specs.declared.Order.{Order}
 use Rattle.skiplist.proofs.Laws.Count.{pieces}
 use Rattle.levels.specs.Edit.{Pieces}
-use Rattle.levels.specs.Pour.{Front, one, Reads, Kept}
+use Rattle.levels.specs.Pour.{Front, one, Reads}
 use Rattle.levels.specs.Shift.{Settable, Renews, Shiftable, Shifted, Shifts}
 use Rattle.levels.proofs.Laws.Flushes.{fines_append, fines_drop, fines_there}
 use Rattle.levels.proofs.Laws.Chunking.{pieces_next, chunk_behind, chunk_same, pieces_none, pieces_skip, pieces_pos, pieces_over, drop_next, drop_past, take_past}
@@ -186,29 +186,18 @@ module _ (s : Sizes) (F : Map) (m : ℕ) (hd : List ℕ) (k f q count : ℕ) (c 
 -- AS `shift` ASKS: what its loop keeps
 pub record Moving (s : Sizes) (k f q count n : ℕ) (bs₀ cs₀ : List ℕ) (t left : ℕ) (bs cs : List ℕ) : Type 0 where
   pub shaped : Shaped s bs
-  pub long : length cs ≡ 1040
   pub within : t ≤ count + 2
   pub short : left ≤ s.nodes + 1
   pub on : (F : Map) (m : ℕ) (hd : List ℕ) (c old new : List Order) → Table s F m hd bs₀ → Front (row s) cs₀ c → n ≡ length c → Shiftable s F m k f q count c old new
       → Shifting s F m hd k f q old new t left bs cs
 
 module _ (s : Sizes) (k f q count n : ℕ) (bs₀ cs₀ : List ℕ) where
-  pub moving_start : Shaped s bs₀ → length cs₀ ≡ 1040 → n ≤ s.nodes + 1 → Moving s k f q count n bs₀ cs₀ 0 n bs₀ cs₀
-  moving_start shaped long short = record {
-    shaped = shaped;
-    long = long;
-    within = omega arith;
-    short = short;
-    on = λ F m hd c old new t fr en sh. shifting_start s F m hd k f q count c old new sh n bs₀ cs₀ t fr en;
-  }
-
   module _ (t left : ℕ) (bs cs : List ℕ) (i : Moving s k f q count n bs₀ cs₀ t left bs cs) where
-    pub moving_more : t < count + 2 → (cs₁ : List ℕ) (r : ℕ) → length cs₁ ≡ length cs → r ≤ left + s.nodes → Reads s (label k f (q + t + 1)) left bs cs cs₁ r
-        → (bs₂ cs₂ : List ℕ) (r₂ : ℕ) → Kept s bs₂ cs₁ cs₂ → r₂ ≤ r - s.nodes → Renews s (label k f (q + t)) r bs bs₂ cs₁ cs₂ r₂
+    pub moving_more : t < count + 2 → (cs₁ : List ℕ) (r : ℕ) → r ≤ left + s.nodes → Reads s (label k f (q + t + 1)) left bs cs cs₁ r
+        → (bs₂ cs₂ : List ℕ) (r₂ : ℕ) → Shaped s bs₂ → r₂ ≤ r - s.nodes → Renews s (label k f (q + t)) r bs bs₂ cs₁ cs₂ r₂
         → Moving s k f q count n bs₀ cs₀ (t + 1) r₂ bs₂ cs₂
-    moving_more h cs₁ r long most rd bs₂ cs₂ r₂ kept less rn = record {
-      shaped = kept.shaped;
-      long = kept.long ∙ long ∙ i.long;
+    moving_more h cs₁ r most rd bs₂ cs₂ r₂ shaped less rn = record {
+      shaped = shaped;
       within = omega arith;
       short = omega (arith, i.short);
       on = λ F m hd c old new tb fr en sh.

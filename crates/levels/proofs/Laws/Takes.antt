@@ -24,8 +24,7 @@ use Rattle.placement.proofs.Laws.Reading.{count_read}
 use Rattle.placement.proofs.Laws.Bridge.{length_nodes}
 use Rattle.levels.specs.Pour.{one, Read, Reads, Taken, Takes}
 use Rattle.sizes.proofs.Laws.Numbers.{drop_take}
-use Rattle.sizes.proofs.Laws.Sizes.{row_most}
-use Rattle.sizes.proofs.Laws.HeaderLoops.{rows_room, rows_most}
+use Rattle.sizes.proofs.Laws.HeaderLoops.{rows_room}
 use Rattle.levels.proofs.Laws.MapLabels.{cleared_is, with_none}
 use Rattle.levels.proofs.Laws.CarryFronts.{front_more}
 
@@ -74,10 +73,7 @@ module _ (s : Sizes) (F : Map) (m : ℕ) (hd bs : List ℕ) (t : Table s F m hd 
     pub counted : (n : ℕ) → n ≡ get_or bs (53 + b * block_long s + 1) 0 → n ≡ length (nodes_of F w)
     counted n en = let v = some_found in en ∙ count_read s bs b w (nodes_of F w) v.is
 
--- A CHUNK READ: there is room in a carry
-pub read_room : (s : Sizes) (n more k y l : ℕ) → k ≤ 16 * n → y ≡ row s * more → more ≤ s.nodes → 16 * (n + s.nodes) ≤ l → k + y ≤ l
-read_room s n more k y l hk ey few room = omega (arith, rows_most (row s) more (row_most s))
-
+-- A CHUNK READ
 module _ (s : Sizes) (w : Label) (n : ℕ) (bs cs : List ℕ) (r : Option ℕ) (er : r ≡ search_in s bs w) where
   pub read_none : r ≡ None → Reads s w n bs cs cs n
   unfolding Reads

@@ -1,27 +1,18 @@
 -- What is written reads back.
-use mathlib.Core.Path.{◌≡◌, refl}
-use mathlib.Core.Bool.{Bool, true, false, ◌&&◌, cond}
-use mathlib.Core.List.{List, [], ◌∷◌, ◌++◌}
-use Prim.Native.Nat.{ℕ, zero, suc, ◌+◌, ◌*◌, ◌-◌, ◌/◌, ◌%◌, ◌^◌, ◌≤◌, ◌<◌}
-use native.Mathlib.Omega.{arith}
-use lib.Dec.{leb, ltb}
+use Rattle.std.proofs.Common.{◌≡◌, refl, ℕ, zero, suc, ◌+◌, ◌*◌, ◌-◌, ◌/◌, ◌%◌, ◌^◌, ◌≤◌, ◌<◌, Bool, true, false, cond, ltb, List, [], ◌∷◌, ◌++◌, arith}
 use borrow.Author.Tests.{le-leb, ltb-true}
+use Rattle.std.proofs.lemmas.List.Folds.{list_all-append}
+use Rattle.std.proofs.lemmas.List.Sums.{fold-append}
 use Rattle.lines.specs.Grammar.{worth, within, some, value, number}
 use Rattle.lines.specs.Text.{numeral, numeral_in, NumeralReadsBack}
 
 worth_more : (base z v : ℕ) (p : List ℕ) (b : ℕ) → worth base z v (p ++ (b ∷ [])) ≡ base * worth base z v p + (b - z)
 unfolding worth
-worth_more base z v [] b = refl
-worth_more base z v (x ∷ p) b = worth_more base z (base * v + (x - z)) p b
+worth_more base z v p b = fold-append _ v p (b ∷ [])
 
 within_more : (p : List ℕ) (b : ℕ) → within 48 57 p ≡ true → 48 ≤ b → b ≤ 57 → within 48 57 (p ++ (b ∷ [])) ≡ true
 unfolding within
-within_more [] b e h l = rw (le-leb 48 b h, le-leb b 57 l)
-within_more (x ∷ p) b e h l = go (λ f. within_more p b f h l) (leb 48 x && leb x 57) e
-  where
-    go : (within 48 57 p ≡ true → within 48 57 (p ++ (b ∷ [])) ≡ true) → (t : Bool) → (t && within 48 57 p) ≡ true → (t && within 48 57 (p ++ (b ∷ []))) ≡ true
-    go r true f = r f
-    go r false f = f
+within_more p b e h l = rw (list_all-append, e, le-leb 48 b h, le-leb b 57 l)
 
 some_more : (p : List ℕ) (b : ℕ) → some (p ++ (b ∷ [])) ≡ true
 unfolding some

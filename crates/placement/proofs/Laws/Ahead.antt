@@ -31,3 +31,5 @@ module _ (s : Sizes) (l : ℕ) (small : l < 2 ^ 32) where
   pub ahead_higher : (s.version ≡ 1 → ⊥) → Leading s l (record { from = l; many = 4294967295 - l })
   unfolding level_before
   ahead_higher n = record { told = λ v d sv ne hd ed. rw (ne_eqb s.version 1 n) (higher_told l v d small sv ne hd ed) }
+
+pub ruleset ahead = (ahead_lower, ahead_higher)

@@ -1,5 +1,5 @@
 -- The order of labels: level, as the version has it, then first key, then chunk number.
-use Rattle.std.proofs.Common.{◌≡◌, ℕ, zero, ◌<◌, ◌≤◌, Bool, true, false, cond, not, eqb, ltb, ◌≢◌, sym, refl, ap, ◌∙◌, true≢false, mod-lt, arith, ltb-false, le-ltb, lt-ltb, eq-eqb, ne_eqb, eqb-true}
+use Rattle.std.proofs.Common.{◌≡◌, ℕ, zero, ◌<◌, Bool, true, false, cond, eqb, ltb, ◌≢◌, sym, refl, ap, ◌∙◌, true≢false, mod-lt, arith, ltb-false, lt-ltb, eq-eqb, ne_eqb, eqb-true}
 use Rattle.sizes.specs.Orders.{by, down, lex}
 use Rattle.sizes.specs.declared.Sizes.{Sizes}
 use Rattle.placement.specs.declared.Label.{Label}
@@ -78,23 +78,6 @@ by_level a b l = lex_first (by (λ (w : Label). w.level)) within a b (lt-ltb a.l
 
 -- ---- the version's order, as the code compares
 module _ (s : Sizes) where
-  module _ (x y : ℕ) where
-    pub level_lower : x < y → eqb s.version 1 ≡ level_before s x y
-    unfolding level_before
-    level_lower h = sym (rw (lt-ltb x y h, le-ltb y x (omega arith)) (either (eqb s.version 1)))
-      where
-        either : (t : Bool) → cond t true false ≡ t
-        either true = refl
-        either false = refl
-
-    pub level_higher : y ≤ x → (x ≡ y → ⊥) → not (eqb s.version 1) ≡ level_before s x y
-    unfolding level_before
-    level_higher h n = sym (rw (le-ltb x y h, lt-ltb y x (omega (arith, h, n))) (either (eqb s.version 1)))
-      where
-        either : (t : Bool) → cond t false true ≡ not t
-        either true = refl
-        either false = refl
-
   level_decides : (x y : ℕ) → (x ≡ y → ⊥) → level_before s x y ≡ false → level_before s y x ≡ true
   unfolding level_before
   level_decides x y n = go (eqb s.version 1)
@@ -143,6 +126,8 @@ module _ (s : Sizes) where
   pub before_higher : s.version ≡ 2 → (a b : Label) → before s a b ≡ lex (down (λ w. w.level)) within a b
   unfolding before level_before
   before_higher e a b = rw (ne_eqb s.version 1 (λ f. omega (arith, e, f)))
+
+pub ruleset before_parts = (before_level, before_first, before_number)
 
 -- ---- one label, or two
 pub same_is : (a b : Label) → same_label a b ≡ true → a ≡ b

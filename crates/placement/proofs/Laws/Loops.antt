@@ -1,21 +1,20 @@
 -- What the loops of this crate keep, and their turns.
-use Rattle.std.proofs.Common.{◌≡◌, ℕ, zero, suc, ◌+◌, ◌-◌, ◌*◌, ◌/◌, ◌%◌, ◌^◌, ◌<◌, ◌≤◌, Bool, true, false, cond, ◌&&◌, ◌||◌, eqb, ltb, leb, List, [], ◌∷◌, ◌++◌, length, get_or, take, drop, replicate, sym, refl, ap, ◌∙◌, true≢false, le_refl, lt_of_lt_of_le, add-zero, mod-lt, mod-eq_of_lt, pos_of_ne-zero, sub-eq-zero_of_le, add-one, arith, length-append, w32, Fits, ltb-true, le-ltb, lt-ltb, eq-eqb, ne_eqb, eqb-true, Option, Some, None}
+use Rattle.std.specs.List.{range_with_len, find, list_all}
+use Rattle.std.proofs.Common.{◌==◌, map, ◌≡◌, ℕ, zero, suc, ◌+◌, ◌-◌, ◌*◌, ◌/◌, ◌%◌, ◌^◌, ◌<◌, ◌≤◌, Bool, true, false, cond, ◌&&◌, ◌||◌, eqb, ltb, List, [], ◌∷◌, ◌++◌, length, get_or, take, drop, replicate, sym, refl, ap, ◌∙◌, true≢false, le_refl, add-zero, mod-lt, mod-eq_of_lt, pos_of_ne-zero, sub-eq-zero_of_le, add-one, arith, length-append, ltb-true, le-ltb, lt-ltb, eq-eqb, ne_eqb, eqb-true, Option, Some, None}
 use mathlib.Core.Bool.{false≢true}
-use native.Mathlib.Nat.{sub-zero, mod-eq-sub-mod, mod_self}
+use Rattle.std.proofs.Math.Bool.{and-true}
+use native.Mathlib.Nat.{sub-zero, mod-eq-sub-mod}
 use native.Mathlib.Numerals.{towards_suc}
 use lib.Seq.{sets}
-use denote.Enum.Declared.{tag_of}
-use types.Run.{OneOf, miss}
 use Rattle.sizes.specs.Numbers.{field, big}
 use Rattle.sizes.specs.Header.{block_long}
-use Rattle.sizes.specs.Parts.{put_block, clear_in, copy_in, swap_in}
+use Rattle.sizes.specs.Parts.{put_block, clear_in, swap_in}
 use Rattle.sizes.specs.declared.Sizes.{Sizes}
 use Rattle.placement.specs.declared.Label.{Label}
 use Rattle.placement.specs.declared.Ahead.{Ahead}
 use Rattle.placement.specs.declared.Met.{Met}
 use Rattle.placement.specs.declared.Met.TheVariants.{Past, Here, Other}
-use Rattle.placement.specs.contracts.Met.{the_type}
-use Rattle.placement.specs.Place.{Shaped, label_in, passes_label, met, meeting, Leading, probe, GoesOn, is_lower, four_lower, search_in, behind, distance_of, stays_at, bytes, Pulled, pull, settle, found_at, taken_out, free_in, head_bytes, block_with, inserted}
+use Rattle.placement.specs.Place.{Shaped, label_in, passes_label, met, meeting, Leading, probe, GoesOn, is_lower, four_lower, search_in, distance_of, stays_at, bytes, Pulled, pull, settle, free_in, head_bytes, block_with, inserted}
 use Rattle.sizes.proofs.Laws.Parts.{sets_append, length_part}
 use Rattle.sizes.proofs.Laws.Sizes.{and_parts}
 use Rattle.placement.specs.Labels.{level_before, before, same_label, home}
@@ -37,84 +36,70 @@ unfolding probe
 probe_round before look m w zero i j e = refl
 probe_round before look m w (suc k) i j e = rw (e, probe_round before look m w k (suc i) (suc j) (suc_mod_same m i j e))
 
--- what was met, where it is none of the others
-pub not_here : (r : Met) → OneOf (0 ∷ 2 ∷ []) (tag_of the_type r) → r ≡ Here → ⊥
-not_here r k e = miss (0 ∷ 2 ∷ []) 1 tt (rw e at k)
-
-pub not_other : (r : Met) → OneOf (0 ∷ 1 ∷ []) (tag_of the_type r) → r ≡ Other → ⊥
-not_other r k e = miss (0 ∷ 1 ∷ []) 2 tt (rw e at k)
-
--- it tells whether the label is passed, and whether it is the one
+-- what is met tells whether the label is passed, and whether it is the one
 module _ (before : Label → Label → Bool) (l w : Label) where
-  pub met_past : (meeting before l w ≡ Here → ⊥) → (meeting before l w ≡ Other → ⊥) → passes_label before l w ≡ true
+  met_past : Past ≡ meeting before l w → passes_label before l w ≡ true
   unfolding meeting met
   met_past = go (passes_label before l w) (same_label l w)
     where
-      go : (p q : Bool) → (cond p Past (cond q Here Other) ≡ Here → ⊥) → (cond p Past (cond q Here Other) ≡ Other → ⊥) → p ≡ true
-      go true q h o = refl
-      go false true h o = absurd (h refl)
-      go false false h o = absurd (o refl)
+      go : (p q : Bool) → Past ≡ cond p Past (cond q Here Other) → p ≡ true
+      go true q e = refl
+      go false true e = cc
+      go false false e = cc
 
-  pub met_here : meeting before l w ≡ Here → (passes_label before l w ≡ false) × (same_label l w ≡ true)
+  met_here : Here ≡ meeting before l w → (passes_label before l w ≡ false) × (same_label l w ≡ true)
   unfolding meeting met
   met_here = go (passes_label before l w) (same_label l w)
     where
-      go : (p q : Bool) → cond p Past (cond q Here Other) ≡ Here → (p ≡ false) × (q ≡ true)
+      go : (p q : Bool) → Here ≡ cond p Past (cond q Here Other) → (p ≡ false) × (q ≡ true)
       go true q e = absurd (true≢false cc)
       go false true e = (refl, refl)
       go false false e = absurd (true≢false cc)
 
-  pub met_other : meeting before l w ≡ Other → (passes_label before l w ≡ false) × (same_label l w ≡ false)
+  met_other : Other ≡ meeting before l w → (passes_label before l w ≡ false) × (same_label l w ≡ false)
   unfolding meeting met
   met_other = go (passes_label before l w) (same_label l w)
     where
-      go : (p q : Bool) → cond p Past (cond q Here Other) ≡ Other → (p ≡ false) × (q ≡ false)
+      go : (p q : Bool) → Other ≡ cond p Past (cond q Here Other) → (p ≡ false) × (q ≡ false)
       go true q e = absurd (true≢false cc)
       go false true e = absurd (true≢false cc)
       go false false e = (refl, refl)
 
--- what the loop of `find_from` keeps: the search from its start goes on from block i
-pub record Probing (before : Label → Label → Bool) (look : ℕ → Label) (m : ℕ) (w : Label) (most start left i : ℕ) : Type 0 where
+-- what the loop of `find_from` keeps: after k turns the search from its start goes on from block i
+pub record Probing (before : Label → Label → Bool) (look : ℕ → Label) (m : ℕ) (w : Label) (most start k i : ℕ) : Type 0 where
   pub inside : i < m
-  pub rest : probe before look m w most start ≡ probe before look m w left i
+  pub rest : probe before look m w most start ≡ probe before look m w (most - k) i
 
 module _ (before : Label → Label → Bool) (look : ℕ → Label) (m : ℕ) (w : Label) (most start : ℕ) where
-  pub probing_start : start < m → Probing before look m w most start most start
-  probing_start h = record { inside = h; rest = refl }
+  pub probing_start : start < m → Probing before look m w most start 0 start
+  probing_start h = record { inside = h; rest = rw sub-zero }
 
-  module _ (left i : ℕ) (q : Probing before look m w most start left i) where
-    pub probing_end : left ≡ 0 → None ≡ probe before look m w most start
+  module _ (k i : ℕ) (q : Probing before look m w most start k i) where
+    pub probing_end : most ≤ k → None ≡ probe before look m w most start
     unfolding probe
-    probing_end z = sym (q.rest ∙ rw z)
+    probing_end h = sym (q.rest ∙ rw (sub-eq-zero_of_le h))
 
-    module _ (r : Met) (er : r ≡ meeting before (look i) w) (some : left ≡ 0 → ⊥) where
-      step : probe before look m w most start ≡ probe before look m w (suc (left - 1)) i
-      step = q.rest ∙ ap (λ (k : ℕ). probe before look m w k i) (omega arith)
+    module _ (some : k < most) where
+      step : probe before look m w most start ≡ probe before look m w (suc (most - (k + 1))) i
+      step = q.rest ∙ rw (one_left some)
 
-      pub probing_more : (r ≡ Here → ⊥) → (r ≡ Other → ⊥) → (n : ℕ) → n ≡ (i + 1) % m → n < m → Probing before look m w most start (left - 1) n
+      pub probing_past : Past ≡ meeting before (look i) w → (n : ℕ) → n ≡ (i + 1) % m → n < m → Probing before look m w most start (k + 1) n
       unfolding probe
-      probing_more h o n en l =
+      probing_past e n en l =
           let on : suc i % m ≡ n % m = ap (◌% m) (sym (add-one i)) ∙ sym en ∙ sym (mod-eq_of_lt l) in
-          let one : probe before look m w (suc (left - 1)) i ≡ probe before look m w (left - 1) (suc i) =
-          rw (mod-eq_of_lt q.inside, met_past before (look i) w (λ e. h (er ∙ e)) (λ e. o (er ∙ e))) in
-          record { inside = l; rest = step ∙ one ∙ probe_round before look m w (left - 1) (suc i) n on }
+          let one : probe before look m w (suc (most - (k + 1))) i ≡ probe before look m w (most - (k + 1)) (suc i) =
+          rw (mod-eq_of_lt q.inside, met_past before (look i) w e) in
+          record { inside = l; rest = step ∙ one ∙ probe_round before look m w (most - (k + 1)) (suc i) n on }
 
-      pub probing_here : r ≡ Here → Some i ≡ probe before look m w most start
+      pub probing_here : Here ≡ meeting before (look i) w → Some i ≡ probe before look m w most start
       unfolding probe
-      probing_here h = let e = met_here before (look i) w (sym er ∙ h) in sym (step ∙ rw (mod-eq_of_lt q.inside, e.0, e.1))
+      probing_here h = let e = met_here before (look i) w h in sym (step ∙ rw (mod-eq_of_lt q.inside, e.0, e.1))
 
-      pub probing_other : r ≡ Other → None ≡ probe before look m w most start
+      pub probing_other : Other ≡ meeting before (look i) w → None ≡ probe before look m w most start
       unfolding probe
-      probing_other o = let e = met_other before (look i) w (sym er ∙ o) in sym (step ∙ rw (mod-eq_of_lt q.inside, e.0, e.1))
+      probing_other h = let e = met_other before (look i) w h in sym (step ∙ rw (mod-eq_of_lt q.inside, e.0, e.1))
 
--- going round
-pub around_inside : (i m : ℕ) → i < m → i ≡ i % m
-around_inside i m h = sym (mod-eq_of_lt h)
-
-pub around_first : (i m : ℕ) → i ≤ m → m ≤ i → 0 ≡ i % m
-around_first i m h l =
-    let e : i ≡ m = omega arith in
-    sym (rw e (mod_self m))
+pub ruleset probing = (probing_start, probing_past, probing_here, probing_other, probing_end)
 
 -- A SEARCH PASSES all blocks of lower levels in version 1
 module _ (s : Sizes) (first : s.version ≡ 1) (look : ℕ → Label) (m : ℕ) (w : Label) where
@@ -146,9 +131,9 @@ module _ (s : Sizes) (bs : List ℕ) (w : Label) (start : ℕ) where
   goes_more v i q h t et z = goes_one v i (i + 1) q (omega arith) refl (sym et ∙ z)
 
   -- four in one turn
-  pub goes_four : s.version ≡ 1 → (i : ℕ) → GoesOn s bs w start i → i + 4 ≤ s.blocks → (t : Bool) → t ≡ four_lower (label_in (block_long s) bs) w.level i → t ≡ true → GoesOn s bs w start (i + 4)
+  pub goes_four : s.version ≡ 1 → (i j : ℕ) → GoesOn s bs w start i → j ≡ i + 4 → j ≤ s.blocks → (t : Bool) → t ≡ four_lower (label_in (block_long s) bs) w.level i → t ≡ true → GoesOn s bs w start j
   unfolding four_lower
-  goes_four v i q h t et z =
+  goes_four v i j q ej h t et z =
       let low : (k : ℕ) → Bool = λ k. is_lower (label_in (block_long s) bs) w.level (i + k) in
       let a = and_parts (is_lower (label_in (block_long s) bs) w.level i) (low 1 && (low 2 && low 3)) (sym et ∙ z) in
       let b = and_parts (low 1) (low 2 && low 3) a.1 in
@@ -156,7 +141,7 @@ module _ (s : Sizes) (bs : List ℕ) (w : Label) (start : ℕ) where
       let one = goes_one v i (i + 1) q (omega arith) refl a.0 in
       let two = goes_one v (i + 1) (i + 2) one (omega arith) (omega arith) b.0 in
       let three = goes_one v (i + 2) (i + 3) two (omega arith) (omega arith) c.0 in
-      goes_one v (i + 3) (i + 4) three h (omega arith) c.1
+      goes_one v (i + 3) j three h (omega (arith, ej)) c.1
 
   -- as `find_past` asks
   pub goes_search : (i j : ℕ) (r : Option ℕ) → GoesOn s bs w start i → j ≡ i % s.blocks → j < s.blocks →
@@ -164,54 +149,16 @@ module _ (s : Sizes) (bs : List ℕ) (w : Label) (start : ℕ) where
   goes_search i j r q ej hj er = er ∙ probe_round (before s) (label_in (block_long s) bs) s.blocks w (s.blocks - (i - start)) j i (mod-eq_of_lt hj ∙ ej) ∙ q.rest
 
 -- the search for a label is the one from home on, round the whole table
-pub home_search : (s : Sizes) (bs : List ℕ) (w : Label) (start : ℕ) (r : Option ℕ) → start ≡ home s w →
-    r ≡ probe (before s) (label_in (block_long s) bs) s.blocks w s.blocks start → r ≡ search_in s bs w
-unfolding search_in
-home_search s bs w start r eh er = er ∙ ap (probe (before s) (label_in (block_long s) bs) s.blocks w s.blocks) eh
-
--- as `four_lower` asks: the first block that is not lower tells, or the last
-module _ (look : ℕ → Label) (l i : ℕ) (a : Bool) (ea : a ≡ is_lower look l i) where
-  pub four_first : a ≡ false → a ≡ four_lower look l i
-  unfolding four_lower
-  four_first z = rw (← ea, z)
-
-  module _ (ha : a ≡ true) (b : Bool) (eb : b ≡ is_lower look l (i + 1)) where
-    pub four_second : b ≡ false → b ≡ four_lower look l i
-    unfolding four_lower
-    four_second z = rw (← ea, ha, ← eb, z)
-
-    module _ (hb : b ≡ true) (c : Bool) (ec : c ≡ is_lower look l (i + 2)) where
-      pub four_third : c ≡ false → c ≡ four_lower look l i
-      unfolding four_lower
-      four_third z = rw (← ea, ha, ← eb, hb, ← ec, z)
-
-      pub four_fourth : c ≡ true → (d : Bool) → d ≡ is_lower look l (i + 3) → d ≡ four_lower look l i
-      unfolding four_lower
-      four_fourth z d ed = rw (← ea, ha, ← eb, hb, ← ec, z) ed
+-- as `four_lower` asks
+pub four_listed : (look : ℕ → Label) (l i : ℕ) → list_all (λ k. is_lower look l (i + k)) (range_with_len 0 4) ≡ four_lower look l i
+unfolding four_lower
+four_listed look l i = rw (add-zero, and-true (is_lower look l (i + 3)))
 
 -- as `lower` asks: one byte tells
 module _ (w : ℕ) (bs : List ℕ) (i a v l : ℕ) (ea : a ≡ 53 + i * w) (ev : v ≡ get_or bs a 0) where
   level_there : v ≡ (label_in w bs i).level
   unfolding label_in
   level_there = ev ∙ ap (λ (x : ℕ). get_or bs x 0) ea
-
-  pub lower_none : v ≤ 0 → ltb 0 v ≡ is_lower (label_in w bs) l i
-  unfolding is_lower
-  lower_none h = rw (← level_there, le-ltb 0 v h)
-
-  pub lower_some : 0 < v → ltb v l ≡ is_lower (label_in w bs) l i
-  unfolding is_lower
-  lower_some h = rw (← level_there, lt-ltb 0 v h)
-
--- as `behind` asks
-module _ (s : Sizes) (w : Label) (i h : ℕ) (e : h ≡ hash_from 5 5 s.seed w.first) where
-  pub behind_first : h + 65536 * w.level + w.number ≡ 2147483647 → 0 ≡ behind s w i
-  unfolding behind g
-  behind_first z = rw (← e, eq-eqb _ _ z)
-
-  pub behind_next : (h + 65536 * w.level + w.number ≡ 2147483647 → ⊥) → (r : ℕ) → r ≡ (i + 1) % s.blocks → r ≡ behind s w i
-  unfolding behind g
-  behind_next z r er = rw (← e, ne_eqb _ _ z) er
 
 -- a block that the search finds is one of the table
 abbrev below : Option ℕ → (m : ℕ) → Type 0
@@ -225,24 +172,7 @@ probe_below before look m w (suc k) i pos =
     cond_valid (λ r. below r m) (passes_label before (look (i % m)) w) (probe_below before look m w k (suc i) pos)
     (cond_valid (λ r. below r m) (same_label (look (i % m)) w) (mod-lt i pos) tt)
 
--- as `remove` asks, of what the search gave
-pub out_none : (g : Sizes) (bs : List ℕ) (w : Label) (r : Option ℕ) → r ≡ None → r ≡ search_in g bs w → bs ≡ taken_out g (search_in g bs w) bs
-unfolding taken_out
-out_none g bs w r e q = rw (← q, e)
-
-pub out_at : (g : Sizes) (bs bs' : List ℕ) (w : Label) (r : Option ℕ) (i : ℕ) → r ≡ Some i → r ≡ search_in g bs w → bs' ≡ pull (bytes (block_long g)) (home g) g.blocks (g.blocks - 1) i (i + 1) bs
-    → bs' ≡ taken_out g (search_in g bs w) bs
-unfolding taken_out
-out_at g bs bs' w r i e q p = rw (← q, e) p
-
-pub found_none : (g : Sizes) (bs : List ℕ) (w : Label) (r : Option ℕ) → r ≡ None → r ≡ search_in g bs w → false ≡ found_at (search_in g bs w)
-unfolding found_at
-found_none g bs w r e q = rw (← q, e)
-
-pub found_some : (g : Sizes) (bs : List ℕ) (w : Label) (r : Option ℕ) (i : ℕ) → r ≡ Some i → r ≡ search_in g bs w → true ≡ found_at (search_in g bs w)
-unfolding found_at
-found_some g bs w r i e q = rw (← q, e)
-
+-- as `remove` asks
 pub search_below : (g : Sizes) (bs : List ℕ) (w : Label) (r : Option ℕ) (i : ℕ) → r ≡ Some i → r ≡ search_in g bs w → Shaped g bs → i < g.blocks
 unfolding search_in
 search_below g bs w r i e q s = rw (sym q ∙ e) at (probe_below (before g) (label_in (block_long g) bs) g.blocks w g.blocks (home g w) s.some)
@@ -273,15 +203,6 @@ passes_some before l w h e = let p = and_parts (ltb 0 l.level || eqb l.level w.l
     go true q a b c = ltb-true 0 l.level a
     go false true a b c = omega (arith, h, eqb-true l.level w.level b)
     go false false a b c = absurd (false≢true c)
-
--- as `past_if` asks
-pub met_yes : (t : Bool) → t ≡ true → Past ≡ met t false
-unfolding met
-met_yes t e = rw e
-
-pub met_no : (t : Bool) → t ≡ false → Other ≡ met t false
-unfolding met
-met_no t e = rw e
 
 -- as `meets` asks of block i: the first part of its label that is another than that of the one looked for decides
 module _ (s : Sizes) (w : ℕ) (bs : List ℕ) (i a v : ℕ) (want : Label) (ea : a ≡ 53 + i * w) (ev : v ≡ get_or bs a 0) where
@@ -347,6 +268,8 @@ module _ (s : Sizes) (w : ℕ) (bs : List ℕ) (i a v : ℕ) (want : Label) (ea 
           let one = one_label (label_in w bs i) want level_same (sym at_first ∙ first) (sym at_number ∙ z) in
           rw (← by_number, le-ltb n want.number (omega arith), is_same (label_in w bs i) want one)
 
+pub ruleset meets = (meets_first, meets_number, meets_here)
+
 -- what the loop of `pull_back` keeps: the removal goes on from the block that is k further, on the bytes as they are
 pub record Pulling (g : Sizes) (at : ℕ) (bs₀ bs : List ℕ) (hole k : ℕ) : Type 0 where
   pub shaped : Shaped g bs
@@ -394,30 +317,12 @@ module _ (g : Sizes) (at : ℕ) (bs₀ : List ℕ) where
             rest = p.rest ∙ rw (one_left lt, held, test, one_on at k, q.hole, q.table);
           }
 
--- as `pull_one` asks
-pub pulled_stay : (g : Sizes) (e j h : ℕ) (bs : List ℕ) (t : Bool) → t ≡ stays_at g.blocks e j h → t ≡ true → Pulled g e j h bs bs e
-pulled_stay g e j h bs t et s = record { hole = rw (← et, s); table = rw (← et, s) }
-
-pub pulled_move : (g : Sizes) (e j h : ℕ) (bs bs' : List ℕ) (t : Bool) → t ≡ stays_at g.blocks e j h → t ≡ false → bs' ≡ copy_in (block_long g) bs j e → Pulled g e j h bs bs' j
-pulled_move g e j h bs bs' t et s eb = record { hole = rw (← et, s); table = rw (← et, s) eb }
-
--- as `label_at` and `home` ask
-pub label_made : (w : ℕ) (bs : List ℕ) (i a l n f : ℕ) → a ≡ 53 + i * w → l ≡ get_or bs a 0 → n ≡ field (a + 2) 2 bs → f ≡ field (a + 4) 4 bs
-    → ◌≡◌ {A = Label} (record { level = l; first = f; number = n }) (label_in w bs i)
-unfolding label_in
-label_made w bs i a l n f ea el en ef = rw (el, en, ef, ea)
-
+-- as `home` asks
 pub home_made : (s : Sizes) (w : Label) (h : ℕ) → h ≡ hash_from 5 5 s.seed w.first → (h + 65536 * w.level + w.number) % 2147483647 % s.blocks ≡ home s w
 unfolding home g
 home_made s w h e = rw e
 
--- an empty block where the search for a label starts
-pub empty_says : (s : Sizes) (bs : List ℕ) (want : Label) (i a v : ℕ) → i ≡ home s want → a ≡ 53 + i * block_long s → v ≡ get_or bs a 0
-    → eqb v 0 ≡ eqb (label_in (block_long s) bs (home s want)).level 0
-unfolding label_in
-empty_says s bs want i a v ei ea ev = rw (ev, ea, ei)
-
--- ends the search
+-- an empty block where the search for a label starts ends the search
 probe_none : (before : Label → Label → Bool) (look : ℕ → Label) (m : ℕ) (want : Label) (k i : ℕ) → i < m → 1 ≤ want.level → (look i).level ≡ 0 → probe before look m want k i ≡ None
 unfolding probe same_label
 probe_none before look m want zero i h lo z = refl
@@ -437,17 +342,6 @@ pub home_past : (s : Sizes) (w : Label) (h r : ℕ) → h ≡ hash_from 5 5 s.se
     → 2147483647 ≤ h + 65536 * w.level + w.number → r ≡ (h + 65536 * w.level + w.number - 2147483647) % s.blocks → r ≡ home s w
 home_past s w h r e b hl hn l f =
     f ∙ ap (λ (i : ℕ). i % s.blocks) (sym (mod-eq-sub-mod l ∙ mod-eq_of_lt (omega arith))) ∙ home_made s w h e
-
-pub mod_fits : (a m : ℕ) → 0 < m → m ≤ 65535 → Fits w32 (a % m)
-mod_fits a m p h = record { fits = lt_of_lt_of_le (mod-lt a p) (omega arith) }
-
-pub stays_none : (m e j h d : ℕ) → d ≡ distance_of m e h → d ≡ 0 → false ≡ stays_at m e j h
-unfolding stays_at
-stays_none m e j h d ed z = rw (← ed, z)
-
-pub stays_some : (m e j h d d' : ℕ) → d ≡ distance_of m e h → d' ≡ distance_of m e j → (d ≡ 0 → ⊥) → leb d d' ≡ stays_at m e j h
-unfolding stays_at
-stays_some m e j h d d' ed ed' ne = rw (← ed, ← ed', ne_eqb _ _ ne)
 
 -- what the loop of `settle_in` keeps
 pub record Settling (g : Sizes) (e start n : ℕ) (bs₀ bs : List ℕ) (k : ℕ) : Type 0 where
@@ -472,46 +366,23 @@ module _ (g : Sizes) (e start n : ℕ) (bs₀ : List ℕ) where
     unfolding settle
     settling_end h = rw (p.rest, sub-eq-zero_of_le h)
 
--- what a comparison of the labels of two blocks picks; and where it holds neither block is the other
+-- where a comparison of the labels of two blocks holds, neither block is the other
 module _ (s : Sizes) (w : ℕ) (bs : List ℕ) (i j : ℕ) (x y : Label) (t : Bool) (ex : x ≡ label_in w bs i) (ey : y ≡ label_in w bs j) (et : t ≡ before s x y) where
   compares : before s (label_in w bs i) (label_in w bs j) ≡ t
   compares = sym (rw (et, ex, ey))
 
-  pub picks_first : (z a b : List ℕ) → t ≡ true → z ≡ a → z ≡ cond (before s (label_in w bs i) (label_in w bs j)) a b
-  picks_first z a b h e = rw (compares, h) e
-
-  pub picks_second : (a b : List ℕ) → t ≡ false → b ≡ cond (before s (label_in w bs i) (label_in w bs j)) a b
-  picks_second a b h = rw (compares, h)
-
   pub before_differs : t ≡ true → j ≡ i → ⊥
   before_differs h q = false≢true (sym (labels_strict s (label_in w bs i)) ∙ (rw q at (compares ∙ h)))
 
--- what the loop of `free` keeps
-pub record Freeing (look : ℕ → Label) (m start k : ℕ) : Type 0 where
-  pub within : k ≤ m
-  pub rest : free_in look m m start ≡ free_in look m (m - k) (start + k)
-
+-- the first empty one of so many blocks, as `free` looks for it
 module _ (look : ℕ → Label) (m start : ℕ) where
-  pub freeing_start : Freeing look m start 0
-  freeing_start = record { within = omega arith; rest = rw (add-zero, sub-zero) }
+  free_from : (n k : ℕ) → find (λ i. (look i).level == 0) (map (λ j. (start + j) % m) (range_with_len k n)) ≡ free_in look m n (start + k)
+  unfolding free_in
+  free_from zero k = refl
+  free_from (suc n) k = rw (free_from n (k + 1), one_on start k)
 
-  module _ (k : ℕ) (p : Freeing look m start k) where
-    pub freeing_end : m ≤ k → None ≡ free_in look m m start
-    unfolding free_in
-    freeing_end h = rw (p.rest, sub-eq-zero_of_le h)
-
-    module _ (lt : k < m) (l : Label) (el : l ≡ look ((start + k) % m)) where
-      pub freeing_at : l.level ≡ 0 → Some ((start + k) % m) ≡ free_in look m m start
-      unfolding free_in
-      freeing_at z =
-          let t : eqb (look ((start + k) % m)).level 0 ≡ true = rw (← el) (eq-eqb _ _ z) in
-          rw (p.rest, one_left lt, t)
-
-      pub freeing_more : (l.level ≡ 0 → ⊥) → Freeing look m start (k + 1)
-      unfolding free_in
-      freeing_more ne =
-          let t : eqb (look ((start + k) % m)).level 0 ≡ false = rw (← el) (ne_eqb _ _ ne) in
-          record { within = omega arith; rest = p.rest ∙ rw (one_left lt, t, one_on start k) }
+  pub free_found : (n : ℕ) → find (λ i. (look i).level == 0) (map (λ j. (start + j) % m) (range_with_len 0 n)) ≡ free_in look m n start
+  free_found n = rw add-zero at (free_from n 0)
 
 -- as `write_head` asks
 head_two : (v n : ℕ) → v < 256 → n < 256 → big 2 (256 * v + n) ≡ v ∷ n ∷ []
@@ -549,35 +420,22 @@ block_brought w v bs s₁ s₂ s₃ e a l n u x ys start e₁ e₂ e₃ ea ev eu
     let k : length (take x (drop start ys)) ≡ u = length_part x start ys h ∙ sym eu in
     block_made w v bs s₁ s₂ s₃ e a l n u (take x (drop start ys)) e₁ (e₂ ∙ ap (λ (z : ℕ). sets s₁ (a + 8) (take z (drop start ys))) eu) e₃ ea ev k
 
-pub mod_below : (a m x : ℕ) → x < m → a % m < m
-mod_below a m x h = mod-lt a (omega arith)
-
-pub distance_made : (m a b : ℕ) → (b + m - a) % m ≡ distance_of m a b
-unfolding distance_of
-distance_made m a b = refl
-
--- as `insert` asks, of what `free` gave
+-- as `insert` asks
 free_below : (look : ℕ → Label) (m k i : ℕ) → 0 < m → below (free_in look m k i) m
 unfolding free_in
 free_below look m zero i pos = tt
 free_below look m (suc k) i pos = cond_valid (λ r. below r m) (eqb (look (i % m)).level 0) (mod-lt i pos) (free_below look m k (suc i) pos)
 
-pub free_at : (look : ℕ → Label) (m k i : ℕ) (r : Option ℕ) (e : ℕ) → r ≡ Some e → r ≡ free_in look m k i → 0 < m → e < m
-free_at look m k i r e er q pos = rw (sym q ∙ er) at (free_below look m k i pos)
+pub free_inside : (look : ℕ → Label) (m k i e : ℕ) → Some e ≡ free_in look m k i → 0 < m → e < m
+free_inside look m k i e q pos = rw (← q) at (free_below look m k i pos)
 
-module _ (g : Sizes) (bs : List ℕ) (l : Label) (start : ℕ) (r : Option ℕ) (es : start ≡ home g l) (er : r ≡ free_in (label_in (block_long g) bs) g.blocks g.blocks start) where
-  pub inserted_found : (x : Option ℕ) → r ≡ x → x ≡ free_in (label_in (block_long g) bs) g.blocks g.blocks (home g l)
-  inserted_found x q = sym q ∙ er ∙ rw es
-
-  pub inserted_made : (e k n : ℕ) (xs s₁ s₂ : List ℕ) → s₁ ≡ put_block (block_long g) bs e (block_with (block_long g) l n xs) → k ≡ distance_of g.blocks start e
-      → s₂ ≡ settle (bytes (block_long g)) (before g) g.blocks k e start s₁ → s₂ ≡ inserted g (Some e) l n xs bs
-  unfolding inserted
-  inserted_made e k n xs s₁ s₂ e₁ ek e₂ = e₂ ∙ rw (ek, es, e₁)
+pub inserted_made : (g : Sizes) (bs : List ℕ) (l : Label) (start e k n : ℕ) (xs s₁ s₂ : List ℕ) → start ≡ home g l → s₁ ≡ put_block (block_long g) bs e (block_with (block_long g) l n xs)
+    → k ≡ distance_of g.blocks start e → s₂ ≡ settle (bytes (block_long g)) (before g) g.blocks k e start s₁ → s₂ ≡ inserted g (Some e) l n xs bs
+unfolding inserted
+inserted_made g bs l start e k n xs s₁ s₂ es e₁ ek e₂ = e₂ ∙ rw (ek, es, e₁)
 
 pub inserted_same : (g : Sizes) (l : Label) (n : ℕ) (xs bs : List ℕ) → bs ≡ inserted g None l n xs bs
 unfolding inserted
 inserted_same g l n xs bs = refl
 
 -- as the functions that read ask
-pub byte_at : (bs : List ℕ) (r a b : ℕ) → r ≡ get_or bs (a + 1) 0 → a ≡ b → r ≡ get_or bs (b + 1) 0
-byte_at bs r a b e h = e ∙ rw h

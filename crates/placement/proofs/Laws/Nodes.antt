@@ -9,7 +9,6 @@ use Rattle.placement.specs.Chunks.{node_bytes}
 use Rattle.placement.specs.Decode.{node_in, node_of}
 use Rattle.sizes.proofs.Laws.Numbers.{field_drop, length_big}
 use Rattle.sizes.proofs.Laws.Parts.{sets_append}
-use Rattle.sizes.proofs.Laws.Sizes.{row_least}
 use Rattle.sizes.proofs.Laws.HeaderLoops.{row_one, row_other}
 
 -- THE PRICE: none in version 1, else four bytes
@@ -19,20 +18,6 @@ price_none s bs a h = rw (← row_one s h)
 
 pub price_some : (s : Sizes) (bs : List ℕ) (a r : ℕ) → (s.version ≡ 1 → ⊥) → r ≡ field a 4 bs → r ≡ field a (row s - 12) bs
 price_some s bs a r h e = e ∙ rw (← row_other s h)
-
--- A NODE lies where a row has room
-module _ (s : Sizes) (a n : ℕ) (h : a + row s ≤ n) where
-  pub room_key : a + 4 ≤ n
-  room_key = omega (arith, row_least s)
-
-  pub room_total : a + 4 + 4 ≤ n
-  room_total = omega (arith, row_least s)
-
-  pub room_displayed : a + 8 + 4 ≤ n
-  room_displayed = omega (arith, row_least s)
-
-  pub room_price : (s.version ≡ 1 → ⊥) → a + 12 + 4 ≤ n
-  room_price g = omega (arith, row_other s g)
 
 -- READ
 pub node_made : (w : ℕ) (bs : List ℕ) (a k t d p : ℕ) → k ≡ field a 4 bs → t ≡ field (a + 4) 4 bs → d ≡ field (a + 8) 4 bs → p ≡ field (a + 12) (w - 12) bs

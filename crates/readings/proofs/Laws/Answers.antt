@@ -1,15 +1,14 @@
 -- A visit of a whole table, and what it answers: the number of orders in a range, their rows, the first that has a reserve.
-use Rattle.std.proofs.Common.{Some, None}
+use Rattle.std.proofs.Common.{None}
 use mathlib.Core.Path.{◌≡◌, refl, sym, ap, ◌∙◌, subst}
-use mathlib.Core.Bool.{Bool, true, false, ◌&&◌, cond, false≢true}
+use mathlib.Core.Bool.{Bool, true, false, ◌&&◌, cond}
 use mathlib.Core.List.{List, [], ◌∷◌, ◌++◌}
 use Prim.Native.Nat.{ℕ, ◌+◌, ◌*◌, ◌≤◌, ◌<◌}
 use native.Mathlib.Nat.{zero-add, mul-zero}
 use native.Mathlib.Omega.{arith}
 use lib.Dec.{leb}
-use lib.ListN.{length, drop}
-use lib.Seq.{sets-eq}
-use borrow.Author.Tests.{eq-eqb, ne_eqb}
+use lib.ListN.{length, take, drop}
+use lib.Seq.{sets, sets-eq, take_all}
 use Rattle.sizes.specs.Sizes.{beta, row}
 use Rattle.sizes.specs.Header.{sizes_in}
 use Rattle.placement.specs.Chunks.{nodes_bytes}
@@ -20,16 +19,17 @@ use Rattle.placement.proofs.Laws.Bridge.{nodes_long}
 use Rattle.placement.proofs.Laws.Tables.{shaped}
 use Rattle.skiplist.specs.Lists.{front}
 use Rattle.skiplist.specs.Image.{is_image, orders_in}
-use Rattle.skiplist.specs.Questions.{between, enough}
+use Rattle.skiplist.specs.Questions.{between, enough, ZeroFindsAll}
+use Rattle.skiplist.proofs.Laws.Questions.{zero_finds_all}
 use Rattle.skiplist.proofs.Laws.Walk.{walk_all}
 use Rattle.skiplist.proofs.Laws.Kept.{fits_parts}
 use Rattle.skiplist.proofs.Laws.Third.{image_parts}
 use Rattle.readings.specs.declared.Visit.{Visit}
-use Rattle.readings.specs.Visit.{Scan, scan, starting, steps, Known, under, first_of}
+use Rattle.readings.specs.Visit.{scan, starting, steps, Known, under, first_of}
 use Rattle.readings.proofs.Laws.Visits.{step_below}
 use Rattle.readings.proofs.Laws.Chunked.{kept_by, orders_up}
-use Rattle.readings.proofs.Laws.Wholes.{rowed}
-use Rattle.readings.proofs.Laws.Tallies.{answer_of, tally, sought}
+use Rattle.readings.proofs.Laws.Wholes.{last_found, written_room}
+use Rattle.readings.proofs.Laws.Tallies.{finds, Tallied, tally}
 
 -- AN IMAGE
 pub known_image : (bs : List ℕ) → is_image bs ≡ true → Known (sizes_in bs) bs
@@ -68,7 +68,7 @@ visit_whole bs s l v x k es e p h w z q =
     ∙ ap (λ (os : List Order). steps os (scan (row s) v x)) (walk_all s (orders_in bs) (orders_up s bs k))
     ∙ ap (steps (orders_in bs)) (step_below front (scan (row s) v x) (omega arith) (omega arith)))
 
--- COUNTING AND WRITING
+-- WHAT IT FINDS
 pub between_few : (lo hi : ℕ) (os : List Order) → length (between lo hi os) ≤ length os
 unfolding between
 between_few lo hi [] = omega arith
@@ -78,45 +78,49 @@ between_few lo hi (o ∷ os) = go (between_few lo hi os) (leb lo o.key && leb o.
     go ih true = omega arith
     go ih false = omega arith
 
+-- with 0 all are found
+all_enough : (os : List Order) → enough 0 os ≡ os
+unfolding ZeroFindsAll
+all_enough = zero_finds_all
+
+one_first : (os : List Order) → last_found None (take 1 os) ≡ first_of os
+unfolding last_found first_of
+one_first [] = refl
+one_first (o ∷ os) = refl
+
 module _ (bs : List ℕ) (image : is_image bs ≡ true) (lo hi : ℕ) where
   few : length (between lo hi (orders_in bs)) ≤ 65535
   few =
       let k = known_image bs image in
       omega (arith, between_few lo hi (orders_in bs), (fits_parts (sizes_in bs) (orders_in bs) k.fit).few, (limits (sizes_in bs) k.sizes_made).orders_most)
 
-  tallied : (b : Bool) (w : Visit) (x z : List ℕ) → (b ≡ true → width bs * length (between lo hi (orders_in bs)) ≤ length x) →
-      scan (width bs) w z ≡ steps (orders_in bs) (scan (width bs) (starting lo hi 0 b false) x) →
-      (w.found ≡ length (between lo hi (orders_in bs))) × (z ≡ rowed (width bs) b x 0 (between lo hi (orders_in bs)))
-  tallied b w x z room e =
-      let u = orders_up (sizes_in bs) bs (known_image bs image) in
-      let t = tally (width bs) (row_least (sizes_in bs)) (starting lo hi 0 b false) x refl (orders_in bs) 1 u refl (omega (arith, few)) (λ q. rw zero-add (room q)) in
-      (ap (λ (y : Scan). y.visit.found) e ∙ t.found ∙ omega arith, ap (λ (y : Scan). y.output) e ∙ t.output ∙ ap (λ (i : ℕ). rowed (width bs) b x i (between lo hi (orders_in bs))) (mul-zero (width bs)))
+  visited : (v w : Visit) (x z : List ℕ) → scan (width bs) w z ≡ steps (orders_in bs) (scan (width bs) v x) → Tallied (width bs) v x (finds v (orders_in bs)) (scan (width bs) w z)
+  visited v w x z e = subst (Tallied (width bs) v x (finds v (orders_in bs))) (sym e) (tally (width bs) (orders_in bs) 1 (orders_up (sizes_in bs) bs (known_image bs image)) v x)
 
-  -- counting
-  pub counted_all : (w : Visit) (x z : List ℕ) → scan (width bs) w z ≡ steps (orders_in bs) (scan (width bs) (starting lo hi 0 false false) x) →
-      (w.found ≡ length (between lo hi (orders_in bs))) × (z ≡ x)
-  counted_all w x z e = tallied false w x z (λ q. absurd (false≢true q)) e
+  -- all of a range: their number, and their rows where there is room
+  module _ (w : Visit) (x z : List ℕ) (e : scan (width bs) w z ≡ steps (orders_in bs) (scan (width bs) (starting lo hi 0 65535) x)) where
+    all : Tallied (width bs) (starting lo hi 0 65535) x (between lo hi (orders_in bs)) (scan (width bs) w z)
+    all =
+        let f : finds (starting lo hi 0 65535) (orders_in bs) ≡ between lo hi (orders_in bs) =
+        take_all 65535 (enough 0 (between lo hi (orders_in bs))) (rw (all_enough (between lo hi (orders_in bs))) few) ∙ all_enough (between lo hi (orders_in bs)) in
+        subst (λ (ns : List Order). Tallied (width bs) (starting lo hi 0 65535) x ns (scan (width bs) w z)) f (visited (starting lo hi 0 65535) w x z e)
 
-  -- writing, where there is room
-  pub written_all : (w : Visit) (x z : List ℕ) → width bs * length (between lo hi (orders_in bs)) ≤ length x → scan (width bs) w z ≡ steps (orders_in bs) (scan (width bs) (starting lo hi 0 true false) x) →
-      (w.found ≡ length (between lo hi (orders_in bs))) × (z ≡ nodes_bytes (width bs) (between lo hi (orders_in bs)) ++ drop (width bs * length (between lo hi (orders_in bs))) x)
-  written_all w x z room e =
-      let os = between lo hi (orders_in bs) in
-      let t = tallied true w x z (λ q. room) e in
-      let ns = nodes_bytes (width bs) os in
-      let l : length ns ≡ width bs * length os = nodes_long (width bs) (row_least (sizes_in bs)) os in
-      let n : 0 + length ns ≡ width bs * length os = omega arith in
-      (t.0, t.1 ∙ sets-eq ns x 0 (omega arith) ∙ ap (λ (i : ℕ). ns ++ drop i x) n)
+    pub counted_all : w.found ≡ length (between lo hi (orders_in bs))
+    counted_all = omega (arith, all.found)
 
-  -- seeking
-  module _ (least : ℕ) (w : Visit) (x z : List ℕ) (e : scan (width bs) w z ≡ steps (orders_in bs) (scan (width bs) (starting lo hi least false true) x)) where
-    answer : answer_of w ≡ first_of (enough least (between lo hi (orders_in bs)))
-    answer =
-        ap (λ (y : Scan). answer_of y.visit) e
-        ∙ sought (width bs) (row_least (sizes_in bs)) (starting lo hi least false true) x refl refl refl (orders_in bs) 1 (orders_up (sizes_in bs) bs (known_image bs image))
+    pub written_all : width bs * length (between lo hi (orders_in bs)) ≤ length x →
+        z ≡ nodes_bytes (width bs) (between lo hi (orders_in bs)) ++ drop (width bs * length (between lo hi (orders_in bs))) x
+    written_all room =
+        let os = between lo hi (orders_in bs) in
+        let ns = nodes_bytes (width bs) os in
+        let l : length ns ≡ width bs * length os = nodes_long (width bs) (row_least (sizes_in bs)) os in
+        let n : 0 + length ns ≡ width bs * length os = omega arith in
+        all.output
+        ∙ written_room (width bs) (row_least (sizes_in bs)) x 0 os (rw zero-add room)
+        ∙ ap (λ (i : ℕ). sets x i ns) (mul-zero (width bs))
+        ∙ sets-eq ns x 0 (omega arith) ∙ ap (λ (i : ℕ). ns ++ drop i x) n
 
-    pub sought_none : w.found ≡ 0 → None ≡ first_of (enough least (between lo hi (orders_in bs)))
-    sought_none f = rw (eq-eqb w.found 0 f) at answer
-
-    pub sought_some : (w.found ≡ 0 → ⊥) → Some (record { key = w.key; total = w.total; displayed = w.displayed; price = w.price }) ≡ first_of (enough least (between lo hi (orders_in bs)))
-    sought_some f = rw (ne_eqb w.found 0 f) at answer
+  -- the first that has a reserve
+  pub sought_first : (least : ℕ) (w : Visit) (x z : List ℕ) → scan (width bs) w z ≡ steps (orders_in bs) (scan (width bs) (starting lo hi least 1) x) →
+      w.last ≡ first_of (enough least (between lo hi (orders_in bs)))
+  sought_first least w x z e = (visited (starting lo hi least 1) w x z e).last ∙ one_first (enough least (between lo hi (orders_in bs)))

@@ -1,7 +1,8 @@
 -- The way down to one key: the order where it ends, and the path that is written.
 use Rattle.std.proofs.Common.{Option, Some, None}
+use Rattle.std.specs.Bool.{then_some}
 use mathlib.Core.Path.{◌≡◌, refl, sym, ap, ◌∙◌, subst}
-use mathlib.Core.Bool.{true, cond}
+use mathlib.Core.Bool.{Bool, true, false, cond}
 use mathlib.Core.List.{List, [], ◌∷◌, ◌++◌, append_assoc}
 use Prim.Native.Nat.{ℕ, suc, ◌+◌, ◌*◌, ◌-◌, ◌≤◌, ◌<◌}
 use native.Mathlib.Nat.{zero-add}
@@ -81,14 +82,13 @@ module _ (w : ℕ) (bs : List ℕ) (a k : ℕ) where
   unfolding landed
   landed_none e = rw e
 
-  module _ (h : a ≡ 0 → ⊥) (o : Order) (eo : o ≡ node_of w bs a) where
-    pub landed_other : (o.key ≡ k → ⊥) → None ≡ landed w bs a k
-    unfolding landed
-    landed_other n = rw (ne_eqb a 0 h, ← eo, ne_eqb o.key k n)
-
-    pub landed_found : o.key ≡ k → Some o ≡ landed w bs a k
-    unfolding landed
-    landed_found e = rw (ne_eqb a 0 h, ← eo, eq-eqb o.key k e)
+  pub landed_at : (a ≡ 0 → ⊥) → (o : Order) → o ≡ node_of w bs a → then_some (eqb o.key k) o ≡ landed w bs a k
+  unfolding landed
+  landed_at h o eo = rw (ne_eqb a 0 h, ← eo) (go (eqb o.key k))
+    where
+      go : (t : Bool) → then_some t o ≡ cond t (Some o) None
+      go true = refl
+      go false = refl
 
 -- the front of a list where it was written over
 take_sets_front : (l vs : List ℕ) (n : ℕ) → length vs ≡ n → n ≤ length l → take n (sets l 0 vs) ≡ vs
@@ -107,9 +107,6 @@ module _ (q : Geometry) (bs : List ℕ) (k : ℕ) where
 
   pub way_count : (o : List ℕ) → (way q bs k o).trail.count ≡ length numbers
   way_count o = ap (λ (x : Trek). x.trail.count) (goes.is o) ∙ goes.count ∙ zero-add _
-
-  pub path_gone : (o : List ℕ) (t : Trail) (z : List ℕ) → trek t z ≡ way q bs k o → z ≡ (way q bs k o).path
-  path_gone o t z e = ap (λ (x : Trek). x.path) e
 
   -- a short path that was kept
   pub path_kept : (count : ℕ) (short o : List ℕ) → Written q bs k count short → 2 * count ≤ length short → 2 * count ≤ length o →

@@ -1,16 +1,15 @@
 -- The answers of lookup, span and seek: each question in its order, and what is said where none turns the call down.
-use Rattle.std.proofs.Common.{Option, Some, None}
+use Rattle.std.proofs.Common.{Option, Some, None, Ok, Err}
+use Rattle.std.specs.Option.{ok_or}
 use mathlib.Core.Path.{◌≡◌, refl, sym, ap, ◌∙◌, subst}
 use mathlib.Core.Bool.{Bool, true, false, ◌&&◌, cond, true≢false}
 use mathlib.Core.List.{List, [], ◌∷◌, ◌++◌}
-use Prim.Native.Nat.{ℕ, zero, suc, ◌*◌, ◌≤◌, ◌<◌}
+use Prim.Native.Nat.{ℕ, suc, ◌*◌, ◌≤◌, ◌<◌}
 use native.Mathlib.Omega.{arith}
 use lib.Dec.{ltb, leb, eqb}
 use lib.ListN.{length}
-use borrow.Author.Tests.{leb-true, eq-eqb, ne_eqb, le-leb, lt-leb}
-use Rattle.sizes.specs.Sizes.{prime, row}
-use Rattle.sizes.specs.Header.{sizes_in}
-use Rattle.sizes.specs.declared.Sizes.{Sizes}
+use borrow.Author.Tests.{leb-true, ne_eqb, le-leb, lt-leb}
+use Rattle.sizes.specs.Sizes.{prime}
 use Rattle.sizes.proofs.Laws.Sizes.{and_parts}
 use Rattle.placement.specs.declared.Order.{Order}
 use Rattle.skiplist.specs.Image.{is_image, orders_in}
@@ -21,7 +20,12 @@ use Rattle.skiplist.proofs.Laws.Questions.{passes}
 use Rattle.skiplist.proofs.Laws.Third.{taken}
 use Rattle.readings.specs.declared.Visit.{Visit}
 use Rattle.table.specs.declared.Reply.{Reply}
-use Rattle.table.specs.Calls.{reply, gives, check_number, order_of, LookAs, LookSays, SpanAs, SpanSays, SeekAs, SeekSays}
+use Rattle.table.specs.declared.Refusal.{Refusal}
+use Rattle.table.specs.declared.Refusal.TheVariants.{NoKey, NotHeld, OutputShort, NoReserve}
+use Rattle.table.specs.Refusals.{number_of, answer, refused, order_reply, count_reply}
+use Rattle.table.specs.Check.{Examined}
+use Rattle.table.proofs.Laws.Refusals.{number_some}
+use Rattle.table.specs.Calls.{gives, check_number, order_of, LookAs, LookSays, SpanAs, SpanSays, SeekAs, SeekSays}
 use Rattle.readings.specs.Visit.{scan, starting, steps, first_of}
 use Rattle.readings.proofs.Laws.Answers.{width, counted_all, written_all}
 
@@ -29,14 +33,6 @@ use Rattle.readings.proofs.Laws.Answers.{width, counted_all, written_all}
 pub checked_yes : (bs : List ℕ) (n : ℕ) → n ≡ check_number bs → n ≡ 0 → is_image bs ≡ true
 unfolding check_number
 checked_yes bs n e z = (taken check bs (sym e ∙ z)).0
-
-pub checked_no : (bs : List ℕ) (n : ℕ) → n ≡ check_number bs → (n ≡ 0 → ⊥) → is_image bs ≡ false
-unfolding check_number refusal asks first_no asks_image
-checked_no bs n e z = go (is_image bs) e
-  where
-    go : (t : Bool) → n ≡ cond t 0 4 → t ≡ false
-    go true q = absurd (z q)
-    go false q = refl
 
 pub key_least : (k : ℕ) (b : Bool) → b ≡ is_key k → b ≡ true → 1 ≤ k
 unfolding is_key
@@ -63,121 +59,106 @@ module _ (k : ℕ) (os : List Order) (q : Option Order) (eq : q ≡ first_of (be
   unfolding order_of
   sought_there o z = let f = first_is (between k k os) o (sym z ∙ eq) in ((held_between k os).0 ∙ f.0, f.1)
 
-  pub sought_key : (o : Order) → q ≡ Some o → o.key ≡ k
-  sought_key o z = let f = first_is (between k k os) o (sym z ∙ eq) in ap (λ (y : Order). y.key) (sym f.1) ∙ (held_between k os).1 f.0
-
 -- LOOKUP
-module _ (bs : List ℕ) (k : ℕ) (r : Reply) where
-  look_by : (a b c : Bool) → is_image bs ≡ a → is_key k ≡ b → held k (orders_in bs) ≡ c → LookAs (cond a (cond b (cond c 0 9) 5) 4) 0 k (orders_in bs) r → LookSays bs k r
+module _ (bs : List ℕ) (k : ℕ) where
+  look_by : (a b c : Bool) → is_image bs ≡ a → is_key k ≡ b → held k (orders_in bs) ≡ c → (r : Reply) →
+      LookAs (cond a (cond b (cond c 0 9) 5) 4) 0 k (orders_in bs) r → LookSays bs k r
   unfolding LookSays refusal asks first_no asks_image asks_key
-  look_by a b c ea eb ec h = rw (ea, eb, ec) h
+  look_by a b c ea eb ec r h = rw (ea, eb, ec) h
 
-  pub look_4 : is_image bs ≡ false → r ≡ reply 4 0 0 0 0 0 → LookSays bs k r
+  pub look_4 : (e : Refusal) → Examined bs (Err e) → LookSays bs k (order_reply (Err e))
   unfolding LookAs gives
-  look_4 e h = look_by false _ _ e refl refl h
+  look_4 e x = look_by false _ _ x.0 refl refl _ (rw x.1)
 
-  module _ (image : is_image bs ≡ true) (b : Bool) (eb : b ≡ is_key k) where
-    pub look_5 : b ≡ false → r ≡ reply 5 0 0 0 0 0 → LookSays bs k r
+  module _ (image : is_image bs ≡ true) where
+    pub look_5 : is_key k ≡ false → LookSays bs k (refused NoKey)
     unfolding LookAs gives
-    look_5 e h = look_by true false _ image (sym eb ∙ e) refl h
+    look_5 e = look_by true false _ image e refl _ refl
 
-    module _ (e : b ≡ true) (q : Option Order) (eq : q ≡ first_of (between k k (orders_in bs))) where
-      pub look_9 : q ≡ None → r ≡ reply 9 0 0 0 0 0 → LookSays bs k r
-      unfolding LookAs gives
-      look_9 z h = look_by true true false image (sym eb ∙ e) (sought_absent k (orders_in bs) q eq z) h
-
-      pub look_found : (o : Order) → q ≡ Some o → r ≡ reply 0 o.key o.total o.displayed o.price 0 → LookSays bs k r
-      unfolding LookAs gives
-      look_found o z h = let t = sought_there k (orders_in bs) q eq o z in look_by true true true image (sym eb ∙ e) t.0 (rw (h, t.1))
+    pub look_rest : is_key k ≡ true → (q : Option Order) → q ≡ first_of (between k k (orders_in bs)) → LookSays bs k (order_reply (ok_or q NotHeld))
+    unfolding LookAs gives
+    look_rest e None eq = look_by true true false image e (sought_absent k (orders_in bs) None eq refl) _ refl
+    look_rest e (Some o) eq = let t = sought_there k (orders_in bs) (Some o) eq o refl in look_by true true true image e t.0 _ (rw t.1)
 
 -- THE QUESTIONS OF A RANGE, which span and seek share
 module _ (bs : List ℕ) (lo hi : ℕ) where
-  pub range_number : (a b c d : Bool) → is_image bs ≡ a → is_key lo ≡ b → is_key hi ≡ c → leb lo hi ≡ d →
-      cond a (cond (b && c) (cond d 0 10) 5) 4 ≡ first_no (asks_image bs ++ asks_range lo hi)
+  abbrev pub asked : ℕ
+  asked = first_no (asks_image bs ++ asks_range lo hi)
+
+  pub range_number : (a b c : Bool) → is_image bs ≡ a → is_key lo && is_key hi ≡ b → leb lo hi ≡ c → cond a (cond b (cond c 0 10) 5) 4 ≡ asked
   unfolding first_no asks_image asks_range
-  range_number a b c d ea eb ec ed = rw (ea, eb, ec, ed)
+  range_number a b c ea eb ec = rw (ea, eb, ec)
+
+  pub range_4 : (e : Refusal) → Examined bs (Err e) → answer {A = Unit {0}} (Err e) ≡ asked
+  range_4 e x = ap number_of x.1 ∙ range_number false _ _ x.0 refl refl
 
   -- .. and what they leave of one question more
-  module _ (n : ℕ) (en : n ≡ first_no (asks_image bs ++ asks_range lo hi)) where
-    pub range_asked : n ≡ 0 → (is_image bs ≡ true) × (1 ≤ lo) × (lo ≤ hi)
-    unfolding first_no asks_image asks_range
-    range_asked z =
-        let a = passes 3 (is_image bs) _ (sym en ∙ z) in
-        let b = passes 4 (is_key lo && is_key hi) _ a.1 in
-        let c = passes 9 (leb lo hi) 0 b.1 in
-        (a.0, key_least lo (is_key lo) refl (and_parts (is_key lo) (is_key hi) b.0).0, leb-true lo hi c.0)
+  pub range_asked : 0 ≡ asked → (is_image bs ≡ true) × (1 ≤ lo) × (lo ≤ hi)
+  unfolding first_no asks_image asks_range
+  range_asked z =
+      let a = passes 3 (is_image bs) _ (sym z) in
+      let b = passes 4 (is_key lo && is_key hi) _ a.1 in
+      let c = passes 9 (leb lo hi) 0 b.1 in
+      (a.0, key_least lo (is_key lo) refl (and_parts (is_key lo) (is_key hi) b.0).0, leb-true lo hi c.0)
 
-    range_more : (m : ℕ) (t : Bool) → first_no (asks_image bs ++ (asks_range lo hi ++ ask m t ∷ [])) ≡ cond (eqb n 0) (cond t 0 m) n
-    unfolding first_no asks_image asks_range
-    range_more m t = go (is_image bs) (is_key lo && is_key hi) (leb lo hi) en
-      where
-        go : (a b c : Bool) → n ≡ cond a (cond b (cond c 0 10) 5) 4 → cond a (cond b (cond c (cond t 0 m) 10) 5) 4 ≡ cond (eqb n 0) (cond t 0 m) n
-        go true true true e = rw e
-        go true true false e = rw e
-        go true false c e = rw e
-        go false b c e = rw e
+  range_more : (n : ℕ) → n ≡ asked → (m : ℕ) (t : Bool) → first_no (asks_image bs ++ (asks_range lo hi ++ ask m t ∷ [])) ≡ cond (eqb n 0) (cond t 0 m) n
+  unfolding first_no asks_image asks_range
+  range_more n en m t = go (is_image bs) (is_key lo && is_key hi) (leb lo hi) en
+    where
+      go : (a b c : Bool) → n ≡ cond a (cond b (cond c 0 10) 5) 4 → cond a (cond b (cond c (cond t 0 m) 10) 5) 4 ≡ cond (eqb n 0) (cond t 0 m) n
+      go true true true e = rw e
+      go true true false e = rw e
+      go true false c e = rw e
+      go false b c e = rw e
 
 -- SEEK
-module _ (bs : List ℕ) (lo hi least : ℕ) (r : Reply) (n : ℕ) (en : n ≡ first_no (asks_image bs ++ asks_range lo hi)) where
+module _ (bs : List ℕ) (lo hi least : ℕ) where
   abbrev fitting : List Order
   fitting = enough least (between lo hi (orders_in bs))
 
-  seek_by : (i : ℕ) → cond (eqb n 0) (cond (any_order fitting) 0 12) n ≡ i → r ≡ gives i 0 (lowest fitting) → SeekSays bs lo hi least r
+  seek_by : (n : ℕ) → n ≡ asked bs lo hi → (i : ℕ) → cond (eqb n 0) (cond (any_order fitting) 0 12) n ≡ i → SeekSays bs lo hi least (gives i 0 (lowest fitting))
   unfolding SeekSays SeekAs refusal asks asks_seek
-  seek_by i e h = h ∙ ap (λ (j : ℕ). gives j 0 (lowest fitting)) (sym (range_more bs lo hi n en 12 _ ∙ e))
+  seek_by n en i e = ap (λ (j : ℕ). gives j 0 (lowest fitting)) (sym (range_more bs lo hi n en 12 _ ∙ e))
 
-  refused_seek : (i : ℕ) → (i ≡ 0 → ⊥) → r ≡ reply i 0 0 0 0 0 → r ≡ gives i 0 (lowest fitting)
+  pub seek_turned : (e : Refusal) → answer {A = Unit {0}} (Err e) ≡ asked bs lo hi → SeekSays bs lo hi least (refused e)
   unfolding gives
-  refused_seek zero z h = absurd (z refl)
-  refused_seek (suc i) z h = h
+  seek_turned e en = let n = number_some e in rw n.1 (seek_by (suc n.0) (sym n.1 ∙ en) (suc n.0) (rw (ne_eqb (suc n.0) 0 (λ z. omega (arith, z)))))
 
-  pub seek_turned : (n ≡ 0 → ⊥) → r ≡ reply n 0 0 0 0 0 → SeekSays bs lo hi least r
-  seek_turned z h = seek_by n (rw (ne_eqb n 0 z)) (refused_seek n z h)
-
-  module _ (z : n ≡ 0) (q : Option Order) (eq : q ≡ first_of fitting) where
-    pub seek_12 : q ≡ None → r ≡ reply 12 0 0 0 0 0 → SeekSays bs lo hi least r
-    unfolding any_order
-    seek_12 e h = seek_by 12 (rw (eq-eqb n 0 z, first_empty fitting (sym e ∙ eq))) (refused_seek 12 (omega arith) h)
-
-    pub seek_found : (o : Order) → q ≡ Some o → r ≡ reply 0 o.key o.total o.displayed o.price 0 → SeekSays bs lo hi least r
-    unfolding gives
-    seek_found o e h = let g = first_is fitting o (sym e ∙ eq) in seek_by 0 (rw (eq-eqb n 0 z, g.0)) (rw (h, g.1))
+  pub seek_rest : 0 ≡ asked bs lo hi → (q : Option Order) → q ≡ first_of fitting → SeekSays bs lo hi least (order_reply (ok_or q NoReserve))
+  unfolding gives any_order
+  seek_rest z None e = let f = first_empty fitting e in seek_by 0 z 12 (rw f)
+  seek_rest z (Some o) e = let f = first_is fitting o e in rw (← f.1) (seek_by 0 z 0 (rw f.0))
 
 -- SPAN
-module _ (bs : List ℕ) (lo hi : ℕ) (r : Reply) (x : List ℕ) (n : ℕ) (en : n ≡ first_no (asks_image bs ++ asks_range lo hi)) where
+module _ (bs : List ℕ) (lo hi : ℕ) (x : List ℕ) where
   abbrev inside : List Order
   inside = between lo hi (orders_in bs)
 
-  span_by : (z : List ℕ) (i : ℕ) → cond (eqb n 0) (cond (leb (width bs * length inside) (length x)) 0 11) n ≡ i → SpanAs (width bs) i inside r x z → SpanSays bs lo hi r x z
+  span_by : (n : ℕ) → n ≡ asked bs lo hi → (r : Reply) (z : List ℕ) (i : ℕ) → cond (eqb n 0) (cond (leb (width bs * length inside) (length x)) 0 11) n ≡ i →
+      SpanAs (width bs) i inside r x z → SpanSays bs lo hi r x z
   unfolding SpanSays refusal asks asks_span
-  span_by z i e h = subst (λ (j : ℕ). SpanAs (width bs) j inside r x z) (sym (range_more bs lo hi n en 11 _ ∙ e)) h
+  span_by n en r z i e h = subst (λ (j : ℕ). SpanAs (width bs) j inside r x z) (sym (range_more bs lo hi n en 11 _ ∙ e)) h
 
-  refused_span : (i : ℕ) → (i ≡ 0 → ⊥) → r ≡ reply i 0 0 0 0 0 → (z : List ℕ) → z ≡ x → SpanAs (width bs) i inside r x z
+  pub span_turned : (e : Refusal) → answer {A = Unit {0}} (Err e) ≡ asked bs lo hi → SpanSays bs lo hi (refused e) x x
   unfolding SpanAs
-  refused_span zero p h z e = absurd (p refl)
-  refused_span (suc i) p h z e = (h, e)
+  span_turned e en = let n = number_some e in span_by (suc n.0) (sym n.1 ∙ en) _ x (suc n.0) (rw (ne_eqb (suc n.0) 0 (λ z. omega (arith, z)))) (rw n.1, refl)
 
-  pub span_turned : (n ≡ 0 → ⊥) → r ≡ reply n 0 0 0 0 0 → SpanSays bs lo hi r x x
-  span_turned p h = span_by x n (rw (ne_eqb n 0 p)) (refused_span n p h x refl)
-
-  -- it counts, and then writes into the output that it has left as it was
-  module _ (p : n ≡ 0) (v : Visit) (y : List ℕ) (ev : scan (width bs) v y ≡ steps (orders_in bs) (scan (width bs) (starting lo hi 0 false false) x))
-      (s : Sizes) (es : s ≡ sizes_in bs) (u : ℕ) (eu : u ≡ row s) (m : ℕ) (em : m ≡ u * v.found) where
-    many : (v.found ≡ length inside) × (y ≡ x)
-    many = counted_all bs (range_asked bs lo hi n en p).0 lo hi v x y ev
+  -- it counts, and then writes
+  module _ (p : 0 ≡ asked bs lo hi) (v : Visit) (o y : List ℕ) (ev : scan (width bs) v y ≡ steps (orders_in bs) (scan (width bs) (starting lo hi 0 65535) o))
+      (m : ℕ) (em : m ≡ width bs * v.found) where
+    image : is_image bs ≡ true
+    image = (range_asked bs lo hi p).0
 
     wanted : m ≡ width bs * length inside
-    wanted = em ∙ ap (λ (i : ℕ). i * v.found) (eu ∙ ap row es) ∙ ap (λ (i : ℕ). width bs * i) many.0
+    wanted = em ∙ ap (λ (i : ℕ). width bs * i) (counted_all bs image lo hi v o y ev)
 
-    pub span_11 : length y < m → r ≡ reply 11 0 0 0 0 0 → SpanSays bs lo hi r x y
-    span_11 h g =
-        let short : length x < width bs * length inside = omega (arith, wanted, ap length many.1) in
-        span_by y 11 (rw (eq-eqb n 0 p, lt-leb _ _ short)) (refused_span 11 (omega arith) g y many.1)
-
-    pub span_written : m ≤ length y → (w : Visit) (z : List ℕ) → scan (width bs) w z ≡ steps (orders_in bs) (scan (width bs) (starting lo hi 0 true false) y) →
-        r ≡ reply 0 0 0 0 0 w.found → SpanSays bs lo hi r x z
+    pub span_11 : length x < m → SpanSays bs lo hi (refused OutputShort) x x
     unfolding SpanAs
-    span_written h w z ew er =
-        let room : width bs * length inside ≤ length x = omega (arith, wanted, ap length many.1) in
-        let g = written_all bs (range_asked bs lo hi n en p).0 lo hi w x z room (rw many.1 at ew) in
-        span_by z 0 (rw (eq-eqb n 0 p, le-leb _ _ room)) (rw (er, g.0), g.1)
+    span_11 h = span_by 0 p _ x 11 (rw (lt-leb _ _ (rw wanted at h))) (refl, refl)
+
+    pub span_written : m ≤ length x → (w : Visit) (z : List ℕ) → scan (width bs) w z ≡ steps (orders_in bs) (scan (width bs) (starting lo hi 0 65535) x) →
+        SpanSays bs lo hi (count_reply (Ok w.found)) x z
+    unfolding SpanAs
+    span_written h w z ew =
+        let room : width bs * length inside ≤ length x = rw wanted at h in
+        span_by 0 p _ z 0 (rw (le-leb _ _ room)) (rw (counted_all bs image lo hi w x z ew), written_all bs image lo hi w x z ew room)

@@ -5,7 +5,7 @@ use mathlib.Core.Bool.{Bool, true, false, cond}
 use mathlib.Core.List.{List, [], ◌∷◌, ◌++◌, map}
 use Prim.Native.Nat.{ℕ, zero, suc, ◌+◌, ◌*◌, ◌-◌, ◌≤◌, ◌<◌}
 use native.Mathlib.Omega.{arith}
-use native.Mathlib.Nat.{zero-mul, suc-mul, mul-zero, mul-suc, pos_of_ne-zero}
+use native.Mathlib.Nat.{zero-mul, suc-mul, mul-zero, mul-suc}
 use native.Mathlib.Numerals.{add-one}
 use lib.Dec.{ltb}
 use borrow.Author.Tests.{ltb-false}
@@ -23,10 +23,9 @@ use Rattle.skiplist.specs.Image.{orders_in}
 use Rattle.skiplist.proofs.Laws.Parts.{part}
 use Rattle.skiplist.proofs.Laws.Walk.{each, spread, each_append, each_one}
 use Rattle.levels.specs.Ways.{upto_in}
-use Rattle.readings.specs.declared.Visit.{Visit}
 use Rattle.sizes.proofs.Laws.HeaderLoops.{rows_one, rows_room}
 use Rattle.placement.proofs.Laws.Reading.{key_of}
-use Rattle.readings.specs.Visit.{Scan, scan, step_by, steps, Known, Row, passed_front, under, all_under}
+use Rattle.readings.specs.Visit.{Scan, step_by, steps, Known, Row, passed_front, under, all_under}
 use Rattle.readings.proofs.Laws.Visits.{steps_append, steps_ended, Keeps, keeps_all, keeps_on, steps_keep, steps_below}
 use Rattle.readings.proofs.Laws.Rows.{row_piece, row_tail, row_below, each_masked}
 use Rattle.readings.proofs.Laws.Chunked.{nodes_first, orders_up, Read, piece, chunk_none, chunk_end, chunk_read}
@@ -40,7 +39,7 @@ left_start : (os : List Order) (x : Scan) → Left os x os x
 left_start os x = record { keeps = keeps_all x; rest = refl }
 
 module _ (os : List Order) (x : Scan) (ps : List Order) (y : Scan) (l : Left os x ps y) where
-  pub left_ended : y.visit.ended ≡ true → y ≡ steps os x
+  pub left_ended : y.visit.most ≤ y.visit.found → y ≡ steps os x
   left_ended e = sym (l.rest ∙ steps_ended ps y e)
 
   left_none : ps ≡ [] → y ≡ steps os x
@@ -53,15 +52,8 @@ module _ (os : List Order) (x : Scan) (ps : List Order) (y : Scan) (l : Left os 
     rest = l.rest ∙ ap (λ (q : List Order). steps q y) e ∙ steps_append qs rs y ∙ ap (steps rs) (sym ez);
   }
 
-pub length_kept : (k : ℕ) (os : List Order) (v w : Visit) (x z : List ℕ) → scan k w z ≡ steps os (scan k v x) → length z ≡ length x
-length_kept k os v w x z e = ap (λ (q : Scan). length q.output) e ∙ (steps_keep os (scan k v x)).long
-
 pub row_one : (s : Sizes) (os : List Order) (l : ℕ) (ns : List Order) → l ≡ 1 → Row s os l ns → Row s os 1 ns
 row_one s os l ns e r = rw e at r
-
--- the bytes of a row, by another name
-pub width_room : (u w a j n : ℕ) → u ≡ w → a + w * j ≤ n → a + u * j ≤ n
-width_room u w a j n e h = rw e h
 
 -- where the next node is not above the lowest key, nothing under this one is in the range
 module _ (s : Sizes) (bs : List ℕ) (l a j : ℕ) (x : Scan) (k : Known s bs) (low : 1 ≤ l) (range : x.visit.lo ≤ x.visit.hi)
@@ -101,46 +93,57 @@ module _ (w : ℕ) (F : List Order → List Order) (bs : List ℕ) (a j : ℕ) (
         let e : k ≡ 0 = omega arith in
         left_none _ _ _ _ p.left (ap (λ (i : ℕ). F (nodes_from w i (drop place bs))) e ∙ f)
 
-    -- a node has room, and so have those behind it
-    pub nodding_room : 0 < k → place + w ≤ length bs
-    nodding_room h = omega (arith, p.room, rows_one w k h)
+    nodding_next : 0 < k → (qs : List Order) → F (node_of w bs place ∷ nodes_from w (k - 1) (drop (place + w) bs)) ≡ qs ++ F (nodes_from w (k - 1) (drop (place + w) bs)) →
+        (z : Scan) → z ≡ steps qs y → Nodding w F bs a j x (k - 1) (place + w) z
+    nodding_next h qs f z ez =
+        record { room = omega (arith, p.room, rows_one w k h); left = left_more _ _ _ _ p.left qs _ (ap F (nodes_first w bs place k h) ∙ f) z ez }
 
-    nodding_next : 0 < k → (u : ℕ) → u ≡ w → (qs : List Order) → F (node_of w bs place ∷ nodes_from w (k - 1) (drop (place + w) bs)) ≡ qs ++ F (nodes_from w (k - 1) (drop (place + w) bs)) →
-        (z : Scan) → z ≡ steps qs y → Nodding w F bs a j x (k - 1) (place + u) z
-    nodding_next h u eu qs f z ez =
-        subst (λ (i : ℕ). Nodding w F bs a j x (k - 1) (place + i) z) (sym eu)
-        (record { room = omega (arith, p.room, rows_one w k h); left = left_more _ _ _ _ p.left qs _ (ap F (nodes_first w bs place k h) ∙ f) z ez })
+  -- .. i of them have come by
+  abbrev pub Nodded : (i : ℕ) (y : Scan) → Type 0
+  Nodded i y = Nodding w F bs a j x (j - i) (a + w * i) y
+
+  nodded_next : (i : ℕ) (y : Scan) → Nodding w F bs a j x (j - i - 1) (a + w * i + w) y → Nodded (i + 1) y
+  nodded_next i y p =
+      let e : j - i - 1 ≡ j - (i + 1) = omega arith in
+      let f : a + w * i + w ≡ a + w * (i + 1) = rw (add-one, mul-suc) (omega arith) in
+      rw (e, f) at p
 
 -- nodes that are orders
-module _ (w : ℕ) (bs : List ℕ) (a j : ℕ) (x : Scan) (k place : ℕ) (y : Scan) (p : Nodding w (λ ns. ns) bs a j x k place y) where
-  pub orders_more : 0 < k → (u : ℕ) → u ≡ w → (n : Order) → n ≡ node_of w bs place → (z : Scan) → z ≡ step_by n y → Nodding w (λ ns. ns) bs a j x (k - 1) (place + u) z
-  unfolding steps
-  orders_more h u eu n en z ez = nodding_next w (λ ns. ns) bs a j x k place y p h u eu (node_of w bs place ∷ []) refl z (ez ∙ ap (λ (o : Order). step_by o y) en)
+module _ (w : ℕ) (bs : List ℕ) (a j : ℕ) (x : Scan) where
+  module _ (i : ℕ) (y : Scan) (p : Nodded w (λ ns. ns) bs a j x i y) where
+    pub orders_more : i < j → (z : Scan) → z ≡ step_by (node_of w bs (a + w * i)) y → Nodded w (λ ns. ns) bs a j x (i + 1) z
+    unfolding steps
+    orders_more h z ez = nodded_next w (λ ns. ns) bs a j x i z (nodding_next w (λ ns. ns) bs a j x (j - i) (a + w * i) y p (omega arith) (node_of w bs (a + w * i) ∷ []) refl z ez)
 
-  pub orders_end : (s : Sizes) → k ≤ 0 → y ≡ steps (all_under s bs 0 (nodes_from w j (drop a bs))) x
-  unfolding all_under spread
-  orders_end s h = nodding_none w (λ ns. ns) bs a j x k place y p refl h ∙ ap (λ (ns : List Order). steps ns x) (sym (each_one (nodes_from w j (drop a bs))))
+    pub orders_end : (s : Sizes) → j ≤ i → y ≡ steps (all_under s bs 0 (nodes_from w j (drop a bs))) x
+    unfolding all_under spread
+    orders_end s h =
+        nodding_none w (λ ns. ns) bs a j x (j - i) (a + w * i) y p refl (omega arith)
+        ∙ ap (λ (ns : List Order). steps ns x) (sym (each_one (nodes_from w j (drop a bs))))
 
 -- nodes that open their partitions
-module _ (s : Sizes) (bs : List ℕ) (l a j : ℕ) (x : Scan) (k place : ℕ) (y : Scan) (p : Nodding (row s) (all_under s bs (l - 1)) bs a j x k place y) where
+module _ (s : Sizes) (bs : List ℕ) (l a j : ℕ) (x : Scan) where
   abbrev all : List Order
   all = nodes_from (row s) j (drop a bs)
 
-  pub nodding_orders : l ≡ 1 → (z : Scan) → z ≡ steps (all_under s bs 0 (nodes_from (row s) k (drop place bs))) y → z ≡ steps (all_under s bs (l - 1) all) x
-  nodding_orders e z h =
-      let o : 0 ≡ l - 1 = omega arith in
-      h ∙ ap (λ (i : ℕ). steps (all_under s bs i (nodes_from (row s) k (drop place bs))) y) o ∙ sym p.left.rest
+  module _ (k place : ℕ) (y : Scan) (p : Nodding (row s) (all_under s bs (l - 1)) bs a j x k place y) where
+    pub nodding_orders : l ≡ 1 → (z : Scan) → z ≡ steps (all_under s bs 0 (nodes_from (row s) k (drop place bs))) y → z ≡ steps (all_under s bs (l - 1) all) x
+    nodding_orders e z h =
+        let o : 0 ≡ l - 1 = omega arith in
+        h ∙ ap (λ (i : ℕ). steps (all_under s bs i (nodes_from (row s) k (drop place bs))) y) o ∙ sym p.left.rest
 
-  pub nodding_end : k ≤ 0 → y ≡ steps (all_under s bs (l - 1) all) x
-  unfolding all_under each
-  nodding_end h = nodding_none (row s) (all_under s bs (l - 1)) bs a j x k place y p refl h
+    nodding_more : 0 < k → (z : Scan) → z ≡ steps (under s bs (l - 1) (node_of (row s) bs place)) y →
+        Nodding (row s) (all_under s bs (l - 1)) bs a j x (k - 1) (place + row s) z
+    unfolding all_under each under
+    nodding_more h z ez = nodding_next (row s) (all_under s bs (l - 1)) bs a j x k place y p h (under s bs (l - 1) (node_of (row s) bs place)) refl z ez
 
-  pub nodding_more : 0 < k → (u : ℕ) → u ≡ row s → (n : Order) → n ≡ node_of (row s) bs place → (z : Scan) → z ≡ steps (under s bs (l - 1) n) y →
-      Nodding (row s) (all_under s bs (l - 1)) bs a j x (k - 1) (place + u) z
-  unfolding all_under each under
-  nodding_more h u eu n en z ez =
-      nodding_next (row s) (all_under s bs (l - 1)) bs a j x k place y p h u eu (under s bs (l - 1) (node_of (row s) bs place)) refl z
-      (ez ∙ ap (λ (o : Order). steps (under s bs (l - 1) o) y) en)
+  module _ (i : ℕ) (y : Scan) (p : Nodded (row s) (all_under s bs (l - 1)) bs a j x i y) where
+    pub nodded_end : j ≤ i → y ≡ steps (all_under s bs (l - 1) all) x
+    unfolding all_under each
+    nodded_end h = nodding_none (row s) (all_under s bs (l - 1)) bs a j x (j - i) (a + row s * i) y p refl (omega arith)
+
+    pub nodded_more : i < j → (z : Scan) → z ≡ steps (under s bs (l - 1) (node_of (row s) bs (a + row s * i))) y → Nodded (row s) (all_under s bs (l - 1)) bs a j x (i + 1) z
+    nodded_more h z ez = nodded_next (row s) (all_under s bs (l - 1)) bs a j x i z (nodding_more (j - i) (a + row s * i) y p (omega arith) z ez)
 
 -- .. past the nodes at the front that end before the range starts
 pub record Begun (s : Sizes) (bs : List ℕ) (l a j : ℕ) (x : Scan) (k place : ℕ) : Type 0 where
@@ -156,7 +159,7 @@ module _ (s : Sizes) (bs : List ℕ) (l a j : ℕ) (x : Scan) (known : Known s b
       let c : suc (suc k) - 1 ≡ suc k = omega arith in
       let next : Begun s bs l a j x (suc (suc k) - 1) (place + w) = record {
         listed = row_tail s (orders_in bs) l (node_of w bs place) _ (subst (Row s (orders_in bs) l) (nodes_first w bs place (suc (suc k)) (omega arith)) b.listed);
-        nodes = nodding_more s bs l a j x (suc (suc k)) place x b.nodes (omega arith) w refl _ refl x (sym (nothing_under s bs l place (suc (suc k)) x known low range b.listed (omega arith) t));
+        nodes = nodding_more s bs l a j x (suc (suc k)) place x b.nodes (omega arith) x (sym (nothing_under s bs l place (suc (suc k)) x known low range b.listed (omega arith) t));
       } in
       rw c at next
 
@@ -181,12 +184,8 @@ module _ (s : Sizes) (bs : List ℕ) (l a j : ℕ) (x : Scan) (known : Known s b
           let f : place + w * suc n ≡ place + w + w * n = omega (arith, mul-suc w n) in
           rw (d, f) (on (begun_passed k place b (ltb-false x.visit.lo (field (place + w) 4 bs) e)))
 
-  pub begun : a + w * j ≤ length bs → Row s (orders_in bs) l (nodes_from w j (drop a bs)) → (u : ℕ) → u ≡ w → (n : ℕ) → n ≡ passed_front u bs j a x.visit.lo → (m : ℕ) → m ≡ u * n →
-      Begun s bs l a j x (j - n) (a + m)
-  begun h r u eu n e m em =
-      let q : m ≡ w * n = em ∙ ap (λ (i : ℕ). i * n) eu in
-      let f : n ≡ passed_front w bs j a x.visit.lo = e ∙ ap (λ (i : ℕ). passed_front i bs j a x.visit.lo) eu in
-      rw (q, f) (begun_front j a (record { listed = r; nodes = nodding_start w (all_under s bs (l - 1)) bs a j x h }))
+  pub begun : a + w * j ≤ length bs → Row s (orders_in bs) l (nodes_from w j (drop a bs)) → (n : ℕ) → n ≡ passed_front w bs j a x.visit.lo → Begun s bs l a j x (j - n) (a + w * n)
+  begun h r n e = rw e (begun_front j a (record { listed = r; nodes = nodding_start w (all_under s bs (l - 1)) bs a j x h }))
 
 -- the count of those nodes
 module _ (w : ℕ) (bs : List ℕ) (j a lo : ℕ) where
@@ -199,9 +198,6 @@ module _ (w : ℕ) (bs : List ℕ) (j a lo : ℕ) where
   skipped_some h r e =
       let c : j ≡ suc (j - 1) = omega arith in
       e ∙ ap (λ (i : ℕ). passed_front w bs i a lo) (sym c)
-
-pub skipped_room : (w a j n : ℕ) → (j ≡ 0 → ⊥) → a + w * j ≤ n → a + w + w * (j - 1) ≤ n
-skipped_room w a j n h r = omega (arith, rows_one w j (pos_of_ne-zero h))
 
 -- CHUNKS
 abbrev left_of : Sizes → List ℕ → (l : ℕ) → Order → (i : ℕ) → List Order

@@ -1,16 +1,17 @@
 -- Orders of a chunk of level 1 that are all in the range of a visit: they come by together.
+use Rattle.std.proofs.Common.{Option, Some}
 use mathlib.Core.Path.{◌≡◌, refl, sym, ap, ◌∙◌, subst}
-use mathlib.Core.Bool.{Bool, true, false, cond, true≢false}
-use mathlib.Core.List.{List, [], ◌∷◌, ◌++◌, append-nil}
+use mathlib.Core.Bool.{true, false}
+use mathlib.Core.List.{List, [], ◌∷◌, ◌++◌}
 use Prim.Native.Nat.{ℕ, zero, suc, ◌+◌, ◌*◌, ◌-◌, ◌≤◌, ◌<◌}
 use native.Mathlib.Omega.{arith}
-use native.Mathlib.Nat.{pos_of_ne-zero, add-zero, mul-zero, mul-suc, mul-add}
+use native.Mathlib.Nat.{add-zero, mul-zero, mul-suc}
 use native.Mathlib.Numerals.{add-one}
-use borrow.Author.Tests.{le-leb, le-ltb, leb-true}
+use borrow.Author.Tests.{le-leb, lt-leb, le-ltb}
 use lib.Dec.{leb}
 use lib.ListN.{length, take, drop, length-drop}
 use lib.Seq.{sets, length-sets}
-use Rattle.sizes.specs.Numbers.{field, rows, rows_in}
+use Rattle.sizes.specs.Numbers.{rows, rows_in}
 use Rattle.sizes.specs.Sizes.{row}
 use Rattle.sizes.specs.declared.Sizes.{Sizes}
 use Rattle.sizes.proofs.Laws.Numbers.{Bytes, bytes_drop}
@@ -22,15 +23,16 @@ use Rattle.placement.proofs.Laws.Bridge.{node_long}
 use Rattle.placement.proofs.Laws.Decoding.{nodes_again, nodes_count}
 use Rattle.placement.proofs.Laws.Reading.{key_of}
 use Rattle.sizes.proofs.Laws.Sizes.{row_least}
-use Rattle.sizes.proofs.Laws.HeaderLoops.{rows_room, rows_one}
+use Rattle.sizes.proofs.Laws.HeaderLoops.{rows_room}
 use Rattle.skiplist.specs.Lists.{front, list_at}
 use Rattle.skiplist.specs.Image.{orders_in}
+use Rattle.skiplist.specs.Questions.{reserve}
 use Rattle.skiplist.proofs.Laws.Parts.{Up, up_from, up_front, at_least_up}
 use Rattle.skiplist.proofs.Laws.Walk.{spread, each_one}
 use Rattle.table.proofs.Laws.MaskedKeys.{up_masked}
 use Rattle.readings.specs.declared.Visit.{Visit}
 use Rattle.readings.specs.Visit.{scan, more_found, row_in, step_by, steps, Known, Row, Whole, all_under}
-use Rattle.readings.proofs.Laws.Visits.{next_more, wanted_all, told}
+use Rattle.readings.proofs.Laws.Visits.{wanted_some, told}
 use Rattle.readings.proofs.Laws.Rows.{up_behind}
 use Rattle.readings.proofs.Laws.Chunked.{nodes_split, nodes_first, orders_up}
 
@@ -59,60 +61,66 @@ within_last lo hi o (p ∷ ps) u h =
     let w = within_last lo hi p ps (up_from (p ∷ ps) (omega (arith, u.0)) u.1) h in
     (u.0, omega (arith, w.1, u.1.0), w)
 
--- so many more are found, the last of them this one
-abbrev pub jumped : Visit → (n : ℕ) → Order → Visit
-jumped v n o =
-    record { lo = v.lo; hi = v.hi; least = v.least; writes = v.writes; seeks = v.seeks; found = v.found + n; ended = v.ended; key = o.key; total = o.total; displayed = o.displayed; price = o.price }
-
--- rows are written, or not
-abbrev pub rowed : (w : ℕ) → Bool → List ℕ → (at : ℕ) → List Order → List ℕ
-rowed w b x a ns = cond b (sets x a (nodes_bytes w ns)) x
+-- THE ROWS of some orders, the first of them at row n: each is written where the output has room
+unfoldable pub written : (w : ℕ) → List ℕ → (n : ℕ) → List Order → List ℕ
+written w x n [] = x
+written w x n (o ∷ os) = written w (row_in w x (w * n) o) (n + 1) os
 
 -- one row more
 next_row : (w n : ℕ) → w * (n + 1) ≡ w * n + w
 next_row w n = rw (add-one, mul-suc)
 
--- ONE that is in the range
-module _ (w : ℕ) (o : Order) (v : Visit) (x : List ℕ) (seeks : v.seeks ≡ false) (goes_on : v.ended ≡ false) (low : v.lo ≤ o.key) (high : o.key ≤ v.hi) (few : v.found < 65535)
-    (room : v.writes ≡ true → w * (v.found + 1) ≤ length x) where
-  found_one : more_found o v ≡ jumped v 1 o
-  unfolding more_found
-  found_one = rw (← next_more v.found few, seeks, goes_on)
+one_row : (w : ℕ) (x : List ℕ) (a : ℕ) (o : Order) → a + w ≤ length x → row_in w x a o ≡ sets x a (node_bytes w o)
+unfolding row_in
+one_row w x a o h = rw (le-leb (a + w) (length x) h)
 
-  one_row : (b : Bool) → v.writes ≡ b → cond b (row_in w x (w * v.found) o) x ≡ rowed w b x (w * v.found) (o ∷ [])
-  unfolding row_in rows
-  one_row false e = refl
-  one_row true e = rw (le-leb (w * v.found + w) (length x) (omega (arith, room e, next_row w v.found)), append-nil)
+-- .. all of them where it has room for all
+pub written_room : (w : ℕ) → 12 ≤ w → (x : List ℕ) (n : ℕ) (ns : List Order) → w * (n + length ns) ≤ length x → written w x n ns ≡ sets x (w * n) (nodes_bytes w ns)
+unfolding written rows
+written_room w least x n [] r = refl
+written_room w least x n (o ∷ os) r =
+    let e : n + 1 + length os ≡ n + suc (length os) = omega arith in
+    let y = sets x (w * n) (node_bytes w o) in
+    let f : w * (n + 1) ≡ w * n + length (node_bytes w o) = omega (arith, node_long w least o, next_row w n) in
+    let h : length y ≡ length x = length-sets x (w * n) (node_bytes w o) in
+    let room : w * (n + 1) ≤ length x = omega (arith, r, rows_room w (n + 1) (n + suc (length os)) (omega arith)) in
+    let one : row_in w x (w * n) o ≡ y = one_row w x (w * n) o (omega (arith, room, next_row w n)) in
+    ap (λ (z : List ℕ). written w z (n + 1) os) one
+    ∙ written_room w least y (n + 1) os (rw e (omega arith))
+    ∙ ap (λ (a : ℕ). sets y a (nodes_bytes w os)) f
+    ∙ sym (sets_append x (w * n) (node_bytes w o) (nodes_bytes w os))
 
-  step_one : (b : Bool) → v.writes ≡ b → step_by o (scan w v x) ≡ scan w (jumped v 1 o) (rowed w b x (w * v.found) (o ∷ []))
-  step_one b e =
-      told w o v x false false true b goes_on (le-ltb v.hi o.key high) (sym (wanted_all v o low seeks)) e
-      ∙ rw (one_row b e, found_one)
+-- .. and none where it has no room for one
+pub written_none : (w : ℕ) (x : List ℕ) (n : ℕ) (ns : List Order) → length x < w → written w x n ns ≡ x
+unfolding written row_in
+written_none w x n [] h = refl
+written_none w x n (o ∷ os) h = rw (lt-leb (w * n + w) (length x) (omega arith)) (written_none w x (n + 1) os h)
 
--- .. and more
-rows_join : (w : ℕ) → 12 ≤ w → (b : Bool) (x : List ℕ) (n : ℕ) (o : Order) (os : List Order) → rowed w b (rowed w b x (w * n) (o ∷ [])) (w * (n + 1)) os ≡ rowed w b x (w * n) (o ∷ os)
-unfolding rows
-rows_join w least false x n o os = refl
-rows_join w least true x n o os =
-    let e : w * (n + 1) ≡ w * n + length (node_bytes w o) = omega (arith, node_long w least o, next_row w n) in
-    rw (append-nil, e) (sym (sets_append x (w * n) (node_bytes w o) (nodes_bytes w os)))
+-- the last order that was found
+unfoldable pub last_found : Option Order → List Order → Option Order
+last_found l [] = l
+last_found l (o ∷ os) = last_found (Some o) os
 
-row_room : (w : ℕ) (b : Bool) (x : List ℕ) (a : ℕ) (ns : List Order) → length (rowed w b x a ns) ≡ length x
-row_room w false x a ns = refl
-row_room w true x a ns = length-sets x a (nodes_bytes w ns)
+last_some : (o : Order) (os : List Order) → last_found (Some o) os ≡ Some (last_of o os)
+unfolding last_found last_of
+last_some o [] = refl
+last_some o (p ∷ ps) = last_some p ps
 
--- ALL OF THEM
-pub steps_whole : (w : ℕ) → 12 ≤ w → (o : Order) (os : List Order) (v : Visit) (x : List ℕ) (b : Bool) → v.writes ≡ b → v.seeks ≡ false → v.ended ≡ false → Within v.lo v.hi (o ∷ os) →
-    v.found + suc (length os) ≤ 65535 → (v.writes ≡ true → w * (v.found + suc (length os)) ≤ length x) →
-    steps (o ∷ os) (scan w v x) ≡ scan w (jumped v (suc (length os)) (last_of o os)) (rowed w b x (w * v.found) (o ∷ os))
-unfolding steps last_of
-steps_whole w least o [] v x b eb k g q f r = step_one w o v x k g q.0 q.1 (omega arith) r b eb
-steps_whole w least o (p ∷ ps) v x b eb k g q f r =
-    let n : v.found + 1 + suc (length ps) ≡ v.found + suc (suc (length ps)) = omega arith in
-    let one = step_one w o v x k g q.0 q.1 (omega arith) (λ e. omega (arith, r e, rows_room w (v.found + 1) (v.found + suc (suc (length ps))) (omega arith))) b eb in
-    let y = rowed w b x (w * v.found) (o ∷ []) in
-    let more = steps_whole w least p ps (jumped v 1 o) y b eb k g q.2 (omega arith) (λ e. rw n (omega (arith, r e, row_room w b x (w * v.found) (o ∷ [])))) in
-    ap (steps (p ∷ ps)) one ∙ more ∙ rw (n, rows_join w least b x v.found o (p ∷ ps))
+-- ALL OF THEM are found by a visit that asks for no reserve, if it may find so many
+abbrev pub found_all : Visit → List Order → Visit
+found_all v ns = record { lo = v.lo; hi = v.hi; least = v.least; most = v.most; found = v.found + length ns; last = last_found v.last ns }
+
+pub steps_whole : (w : ℕ) (ns : List Order) (v : Visit) (x : List ℕ) → v.least ≡ 0 → Within v.lo v.hi ns → v.found + length ns ≤ v.most →
+    steps ns (scan w v x) ≡ scan w (found_all v ns) (written w x v.found ns)
+unfolding steps last_found written
+steps_whole w [] v x k q f = rw (add-zero v.found)
+steps_whole w (o ∷ os) v x k q f =
+    let n : v.found + 1 + length os ≡ v.found + suc (length os) = omega arith in
+    let z : 0 ≤ reserve o = omega arith in
+    let low : leb v.least (reserve o) ≡ true = rw k (le-leb 0 (reserve o) z) in
+    let one : step_by o (scan w v x) ≡ scan w (more_found v 1 o) (row_in w x (w * v.found) o) =
+    told w o v x false false true (lt-leb _ _ (omega arith)) (le-ltb v.hi o.key q.1) (sym (wanted_some v o q.0 (reserve o) refl) ∙ low) in
+    ap (steps os) one ∙ steps_whole w os (more_found v 1 o) (row_in w x (w * v.found) o) k q.2 (omega arith) ∙ rw n
 
 -- NODES IN BYTES: the last of them
 last_node : (w : ℕ) (bs : List ℕ) (a j : ℕ) → last_of (node_of w bs a) (nodes_from w j (drop (a + w) bs)) ≡ node_of w bs (a + w * j)
@@ -122,77 +130,48 @@ last_node w bs a (suc j) =
     let e : a + w + w * j ≡ a + w * suc j = omega (arith, mul-suc w j) in
     ap (last_of (node_of w bs a)) (nodes_split w bs (a + w) j) ∙ last_node w bs (a + w) j ∙ ap (node_of w bs) e
 
--- where they stand, and their rows come
-module _ (s : Sizes) (u : ℕ) (eu : u ≡ row s) where
-  pub last_room : (a j n i : ℕ) → i ≡ u * (j - 1) → 0 < j → a + row s * j ≤ n → a + i + row s ≤ n
-  last_room a j n i e h r = omega (arith, e ∙ ap (λ (z : ℕ). z * (j - 1)) eu, rows_one (row s) j h)
-
-  pub whole_room : (j n i m b : ℕ) → i ≡ u * m → b ≡ u * j → row s * (m + j) ≤ n → i + b ≤ n
-  whole_room j n i m b ei eb r = omega (arith, ei ∙ ap (λ (z : ℕ). z * m) eu, eb ∙ ap (λ (z : ℕ). z * j) eu, mul-add (row s) m j)
-
 -- what `visit_whole` gives
 module _ (s : Sizes) (bs : List ℕ) (a j : ℕ) (v : Visit) (x : List ℕ) (k : Known s bs) (w : Whole (row s) bs a j v (length x)) (room : a + row s * j ≤ length bs)
-    (nodes : Row s (orders_in bs) 1 (nodes_from (row s) j (drop a bs))) (u : ℕ) (eu : u ≡ row s) (i : ℕ) (ei : i ≡ u * (j - 1)) (o : Order) (eo : o ≡ node_of (row s) bs (a + i)) where
+    (nodes : Row s (orders_in bs) 1 (nodes_from (row s) j (drop a bs))) (o : Order) (eo : o ≡ node_of (row s) bs (a + row s * (j - 1))) where
+  abbrev all : List Order
+  all = nodes_from (row s) j (drop a bs)
+
   abbrev ns : List Order
   ns = nodes_from (row s) (j - 1) (drop (a + row s) bs)
 
-  parts : nodes_from (row s) j (drop a bs) ≡ node_of (row s) bs a ∷ ns
+  parts : all ≡ node_of (row s) bs a ∷ ns
   parts = nodes_first (row s) bs a j w.some
 
-  many : suc (length ns) ≡ j
-  many = omega (arith, nodes_count (row s) (j - 1) (drop (a + row s) bs), w.some)
+  many : length all ≡ j
+  many = nodes_count (row s) j (drop a bs)
 
-  place : i ≡ row s * (j - 1)
-  place = ei ∙ ap (λ (z : ℕ). z * (j - 1)) eu
-
-  last : last_of (node_of (row s) bs a) ns ≡ o
-  last = last_node (row s) bs a (j - 1) ∙ ap (λ (z : ℕ). node_of (row s) bs (a + z)) (sym place) ∙ sym eo
+  last : last_found v.last all ≡ Some o
+  unfolding last_found
+  last = ap (last_found v.last) parts ∙ last_some (node_of (row s) bs a) ns ∙ ap (λ (z : Order). Some z) (last_node (row s) bs a (j - 1) ∙ sym eo)
 
   rising : Up v.lo (node_of (row s) bs a ∷ ns)
   rising =
-      let u = subst (Up 0) parts (row_up s (orders_in bs) 1 (nodes_from (row s) j (drop a bs)) (orders_up s bs k) nodes) in
+      let u = subst (Up 0) parts (row_up s (orders_in bs) 1 all (orders_up s bs k) nodes) in
       (omega (arith, w.low, key_of (row s) bs a), u.1)
 
   high : (last_of (node_of (row s) bs a) ns).key ≤ v.hi
   high = omega (arith, w.high, ap (λ (q : Order). q.key) (last_node (row s) bs a (j - 1)), key_of (row s) bs (a + row s * (j - 1)))
 
-  together : (b : Bool) → v.writes ≡ b → steps (all_under s bs 0 (nodes_from (row s) j (drop a bs))) (scan (row s) v x) ≡ scan (row s) (jumped v j o) (rowed (row s) b x (row s * v.found) (nodes_from (row s) j (drop a bs)))
+  inside : Within v.lo v.hi all
+  inside = subst (Within v.lo v.hi) (sym parts) (within_last _ _ _ _ rising high)
+
+  together : (z : List ℕ) → z ≡ written (row s) x v.found all → scan (row s) (more_found v j o) z ≡ steps (all_under s bs 0 all) (scan (row s) v x)
   unfolding all_under spread
-  together b eb =
-      ap (λ (z : List Order). steps z (scan (row s) v x)) (each_one (nodes_from (row s) j (drop a bs)) ∙ parts)
-      ∙ steps_whole (row s) (row_least s) (node_of (row s) bs a) ns v x b eb w.counts w.goes_on (within_last _ _ _ _ rising high) (omega (arith, w.few, many)) (λ e. rw many (w.held e))
-      ∙ rw (← parts, last, many)
+  together z ez =
+      sym (ap (λ (q : List Order). steps q (scan (row s) v x)) (each_one all) ∙ steps_whole (row s) all v x w.any inside (omega (arith, w.few, many)) ∙ rw (last, many, ez))
 
-  pub whole_counts : v.writes ≡ false → scan (row s) (jumped v j o) x ≡ steps (all_under s bs 0 (nodes_from (row s) j (drop a bs))) (scan (row s) v x)
-  whole_counts e = sym (together false e)
+  pub whole_counts : length x < row s → (z : List ℕ) → z ≡ x → scan (row s) (more_found v j o) z ≡ steps (all_under s bs 0 all) (scan (row s) v x)
+  whole_counts h z ez = together z (ez ∙ sym (written_none (row s) x v.found all h))
 
-  pub whole_writes : v.writes ≡ true → Bytes bs → (p q : ℕ) → p ≡ u * v.found → q ≡ u * j → (z : List ℕ) → z ≡ sets x p (take q (drop a bs)) →
-      scan (row s) (jumped v j o) z ≡ steps (all_under s bs 0 (nodes_from (row s) j (drop a bs))) (scan (row s) v x)
-  whole_writes e b p q ep eq z ez =
+  pub whole_writes : row s ≤ length x → Bytes bs → (z : List ℕ) → z ≡ sets x (row s * v.found) (take (row s * j) (drop a bs)) →
+      scan (row s) (more_found v j o) z ≡ steps (all_under s bs 0 all) (scan (row s) v x)
+  whole_writes h b z ez =
       let l : length (drop a bs) ≡ length bs - a = length-drop a bs in
-      let p' : p ≡ row s * v.found = ep ∙ ap (λ (c : ℕ). c * v.found) eu in
-      let q' : q ≡ row s * j = eq ∙ ap (λ (c : ℕ). c * j) eu in
-      let here : take q (drop a bs) ≡ nodes_bytes (row s) (nodes_from (row s) j (drop a bs)) =
-      ap (λ (c : ℕ). take c (drop a bs)) q' ∙ sym (nodes_again (row s) (row_least s) j (drop a bs) (omega arith) (bytes_drop a bs b)) in
-      ap (scan (row s) (jumped v j o)) (ez ∙ ap (λ (c : ℕ). sets x c (take q (drop a bs))) p' ∙ ap (sets x (row s * v.found)) here) ∙ sym (together true e)
-
--- what `whole` says
-pub whole_width : (u w : ℕ) (bs : List ℕ) (a j : ℕ) (v : Visit) (m : ℕ) → u ≡ w → Whole u bs a j v m → Whole w bs a j v m
-whole_width u w bs a j v m e h = subst (λ (z : ℕ). Whole z bs a j v m) e h
-
-module _ (w : ℕ) (bs : List ℕ) (a j : ℕ) (v : Visit) (m : ℕ) where
-  pub not_whole : false ≡ true → Whole w bs a j v m
-  not_whole e = absurd (true≢false (sym e))
-
-  module _ (seeks : v.seeks ≡ false) (ended : v.ended ≡ false) (ne : j ≡ 0 → ⊥) (k : ℕ) (ek : k ≡ field (a + w * 0) 4 bs) (lo : v.lo ≤ k) (h : ℕ) (eh : h ≡ field (a + w * (j - 1)) 4 bs) (hi : h ≤ v.hi)
-      (few : v.found + j ≤ 65535) where
-    made : (v.writes ≡ true → w * (v.found + j) ≤ m) → Whole w bs a j v m
-    made f =
-        let first : k ≡ field a 4 bs = ek ∙ rw (mul-zero, add-zero) in
-        record { counts = seeks; goes_on = ended; some = pos_of_ne-zero ne; low = omega arith; high = omega arith; few = few; held = f }
-
-    pub whole_counted : v.writes ≡ false → Whole w bs a j v m
-    whole_counted e = made (λ p. absurd (true≢false (sym p ∙ e)))
-
-    pub whole_written : (r : ℕ) → r ≡ w * (v.found + j) → leb r m ≡ true → Whole w bs a j v m
-    whole_written r er e = made (λ p. omega (arith, leb-true r m e))
+      let here : take (row s * j) (drop a bs) ≡ nodes_bytes (row s) all = sym (nodes_again (row s) (row_least s) j (drop a bs) (omega arith) (bytes_drop a bs b)) in
+      let held : row s * (v.found + length all) ≤ length x = rw many (w.held h) in
+      together z (ez ∙ ap (sets x (row s * v.found)) here ∙ sym (written_room (row s) (row_least s) x v.found all held))

@@ -54,6 +54,3 @@ offset_end i m w n e h = rw e (omega (arith, block_end i m w h))
 -- as `be2` and `be4` ask
 pub two_bytes : (bs : List ℕ) (a v r : ℕ) → a + 2 ≤ length bs → v ≡ get_or bs a 0 → r ≡ 256 * v + get_or bs (a + 1) 0 → r ≡ field a 2 bs
 two_bytes bs a v r h e e' = omega (arith, field_two bs a h)
-
-pub four_bytes : (bs : List ℕ) (a u v w r : ℕ) → a + 4 ≤ length bs → u ≡ get_or bs a 0 → v ≡ 256 * u + get_or bs (a + 1) 0 → w ≡ 256 * v + get_or bs (a + 2) 0 → r ≡ 256 * w + get_or bs (a + 3) 0 → r ≡ field a 4 bs
-four_bytes bs a u v w r h e₀ e₁ e₂ e₃ = omega (arith, field_four bs a h)

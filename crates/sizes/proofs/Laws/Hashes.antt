@@ -1,31 +1,24 @@
 -- Laws of hashes and levels.
 use mathlib.Core.Path.{◌≡◌, refl, sym, ap, ◌∙◌}
-use mathlib.Core.List.{List, [], ◌∷◌}
-use mathlib.Core.Bool.{Bool, true, false, cond}
+use mathlib.Core.List.{List}
+use mathlib.Core.Bool.{Bool, true, false}
 use Prim.Native.Nat.{ℕ, zero, suc, ◌+◌, ◌*◌, ◌-◌, ◌%◌, ◌^◌, ◌≤◌, ◌<◌}
 use native.Mathlib.Omega.{arith}
-use native.Mathlib.Decide.{dec_lt}
 use native.Mathlib.Numerals.{add-one, one-add, unary_clauses}
 use native.Mathlib.Nat.{zero-add, add-zero, add_assoc, one-mul, mul-zero, mul-add, mul_assoc, mul_comm, mul-le-mul, mod-lt, mod-mod, pow-succ'}
-use lib.Dec.{leb, ltb, eqb}
+use lib.Dec.{leb, eqb}
 use lib.ListN.{get_or}
-use borrow.Author.Tests.{eq-eqb, ne_eqb, le-leb, lt-leb, ltb-true, eqb-true, eqb-false}
+use borrow.Author.Tests.{eq-eqb, ne_eqb, le-leb, lt-leb, eqb-true, eqb-false}
 use mir.Val.{Fits}
 use mir.Syntax.{w32, w64}
+use Rattle.std.proofs.lemmas.Bool.Decides.{nat_tests}
 use Rattle.sizes.specs.declared.Sizes.{Sizes}
 use Rattle.sizes.specs.Sizes.{prime, least_power, beta, seed_good}
 use Rattle.sizes.specs.Hash.{hash_from, divides_from, level}
 use Rattle.sizes.specs.Hash as hashes
 use Rattle.sizes.specs.Powers.{Powers, Ready}
 use Rattle.sizes.proofs.Laws.Powers.{mod_product, mod_sum, pow_one}
-use Rattle.sizes.proofs.Laws.Sizes.{and_parts}
-
--- a number of a seed is below p
-pub seed_below : (ss : List ℕ) (i : ℕ) → seed_good ss ≡ true → get_or ss i 0 < 2147483647
-unfolding seed_good
-seed_below [] i e = omega arith
-seed_below (x ∷ ss) zero e = ltb-true x prime (and_parts (ltb x prime) (seed_good ss) e).0
-seed_below (x ∷ ss) (suc i) e = seed_below ss i (and_parts (ltb x prime) (seed_good ss) e).1
+use Rattle.sizes.proofs.Laws.Sizes.{seed_below}
 
 hash_mod : (k i : ℕ) (ss : List ℕ) (x : ℕ) → hash_from k i ss x % 2147483647 ≡ hash_from k i ss x
 unfolding hash_from
@@ -43,13 +36,6 @@ pub record Weighing (s : Sizes) (at x sum i : ℕ) : Type 0 where
   pub room : sum ≤ 18446744067267100671
   pub early : i ≤ 2 → sum ≤ 2147483647 * i + 4611686014132420609 * (i - 1)
   pub is : (sum + x ^ i * hash_from (5 - i) (at + i) s.seed x) % 2147483647 ≡ hash_from 5 at s.seed x
-
--- a sum before its i-th product
-pub ready_early : (sum i : ℕ) → i < 3 → Ready sum i sum
-ready_early sum i l = record { same = refl; early = λ h. refl; late = λ h. absurd (omega arith) }
-
-pub ready_late : (sum i r : ℕ) → 3 ≤ i → r % 2147483647 ≡ sum % 2147483647 → 2147483648 * r ≤ 2147483648 * 2147483647 + sum → Ready sum i r
-ready_late sum i r l e h = record { same = e; early = λ k. absurd (omega arith); late = λ k. h }
 
 -- a product of a seed number and a power
 product : (a q i : ℕ) → a < 2147483647 → q ≤ 1 + 2147483647 * i → a * q ≤ 2147483646 * (1 + 2147483647 * i)
@@ -88,11 +74,7 @@ module _ (s : Sizes) (at x : ℕ) where
 
       module _ (t : ℕ) (r : Ready sum i t) where
         most : t + a * q ≤ 18446744067267100671
-        most = go (dec_lt 2 i)
-          where
-            go : Dec (2 < i) → t + a * q ≤ 18446744067267100671
-            go (yes h) = omega (arith, weighed, weighing_folded t (r.late h))
-            go (no h) = omega (arith, weighed, r.early (omega arith), w.early (omega arith))
+        most = grind (arith, weighed)
 
         pub weighing_sum : Fits w64 (t + a * q)
         weighing_sum = record { fits = omega (arith, most) }
@@ -117,7 +99,7 @@ module _ (s : Sizes) (at x : ℕ) where
     weighing_end t v h e ev =
         let f : i ≡ 5 = omega (arith, w.within) in
         let z : hash_from (5 - i) (at + i) s.seed x ≡ 0 = rw f in
-        ev ∙ e ∙ rw (z, mul-zero, add-zero) at w.is
+        ev ∙ e ∙ rw (z, mul-zero (x ^ i), add-zero) at w.is
 
 pub least_fits : (p n c : ℕ) → p < n → n ≤ 65535 → c ≤ 64 → Fits w32 (p * c)
 least_fits p n c h hn hc = record { fits = omega (arith, mul-le-mul {n₂ = 65535} {m₂ = 64} (small p n h hn) hc) }
@@ -194,40 +176,27 @@ divides_first v c t et e = eqb-true _ _ (sym et ∙ e)
 divides_least : (m j c v : ℕ) → j ≤ divides_from m j c v
 unfolding divides_from
 divides_least zero j c v = omega arith
-divides_least (suc m) j c v = go (divides_least m (suc j) c v) (eqb (v % c ^ suc j) 0)
-  where
-    go : suc j ≤ divides_from m (suc j) c v → (t : Bool) → j ≤ cond t (divides_from m (suc j) c v) j
-    go ih true = omega arith
-    go ih false = omega arith
+divides_least (suc m) j c v =
+    let h = divides_least m (suc j) c v in
+    grind (arith, nat_tests)
 
 divides_capped : (k m j c v : ℕ) → k ≤ m → eqb (divides_from (suc m) j c v) (j + k) ≡ eqb (divides_from (suc k) j c v) (j + k)
 unfolding divides_from
-divides_capped zero m j c v l = go (eqb (v % c ^ suc j) 0)
-  where
-    go : (t : Bool) → eqb (cond t (divides_from m (suc j) c v) j) (j + 0) ≡ eqb (cond t (suc j) j) (j + 0)
-    go true = ne_eqb (divides_from m (suc j) c v) (j + 0) (λ q. omega (arith, divides_least m (suc j) c v)) ∙ sym (ne_eqb (suc j) (j + 0) (λ q. omega arith))
-    go false = refl
+divides_capped zero m j c v l =
+    let h = divides_least m (suc j) c v in
+    grind (arith, nat_tests)
 divides_capped (suc k) zero j c v l = absurd (omega arith)
-divides_capped (suc k) (suc m) j c v l = go (divides_capped k m (suc j) c v (omega arith)) (eqb (v % c ^ suc j) 0)
-  where
-    go : eqb (divides_from (suc m) (suc j) c v) (suc j + k) ≡ eqb (divides_from (suc k) (suc j) c v) (suc j + k)
-        → (t : Bool) → eqb (cond t (divides_from (suc m) (suc j) c v) j) (j + suc k) ≡ eqb (cond t (divides_from (suc k) (suc j) c v) j) (j + suc k)
-    go ih true = let e : j + suc k ≡ suc j + k = omega arith in rw e ih
-    go ih false = refl
+divides_capped (suc k) (suc m) j c v l =
+    let h : eqb (divides_from (suc m) (suc j) c v) (j + suc k) ≡ eqb (divides_from (suc k) (suc j) c v) (j + suc k) =
+    let e : j + suc k ≡ suc j + k = omega arith in
+    rw e (divides_capped k m (suc j) c v (omega arith)) in
+    grind (arith, nat_tests)
 
 eqb_swap : (a b : ℕ) → eqb a b ≡ eqb b a
-eqb_swap a b = go (eqb b a) refl
-  where
-    go : (t : Bool) → eqb b a ≡ t → eqb a b ≡ t
-    go true e = eq-eqb a b (sym (eqb-true b a e))
-    go false e = ne_eqb a b (λ q. eqb-false b a e (sym q))
+eqb_swap a b = grind (arith, nat_tests)
 
 one_less : (a l : ℕ) → 1 ≤ l → eqb (suc a) l ≡ eqb a (l - 1)
-one_less a l h = go (eqb a (l - 1)) refl
-  where
-    go : (t : Bool) → eqb a (l - 1) ≡ t → eqb (suc a) l ≡ t
-    go true e = eq-eqb (suc a) l (omega (arith, eqb-true a (l - 1) e))
-    go false e = ne_eqb (suc a) l (λ q. eqb-false a (l - 1) e (omega arith))
+one_less a l h = grind (arith, nat_tests)
 
 module _ (s : Sizes) (b l v x d : ℕ) (nz : 0 < x) (eb : b ≡ beta s) (ev : v ≡ hash_from 5 0 s.seed x) where
   is : level s x ≡ suc (divides_from (b - 1) 0 s.gamma v)
@@ -256,3 +225,12 @@ module _ (s : Sizes) (b l v x d : ℕ) (nz : 0 < x) (eb : b ≡ beta s) (ev : v 
       rw zero-add at (divides_capped (l - 1) (b - 2) 0 s.gamma v (omega (arith, ne))) in
       let q : d ≡ divides_from (suc (l - 1)) 0 s.gamma v = f ∙ ap (λ (z : ℕ). divides_from z 0 s.gamma v) k in
       rw (one-add, is, e) (one_less d l lo ∙ rw q (sym r) ∙ sym (one_less _ l lo))
+
+-- what `weigh`, `least`, `level_of` and `has_level` ask
+pub ruleset weighing = (weighing_start, weighing_folded, weighing_fits, weighing_sum, weighing_end)
+
+pub ruleset growing = (growing_start, growing_end, least_fits)
+
+pub ruleset levels = (level_front, level_first, level_key, level_small, beta_some, beta_more)
+
+pub ruleset exact_levels = (level_not, level_more, level_top, beta_more, divides_first)

@@ -1,16 +1,12 @@
--- Headers written: a number byte by byte, the values of the fields, and all seventeen in turn.
-use mathlib.Core.Logic.{inl}
+-- Headers written: the values of the fields, and all seventeen in turn.
 use mathlib.Core.Path.{◌≡◌, refl, ap, sym, ◌∙◌}
 use mathlib.Core.List.{List, [], ◌∷◌, ◌++◌, append_assoc, append-nil}
 use mathlib.Core.Bool.{true}
-use Prim.Native.Nat.{ℕ, zero, suc, ◌+◌, ◌*◌, ◌-◌, ◌/◌, ◌%◌, ◌^◌, ◌≤◌, ◌<◌}
-use native.Mathlib.Numerals.{add-one, unary_clauses}
-use native.Mathlib.Nat.{pow-succ', mul_comm, zero-add, div-one, div-div-eq-div-mul, mod-eq_of_lt}
+use Prim.Native.Nat.{ℕ, zero, suc, ◌+◌, ◌-◌, ◌/◌, ◌%◌, ◌≤◌, ◌<◌}
+use native.Mathlib.Numerals.{add-one}
+use native.Mathlib.Nat.{zero-add, div-one, mod-eq_of_lt}
 use native.Mathlib.Omega.{arith}
-use lib.Arith.{lt_of_le-ne}
-use mir.Val.{Fits}
-use mir.Syntax.{w64}
-use lib.ListN.{length, get_or, set, take, drop, length-append, length-set}
+use lib.ListN.{length, get_or, take, drop, length-append}
 use lib.Seq.{sets, sets-eq, length-sets, take-suc, take_all}
 use Rattle.sizes.specs.declared.Sizes.{Sizes}
 use Rattle.sizes.specs.Numbers.{big, rows}
@@ -18,79 +14,11 @@ use Rattle.sizes.specs.Sizes.{made}
 use Rattle.sizes.specs.Header.{header_at, header_wide, table_long, header, header_value}
 use Rattle.sizes.proofs.Laws.Sizes.{Limits, limits}
 use Rattle.sizes.proofs.Laws.Numbers.{length_big}
-use Rattle.sizes.proofs.Laws.Parts.{set_sets, sets_append}
+use Rattle.sizes.proofs.Laws.Parts.{sets_append}
 use Rattle.sizes.proofs.Laws.Headers.{header_long}
 use Rattle.sizes.proofs.Laws.HeaderLoops.{header_next, seed_wide}
 
--- A NUMBER WRITTEN: what the loop of `put` keeps, from the low end on
-pub record Putting (l : List ℕ) (a n v : ℕ) (s : List ℕ) (w k : ℕ) : Type 0 where
-  pub within : k ≤ n
-  pub same : length s ≡ length l
-  pub rest : w ≡ v / 256 ^ k
-  pub is : s ≡ sets l (a + (n - k)) (big k v)
-
-module _ (l : List ℕ) (a n v : ℕ) where
-  pub putting_start : Putting l a n v l v 0
-  unfolding big
-  putting_start = record { within = omega arith; same = refl; rest = simp (unary_clauses, div-one); is = refl }
-
-  module _ (s : List ℕ) (w k : ℕ) (p : Putting l a n v s w k) where
-    pub putting_more : k < n → Putting l a n v (set s (a + (n - (k + 1))) (w % 256)) (w / 256) (k + 1)
-    unfolding big
-    putting_more h =
-        let e : a + (n - k) ≡ suc (a + (n - suc k)) = omega arith in
-        record {
-          within = omega arith;
-          same = length-set s _ _ ∙ p.same;
-          rest = rw (add-one, pow-succ', mul_comm 256 (256 ^ k), ← div-div-eq-div-mul, p.rest);
-          is = rw (add-one, p.is, e, p.rest) (set_sets l (suc (a + (n - suc k))) (big k v) (a + (n - suc k)) _ (inl (omega arith)));
-        }
-
-    pub putting_end : n ≤ k → s ≡ sets l a (big n v)
-    putting_end h =
-        let e : k ≡ n = omega (arith, p.within) in
-        let f : a + (n - n) ≡ a = omega arith in
-        p.is ∙ rw (e, f)
-
 -- THE VALUES OF THE FIELDS
-module _ (s : Sizes) (n k : ℕ) where
-  pub value_0 : k ≡ 0 → s.version ≡ header_value s n k
-  unfolding header_value
-  value_0 e = rw e
-
-  pub value_1 : (v : ℕ) → k ≡ 1 → v ≡ table_long s → v ≡ header_value s n k
-  unfolding header_value
-  value_1 v e ev = rw e ev
-
-  pub value_2 : k ≡ 2 → s.gamma ≡ header_value s n k
-  unfolding header_value
-  value_2 e = rw e
-
-  pub value_3 : k ≡ 3 → s.nodes ≡ header_value s n k
-  unfolding header_value
-  value_3 e = rw e
-
-  pub value_4 : k ≡ 4 → s.orders ≡ header_value s n k
-  unfolding header_value
-  value_4 e = rw e
-
-  pub value_5 : k ≡ 5 → s.blocks ≡ header_value s n k
-  unfolding header_value
-  value_5 e = rw e
-
-  pub value_6 : k ≡ 6 → n ≡ header_value s n k
-  unfolding header_value
-  value_6 e = rw e
-
-  above : (j : ℕ) → j ≤ k → (k ≡ j → ⊥) → suc j ≤ k
-  above j h ne = lt_of_le-ne h (λ e. ne (sym e))
-
-  least : 0 ≤ k
-  least = omega arith
-
-  pub value_last : (k ≡ 0 → ⊥) → (k ≡ 1 → ⊥) → (k ≡ 2 → ⊥) → (k ≡ 3 → ⊥) → (k ≡ 4 → ⊥) → (k ≡ 5 → ⊥) → (k ≡ 6 → ⊥) → 7 ≤ k
-  value_last n0 n1 n2 n3 n4 n5 n6 = above 6 (above 5 (above 4 (above 3 (above 2 (above 1 (above 0 least n0) n1) n2) n3) n4) n5) n6
-
 abbrev past_six : ℕ → ℕ
 past_six i = suc (suc (suc (suc (suc (suc (suc i))))))
 
@@ -100,12 +28,6 @@ seven i = omega arith
 pub value_past : (s : Sizes) (n i : ℕ) → header_value s n (7 + i) ≡ get_or s.seed i 0
 unfolding header_value
 value_past s n i = rw (seven i)
-
-pub seed_index : (k : ℕ) → k < 17 → k - 7 < 10
-seed_index k h = omega arith
-
-pub seed_fits : (k : ℕ) → k < 17 → Fits w64 ((k - 7) * 4)
-seed_fits k h = record { fits = omega arith }
 
 pub value_seed : (s : Sizes) (n k : ℕ) → 7 ≤ k → get_or s.seed (k - 7) 0 ≡ header_value s n k
 value_seed s n k h =
@@ -191,3 +113,6 @@ module _ (s : Sizes) (m : made s ≡ true) where
 
   pub made_blocks : s.blocks ≤ 65535
   made_blocks = (limits s m).blocks_most
+
+-- what `Header::write` asks
+pub ruleset writing = (heading_end, made_nodes, made_blocks)

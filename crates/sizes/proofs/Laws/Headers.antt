@@ -2,12 +2,13 @@
 use mathlib.Core.Path.{◌≡◌, refl, sym, ap, ◌∙◌}
 use mathlib.Core.Bool.{true}
 use mathlib.Core.List.{List, [], ◌∷◌, ◌++◌, append-nil}
-use Prim.Native.Nat.{ℕ, zero, suc, ◌+◌, ◌*◌, ◌≤◌, ◌<◌}
+use Prim.Native.Nat.{ℕ, zero, suc, ◌+◌, ◌*◌, ◌≤◌}
 use native.Mathlib.Omega.{arith}
 use lib.Dec.{ltb}
-use lib.ListN.{length, get_or, set, drop, length-drop, length-set}
+use lib.ListN.{length, set, drop, length-drop, length-set}
 use lib.Seq.{sets, set-append_left, drop-append-le}
 use borrow.Author.Tests.{ltb-true}
+use Rattle.std.proofs.lemmas.List.{get_or_append_left}
 use Rattle.sizes.specs.declared.Sizes.{Sizes}
 use Rattle.sizes.specs.Sizes.{prime, seed_good}
 use Rattle.sizes.specs.Numbers.{big, field}
@@ -59,11 +60,6 @@ count_sizes hd k =
     let e : length (big 2 k) ≡ 2 = length_big 2 k in
     rw (get_d_sets_before hd 11 (big 2 k) 0 0 (omega arith), get_d_sets_before hd 11 (big 2 k) 5 0 (omega arith), get_d_sets_before hd 11 (big 2 k) 6 0 (omega arith), part_before 2 7 hd 11 (big 2 k) (omega arith), part_before 2 9 hd 11 (big 2 k) (omega arith), drop_sets 13 hd 11 (big 2 k) (omega arith))
 
-get_d_append_left : (x y : List ℕ) (i d : ℕ) → i < length x → get_or (x ++ y) i d ≡ get_or x i d
-get_d_append_left [] y i d h = absurd (omega arith)
-get_d_append_left (a ∷ x) y zero d h = refl
-get_d_append_left (a ∷ x) y (suc i) d h = get_d_append_left x y i d (omega arith)
-
 -- THE SIZES that a table has are those of its header
 seed_head : (k : ℕ) (hd x : List ℕ) → 4 * k ≤ length hd → seed_in k (hd ++ x) ≡ seed_in k hd
 unfolding rows_in
@@ -77,4 +73,4 @@ pub sizes_head : (hd x : List ℕ) → length hd ≡ 53 → sizes_in (hd ++ x) �
 unfolding sizes_in
 sizes_head hd x e =
     let f : drop 13 (hd ++ x) ≡ drop 13 hd ++ x = drop-append-le 13 hd x (omega arith) in
-    rw (get_d_append_left hd x 0 0 (omega arith), get_d_append_left hd x 5 0 (omega arith), get_d_append_left hd x 6 0 (omega arith), field_head 7 2 hd x (omega arith), field_head 9 2 hd x (omega arith), f, seed_head 10 (drop 13 hd) x (simp length-drop (omega arith)))
+    rw (get_or_append_left hd x 0 0 (omega arith), get_or_append_left hd x 0 5 (omega arith), get_or_append_left hd x 0 6 (omega arith), field_head 7 2 hd x (omega arith), field_head 9 2 hd x (omega arith), f, seed_head 10 (drop 13 hd) x (simp length-drop (omega arith)))

@@ -2,14 +2,17 @@
 use mathlib.Core.Path.{◌≡◌, refl, sym, ap, ◌∙◌, subst}
 use mathlib.Core.List.{List, [], ◌∷◌, ◌++◌}
 use Prim.Native.Nat.{ℕ, zero, suc, ◌+◌, ◌*◌, ◌-◌, ◌/◌, ◌%◌, ◌^◌, ◌≤◌, ◌<◌}
-use native.Mathlib.Nat.{zero-mul, zero-add, suc-add, add_assoc, pow-succ', one-le-pow, add-mul, mul_comm, mul_assoc, mod-eq_of_lt}
+use native.Mathlib.Nat.{zero-mul, zero-add, add_assoc, pow-succ', one-le-pow, add-mul, mul_comm, mul_assoc, mod-eq_of_lt, div-one}
 use native.Mathlib.Omega.{arith}
 use lib.Arith.{mod-mul, digits_lt, digits_div}
 use lib.Dec.{lit<}
 use lib.ListN.{length, take, drop, length-drop}
-use lib.Seq.{take_at, drop-drop, take-nil, take-take, take-append-le, drop-append-le, drop-append-add, take-add}
+use lib.Seq.{sets, take_at, drop-drop, take-take, take-append-le, drop-append-le, take-add}
+pub use Rattle.std.proofs.lemmas.List.{drop-take as drop_take}
+use borrow.Rule.Slice.PartMut.{put_mid}
+use Rattle.std.specs.Int.{w32, to_be_bytes}
 use Rattle.sizes.specs.Numbers.{big, value_from, field}
-use Rattle.sizes.proofs.Laws.Parts.{length_part}
+use Rattle.sizes.proofs.Laws.Parts.{part_written, length_part}
 
 -- one law for every width: what n bytes of v say is v, up to 256^n
 pub value_big : (n a v : ℕ) → value_from a (big n v) ≡ a * 256 ^ n + v % 256 ^ n
@@ -24,6 +27,19 @@ unfolding big
 length_big zero v = refl
 length_big (suc k) v = ap suc (length_big k v)
 
+-- the last n bytes of four, written over a list
+last_bytes : (n v : ℕ) → n ≤ 4 → take (4 - (4 - n)) (drop (4 - n) (to_be_bytes w32 v)) ≡ big n v
+unfolding big
+last_bytes zero v h = refl
+last_bytes (suc zero) v h = simp div-one
+last_bytes (suc (suc zero)) v h = simp div-one
+last_bytes (suc (suc (suc zero))) v h = simp div-one
+last_bytes (suc (suc (suc (suc zero)))) v h = simp div-one
+last_bytes (suc (suc (suc (suc (suc n))))) v h = absurd (omega arith)
+
+pub put_last : (l ys : List ℕ) (a n v : ℕ) → a + n ≤ length l → n ≤ 4 → ys ≡ take (4 - (4 - n)) (drop (4 - n) (to_be_bytes w32 v)) → put_mid a (a + n - a) l ys ≡ sets l a (big n v)
+put_last l ys a n v h k e = part_written l a n (big n v) h (length_big n v) ys (e ∙ last_bytes n v k)
+
 pub field_big : (n v : ℕ) (r : List ℕ) → v < 256 ^ n → field 0 n (big n v ++ r) ≡ v
 unfolding field
 field_big n v r l = rw (take_at (big n v) r n (length_big n v), value_big n 0 v, zero-mul, zero-add) (mod-eq_of_lt l)
@@ -32,16 +48,6 @@ field_big n v r l = rw (take_at (big n v) r n (length_big n v), value_big n 0 v,
 pub field_drop : (a n b : ℕ) (bs : List ℕ) → field a n (drop b bs) ≡ field (b + a) n bs
 unfolding field
 field_drop a n b bs = rw drop-drop
-
-pub field_past : (x y : List ℕ) (a n : ℕ) → field (length x + a) n (x ++ y) ≡ field a n y
-unfolding field
-field_past x y a n = rw drop-append-add
-
--- a part of a beginning
-pub drop_take : {A : Type 0} (a c : ℕ) (l : List A) → drop a (take (a + c) l) ≡ take c (drop a l)
-drop_take zero c l = rw zero-add
-drop_take (suc a) c [] = rw (suc-add, take-nil)
-drop_take (suc a) c (x ∷ l) = rw suc-add (drop_take a c l)
 
 pub field_part : (a n w b : ℕ) (bs : List ℕ) → a + n ≤ w → field a n (take w (drop b bs)) ≡ field (b + a) n bs
 unfolding field

@@ -1,9 +1,10 @@
 -- Laws of 2^32 over d, rounded up, which stands in for a division by d.
 use mathlib.Core.Path.{◌≡◌, refl, sym, ap, ◌∙◌}
+use mathlib.Core.Logic.{◌⊎◌, inl, inr}
 use mathlib.Core.Bool.{Bool, true, false}
-use Prim.Native.Nat.{ℕ, ◌+◌, ◌*◌, ◌-◌, ◌/◌, ◌%◌, ◌≤◌, ◌<◌}
+use Prim.Native.Nat.{ℕ, suc, ◌+◌, ◌*◌, ◌-◌, ◌/◌, ◌%◌, ◌≤◌, ◌<◌}
 use native.Mathlib.Omega.{arith}
-use native.Mathlib.Nat.{div-add-mod', mod-lt, div-lt_iff_lt-mul, mul-le-mul, mul-add, add-mul, mul_assoc, mul_comm, one-mul, mul-mod_left, le_refl}
+use native.Mathlib.Nat.{div-add-mod', mod-lt, div-lt_iff_lt-mul, mul-le-mul, mul-add, add-mul, mul_assoc, mul_comm, suc-mul, mul-mod_left, le_refl}
 use lib.Dec.{eqb}
 use borrow.Author.Tests.{eq-eqb, ne_eqb, eqb-true, eqb-false}
 use Rattle.sizes.specs.Numbers.{over}
@@ -64,40 +65,36 @@ module _ (x d u : ℕ) (pos : 0 < d) (eu : u ≡ over d) where
 pub over_fits : (x d u : ℕ) → x ≤ 4294967295 → 0 < d → u ≡ over d → x * u ≤ 4294967295 * 4294967296
 over_fits x d u h pos eu = mul-le-mul {m₂ = 4294967296} h (rw eu (over_small d pos))
 
-pub times_fits : (q d : ℕ) → q < 4294967296 → d ≤ 4294967295 → q * d ≤ 4294967295 * 4294967295
-times_fits q d h k = mul-le-mul {n₂ = 4294967295} (omega arith) k
-
 module _ (x d u q : ℕ) (pos : 0 < d) (eu : u ≡ over d) (eq : q ≡ x * u / 4294967296) where
   pub divides_says : x ≤ 4294967295 → eqb (q * d) x ≡ eqb (x % d) 0
   divides_says h = go (eqb (x % d) 0) refl
     where
       go : (t : Bool) → eqb (x % d) 0 ≡ t → eqb (q * d) x ≡ t
       go true e =
-          let z = eqb-true _ _ e in
+          let z : x % d ≡ 0 = eqb-true _ _ e in
           eq-eqb (q * d) x (omega (arith, ap (λ (i : ℕ). i * d) (exact x d u pos eu q eq h z), whole x d u pos eu, z))
       go false e = ne_eqb _ _ (λ f. eqb-false _ _ e (ap (λ (i : ℕ). i % d) (sym f) ∙ mul-mod_left q d))
 
   module _ (h : x < 2147483648) (k : d ≤ 65535) where
-    one_more : m x d u pos eu < q → q * d ≡ x / d * d + d
-    one_more l =
-        let e : q ≡ x / d + 1 = omega (arith, (nearly x d u pos eu q eq h k).1) in
-        ap (λ (i : ℕ). i * d) e ∙ add-mul (x / d) 1 d ∙ ap (λ (i : ℕ). x / d * d + i) (one-mul d)
-
-    as_much : q ≤ x / d → q * d ≡ x / d * d
-    as_much l = ap (λ (i : ℕ). i * d) (omega (arith, (nearly x d u pos eu q eq h k).0))
-
-    pub remainder_less : x < q * d → (q * d ≤ x + d) × (x + d - q * d ≡ x % d)
-    remainder_less l = go (which q (x / d))
+    -- the product is the largest multiple of d up to x, or d more
+    product_is : (q * d ≡ x / d * d) ⊎ (q * d ≡ x / d * d + d)
+    product_is = go (which q (x / d))
       where
-        go : Which q (x / d) → (q * d ≤ x + d) × (x + d - q * d ≡ x % d)
-        go (less f) = absurd (omega (arith, as_much (omega arith), div-add-mod' x d))
-        go (same f) = absurd (omega (arith, as_much (omega arith), div-add-mod' x d))
-        go (more f) = (omega (arith, one_more f, div-add-mod' x d), omega (arith, one_more f, div-add-mod' x d))
+        go : Which q (x / d) → (q * d ≡ x / d * d) ⊎ (q * d ≡ x / d * d + d)
+        go (less f) = absurd (omega (arith, (nearly x d u pos eu q eq h k).0))
+        go (same f) = inl (rw f)
+        go (more f) =
+            let e : q ≡ suc (x / d) = omega (arith, (nearly x d u pos eu q eq h k).1) in
+            inr (rw (e, suc-mul))
+
+    pub remainder_room : x < q * d → q * d ≤ x + d
+    remainder_room l = omega (arith, product_is, div-add-mod' x d)
+
+    pub remainder_less : x < q * d → x + d - q * d ≡ x % d
+    remainder_less l = omega (arith, product_is, div-add-mod' x d)
 
     pub remainder_more : q * d ≤ x → x - q * d ≡ x % d
-    remainder_more l = go (which q (x / d))
-      where
-        go : Which q (x / d) → x - q * d ≡ x % d
-        go (less f) = omega (arith, as_much (omega arith), div-add-mod' x d)
-        go (same f) = omega (arith, as_much (omega arith), div-add-mod' x d)
-        go (more f) = absurd (omega (arith, one_more f, div-add-mod' x d, mod-lt x pos))
+    remainder_more l = omega (arith, product_is, div-add-mod' x d, mod-lt x pos)
+
+-- what `remainder` asks
+pub ruleset remainders = (remainder_room, remainder_less, remainder_more)

@@ -1,16 +1,15 @@
 -- Laws of bytes written over a list from a place on (`sets` of `lib.Seq`), and of the parts of the list afterwards.
-use mathlib.Core.Path.{◌≡◌, refl, ap, sym, ◌∙◌}
+use mathlib.Core.Path.{◌≡◌, refl, sym, ◌∙◌}
 use mathlib.Core.Logic.{◌≢◌, ◌⊎◌, inl, inr, ⊎_elim}
-use mathlib.Core.Bool.{Bool, true, false}
 use mathlib.Core.List.{List, [], ◌∷◌, ◌++◌}
 use Prim.Native.Nat.{ℕ, suc, ◌+◌, ◌*◌, ◌-◌, ◌≤◌, ◌<◌}
-use native.Mathlib.Numerals.{add-one}
 use native.Mathlib.Omega.{arith}
 use native.Mathlib.Nat.{mul-le-mul_right, add-zero, add-suc, suc-add}
-use lib.Dec.{ltb}
-use lib.ListN.{replicate, get_or-replicate, length, get_or, set, take, drop, length-take, length-drop, length-set}
-use lib.Seq.{sets, set_comm, take_all, take-set-le, drop-set-lt, drop-set-add, get_or-set_other, take-suc, length-take-le, get_or-take, get_or-drop}
-use borrow.Author.Tests.{ltb-true, ltb-false}
+use lib.ListN.{replicate, length, get_or, set, take, drop, length-take, length-drop}
+use lib.Seq.{sets-eq, sets, set_comm, take_all, take-set-le, drop-set-lt, drop-set-add, get_or-set_other, get_or-take, get_or-drop}
+use borrow.Rule.Slice.PartMut.{put_mid}
+use Rattle.std.specs.List.{copy_within}
+use Rattle.std.proofs.lemmas.Slice.{put_mid-paste}
 use Rattle.sizes.specs.Parts.{Apart, Forward, block_in, put_block, clear_in, copy_in, swap_in}
 use Rattle.sizes.proofs.Laws.Bytes.{block_end}
 
@@ -19,12 +18,6 @@ module _ {A : Type 0} where
   pub sets_append : (l : List A) (a : ℕ) (xs ys : List A) → sets l a (xs ++ ys) ≡ sets (sets l a xs) (a + length xs) ys
   sets_append l a [] ys = rw add-zero
   sets_append l a (x ∷ xs) ys = rw (add-suc, ← suc-add) (sets_append (set l a x) (suc a) xs ys)
-
-  -- a turn of a loop that writes vs: one store more
-  pub sets_more : (l : List A) (a : ℕ) (vs : List A) (k : ℕ) (d : A) → k < length vs → set (sets l a (take k vs)) (a + k) (get_or vs k d) ≡ sets l a (take (k + 1) vs)
-  sets_more l a vs k d h =
-      let e : length (take k vs) ≡ k = length-take-le k vs (omega arith) in
-      sym (rw (add-one, take-suc vs k d, sets_append, e))
 
   pub take_sets : (n : ℕ) (l : List A) (a : ℕ) (vs : List A) → n ≤ a → take n (sets l a vs) ≡ take n l
   take_sets n l a [] h = refl
@@ -42,14 +35,6 @@ module _ {A : Type 0} where
   get_d_sets_before l a [] j d h = refl
   get_d_sets_before l a (v ∷ vs) j d h = get_d_sets_before (set l a v) (suc a) vs j d (omega arith) ∙ get_or-set_other l a j v d (omega arith)
 
-  pub getD_sets_after : (l : List A) (a : ℕ) (vs : List A) (j : ℕ) (d : A) → a + length vs ≤ j → get_or (sets l a vs) j d ≡ get_or l j d
-  getD_sets_after l a [] j d h = refl
-  getD_sets_after l a (v ∷ vs) j d h = getD_sets_after (set l a v) (suc a) vs j d (omega arith) ∙ get_or-set_other l a j v d (omega arith)
-
-  pub getD_sets_out : (l : List A) (a : ℕ) (vs : List A) (j : ℕ) (d : A) → (j < a) ⊎ (a + length vs ≤ j) → get_or (sets l a vs) j d ≡ get_or l j d
-  getD_sets_out l a vs j d (inl h) = get_d_sets_before l a vs j d h
-  getD_sets_out l a vs j d (inr h) = getD_sets_after l a vs j d h
-
   pub set_sets : (l : List A) (a : ℕ) (vs : List A) (j : ℕ) (x : A) → (j < a) ⊎ (a + length vs ≤ j) → set (sets l a vs) j x ≡ sets (set l j x) a vs
   set_sets l a [] j x o = refl
   set_sets l a (v ∷ vs) j x o =
@@ -64,50 +49,16 @@ module _ {A : Type 0} where
       rw (e, drop_sets_add, take_sets)
 
 pub blocks_apart : (i j w : ℕ) → i ≢ j → Apart (53 + i * w) (53 + j * w) w
-blocks_apart i j w ne = go (ltb i j) refl
-  where
-    go : (t : Bool) → ltb i j ≡ t → Apart (53 + i * w) (53 + j * w) w
-    go true t = inl (omega (arith, block_end i j w (ltb-true i j t)))
-    go false t =
-        let h : j < i = omega (arith, ltb-false i j t, ne) in
-        inr (omega (arith, block_end j i w h))
+blocks_apart i j w ne =
+    let h = block_end i j w in
+    let k = block_end j i w in
+    grind arith
 
 pub blocks_forward : (i j w : ℕ) → Forward (53 + i * w) (53 + j * w) w
-blocks_forward i j w = go (ltb i j) refl
-  where
-    go : (t : Bool) → ltb i j ≡ t → Forward (53 + i * w) (53 + j * w) w
-    go true t = inl (omega (arith, block_end i j w (ltb-true i j t)))
-    go false t = inr (omega (arith, mul-le-mul_right w (ltb-false i j t)))
-
--- what a loop keeps that writes vs, of n elements, over l from a on: k of them are written
-pub record Written (l : List ℕ) (a : ℕ) (vs : List ℕ) (n : ℕ) (s : List ℕ) (k : ℕ) : Type 0 where
-  pub within : k ≤ n
-  pub count : length vs ≡ n
-  pub same : length s ≡ length l
-  pub is : s ≡ sets l a (take k vs)
-
-module _ (l : List ℕ) (a : ℕ) (vs : List ℕ) (n : ℕ) where
-  pub written_start : length vs ≡ n → Written l a vs n l 0
-  written_start e = record { within = omega arith; count = e; same = refl; is = refl }
-
-  module _ (s : List ℕ) (k : ℕ) (i : Written l a vs n s k) where
-    pub written_more : k < n → (x : ℕ) → x ≡ get_or vs k 0 → Written l a vs n (set s (a + k) x) (k + 1)
-    written_more h x e =
-        let h' : k < length vs = omega arith in
-        record {
-          within = omega arith;
-          count = i.count;
-          same = length-set s (a + k) x ∙ i.same;
-          is = rw (e, i.is) (sets_more l a vs k 0 h');
-        }
-
-    pub written_end : n ≤ k → s ≡ sets l a vs
-    written_end h = i.is ∙ rw (take_all k vs (omega arith))
-
-    -- an element outside is as it was
-    pub written_out : (j : ℕ) → (j < a) ⊎ (a + k ≤ j) → get_or s j 0 ≡ get_or l j 0
-    written_out j (inl h) = rw i.is (get_d_sets_before l a (take k vs) j 0 h)
-    written_out j (inr h) = rw i.is (getD_sets_after l a (take k vs) j 0 (simp (length-take) (omega arith)))
+blocks_forward i j w =
+    let h = block_end i j w in
+    let k : j ≤ i → j * w ≤ i * w = λ l. mul-le-mul_right w l in
+    grind arith
 
 pub get_d_part : (n b : ℕ) (l : List ℕ) (k : ℕ) → k < n → get_or (take n (drop b l)) k 0 ≡ get_or l (b + k) 0
 get_d_part n b l k h = rw (get_or-take, get_or-drop)
@@ -115,47 +66,27 @@ get_d_part n b l k h = rw (get_or-take, get_or-drop)
 pub length_part : (n b : ℕ) (l : List ℕ) → b + n ≤ length l → length (take n (drop b l)) ≡ n
 length_part n b l h = simp (length-take, length-drop) (omega arith)
 
-pub copied : (l : List ℕ) (from to n : ℕ) (s : List ℕ) (k : ℕ) → Forward from to n → Written l to (take n (drop from l)) n s k → k < n
-    → Written l to (take n (drop from l)) n (set s (to + k) (get_or s (from + k) 0)) (k + 1)
-copied l from to n s k ap i h =
-    written_more l to (take n (drop from l)) n s k i h (get_or s (from + k) 0)
-    (written_out l to (take n (drop from l)) n s k i (from + k) (⊎_elim (λ b. inl (omega arith)) (λ b. inr (omega arith)) ap) ∙ sym (get_d_part n from l k h))
+-- WHAT THE LIBRARY'S METHODS LEAVE of a list is a part written over it. They take a part by where it ends
+pub part_of : {A : Type 0} (a n : ℕ) (l : List A) → take (a + n - a) (drop a l) ≡ take n (drop a l)
+part_of a n l =
+    let e : a + n - a ≡ n = omega arith in
+    rw e
 
--- what a loop keeps that exchanges two parts of n elements
-pub record Exchanged (l : List ℕ) (a b n : ℕ) (s : List ℕ) (k : ℕ) : Type 0 where
-  pub within : k ≤ n
-  pub same : length s ≡ length l
-  pub is : s ≡ sets (sets l a (take k (take n (drop b l)))) b (take k (take n (drop a l)))
+module _ {A : Type 0} (l : List A) (a n : ℕ) (vs : List A) (h : a + n ≤ length l) (e : length vs ≡ n) where
+  pub part_written : (ys : List A) → ys ≡ vs → put_mid a (a + n - a) l ys ≡ sets l a vs
+  part_written ys f =
+      let g : a + length vs ≤ length l = omega arith in
+      put_mid-paste a (a + n - a) l ys vs n f (omega arith) (sym e) ∙ rw (sets-eq vs l a g, e, take_all n vs (omega arith))
 
-module _ (l : List ℕ) (a b n : ℕ) (ha : a + n ≤ length l) (hb : b + n ≤ length l) (o : Apart a b n) where
-  pub exchanged_start : Exchanged l a b n l 0
-  exchanged_start = record { within = omega arith; same = refl; is = refl }
+pub part_copied : (l : List ℕ) (from to n : ℕ) → from + n ≤ length l → to + n ≤ length l → copy_within l from (from + n) to ≡ sets l to (take n (drop from l))
+part_copied l from to n h k =
+    let e : from + n - from ≡ n = omega arith in
+    let f = length_part n from l h in
+    let g : to + length (take n (drop from l)) ≤ length l = omega arith in
+    rw (sets-eq (take n (drop from l)) l to g, f, e)
 
-  module _ (s : List ℕ) (k : ℕ) (i : Exchanged l a b n s k) where
-    pub exchanged_more : k < n → Exchanged l a b n (set (set s (a + k) (get_or s (b + k) 0)) (b + k) (get_or s (a + k) 0)) (k + 1)
-    exchanged_more h =
-        let va : List ℕ = take n (drop a l) in
-        let vb : List ℕ = take n (drop b l) in
-        let ea : length (take k va) ≡ k = length-take-le k va (omega (arith, length_part n a l ha)) in
-        let eb : length (take k vb) ≡ k = length-take-le k vb (omega (arith, length_part n b l hb)) in
-        let oa : (a + k < b) ⊎ (b + length (take k va) ≤ a + k) = ⊎_elim (λ q. inl (omega arith)) (λ q. inr (omega arith)) o in
-        let ob : (b + k < a) ⊎ (a + length (take k vb) ≤ b + k) = ⊎_elim (λ q. inr (omega arith)) (λ q. inl (omega arith)) o in
-        let x : get_or s (a + k) 0 ≡ get_or va k 0 =
-        rw i.is (getD_sets_out (sets l a (take k vb)) b (take k va) (a + k) 0 oa ∙ getD_sets_after l a (take k vb) (a + k) 0 (omega arith)) ∙ sym (get_d_part n a l k h) in
-        let y : get_or s (b + k) 0 ≡ get_or vb k 0 =
-        rw i.is (getD_sets_after (sets l a (take k vb)) b (take k va) (b + k) 0 (omega arith) ∙ getD_sets_out l a (take k vb) (b + k) 0 ob) ∙ sym (get_d_part n b l k h) in
-        record {
-          within = omega arith;
-          same = simp length-set i.same;
-          is =
-              rw (x, y, i.is, set_sets (sets l a (take k vb)) b (take k va) (a + k) (get_or vb k 0) oa, sets_more l a vb k 0 (omega (arith, length_part n b l hb)))
-              (sets_more (sets l a (take (k + 1) vb)) b va k 0 (omega (arith, length_part n a l ha)));
-        }
-
-    pub exchanged_end : n ≤ k → s ≡ sets (sets l a (take n (drop b l))) b (take n (drop a l))
-    exchanged_end h =
-        i.is
-        ∙ rw (take_all k (take n (drop b l)) (omega (arith, length_part n b l hb)), take_all k (take n (drop a l)) (omega (arith, length_part n a l ha)))
+pub part_brought : (l from ys : List ℕ) (a b n : ℕ) → a + n ≤ length l → b + n ≤ length from → ys ≡ take (b + n - b) (drop b from) → put_mid a (a + n - a) l ys ≡ sets l a (take n (drop b from))
+part_brought l from ys a b n h k e = part_written l a n (take n (drop b from)) h (length_part n b from k) ys (e ∙ part_of b n from)
 
 -- as the functions on blocks ask: their parts lie at 53 and as many blocks
 pub forward_at : (i j w n a b : ℕ) → a ≡ 53 + i * w → b ≡ 53 + j * w → n ≡ w → Forward a b n
@@ -175,11 +106,3 @@ copy_made w n bs bs' i j a b ea eb en e = e ∙ rw (ea, eb, en)
 pub swap_made : (w n : ℕ) (bs bs' : List ℕ) (i j a b : ℕ) → a ≡ 53 + i * w → b ≡ 53 + j * w → n ≡ w → bs' ≡ sets (sets bs a (take n (drop b bs))) b (take n (drop a bs)) → bs' ≡ swap_in w bs i j
 unfolding swap_in put_block block_in
 swap_made w n bs bs' i j a b ea eb en e = e ∙ rw (ea, eb, en)
-
-pub filled : (l : List ℕ) (a n : ℕ) (s : List ℕ) (k : ℕ) → Written l a (replicate n 0) n s k → k < n → Written l a (replicate n 0) n (set s (a + k) 0) (k + 1)
-filled l a n s k i h = written_more l a (replicate n 0) n s k i h 0 (sym (get_or-replicate n k 0 0 h))
-
--- as `bring` asks
-pub brought : (l : List ℕ) (to : ℕ) (v : List ℕ) (from n : ℕ) (s : List ℕ) (k : ℕ) → Written l to (take n (drop from v)) n s k → k < n
-    → Written l to (take n (drop from v)) n (set s (to + k) (get_or v (from + k) 0)) (k + 1)
-brought l to v from n s k i h = written_more l to (take n (drop from v)) n s k i h (get_or v (from + k) 0) (sym (get_d_part n from v k h))

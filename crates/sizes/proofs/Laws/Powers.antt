@@ -2,30 +2,24 @@
 -- `powers` keeps, by `power_first` and `power_next`, and `is` of the state that the loop of `higher` keeps.
 use mathlib.Core.Path.{◌≡◌, sym, ap, ◌∙◌}
 use mathlib.Core.List.{List}
-use Prim.Native.Nat.{ℕ, zero, suc, ◌+◌, ◌*◌, ◌-◌, ◌/◌, ◌%◌, ◌^◌, ◌≤◌, ◌<◌}
+use Prim.Native.Nat.{ℕ, zero, suc, ◌+◌, ◌*◌, ◌-◌, ◌%◌, ◌^◌, ◌≤◌, ◌<◌}
 use native.Mathlib.Omega.{arith}
 use native.Mathlib.Numerals.{add-one, unary_clauses}
-use native.Mathlib.Nat.{add-zero, zero-add, add-mul, mul-one, mul_assoc, mul_comm, mul-le-mul, le_refl, mul-add-mod_self_left, div-add-mod, add-mod, mod-mod, mod-eq_of_lt, zero-mod, pow-zero, pow-succ', one-le-pow}
+use native.Mathlib.Nat.{add-zero, zero-add, mul-one, mul_comm, mul-le-mul, add-mod, mod-mod, mod-eq_of_lt, zero-mod, pow-zero, pow-succ', one-le-pow}
 use native.Mathlib.Decide.{dec_lt}
 use lib.ListN.{length, get_or, set, length-set}
 use lib.Seq.{get_or-set_same, get_or-set_other}
 use borrow.Author.Tests.{eq-eqb, ne_eqb}
 use mir.Val.{Fits}
 use mir.Syntax.{w64}
+use Rattle.std.proofs.lemmas.Nat.{mul-mod}
 use Rattle.sizes.specs.Sizes.{prime}
 use Rattle.sizes.specs.Hash.{divides_from}
 use Rattle.sizes.specs.Powers.{Power, Powers}
 
 -- NUMBERS MOD m: in a product, and in a sum, a number may be replaced by one that is equal mod m
-mod_factor : (a b m : ℕ) → a * b % m ≡ a % m * b % m
-mod_factor a b m =
-    ap (λ (z : ℕ). z * b % m) (sym (div-add-mod a m)) ∙ rw (add-mul, mul_assoc) (mul-add-mod_self_left m (a / m * b) (a % m * b))
-
 pub mod_product : (a b c d m : ℕ) → a % m ≡ c % m → b % m ≡ d % m → a * b % m ≡ c * d % m
-mod_product a b c d m e f =
-    let u : a * b % m ≡ c * b % m = mod_factor a b m ∙ rw e (sym (mod_factor c b m)) in
-    let w : b * c % m ≡ d * c % m = mod_factor b c m ∙ rw f (sym (mod_factor d c m)) in
-    u ∙ rw (mul_comm c b, mul_comm c d) w
+mod_product a b c d m e f = mul-mod a b m ∙ rw (e, f) (sym (mul-mod c d m))
 
 pub mod_sum : (a b c d m : ℕ) → a % m ≡ c % m → b % m ≡ d % m → (a + b) % m ≡ (c + d) % m
 mod_sum a b c d m e f = add-mod a b m ∙ rw (e, f) (sym (add-mod c d m))
@@ -44,16 +38,6 @@ power_next x i q y r h ey er hr =
       is = er ∙ mod_product q y (x ^ i) x prime h.is e ∙ rw (add-one, pow-succ', mul_comm x (x ^ i));
       small = omega (arith, h.small);
     }
-
--- `times`: the product fits, and folded it has grown by less than 2^31
-power_most : (q y : ℕ) → y < 2147483647 → q * y ≤ q * 2147483646
-power_most q y h = mul-le-mul (le_refl q) (omega arith)
-
-pub power_fits : (q y : ℕ) → y < 2147483647 → q ≤ 8589934589 → Fits w64 (q * y)
-power_fits q y hy hq = record { fits = omega (arith, power_most q y hy) }
-
-pub power_small : (q y r : ℕ) → y < 2147483647 → 2147483648 * r ≤ 2147483648 * 2147483647 + q * y → r ≤ q + 2147483647
-power_small q y r hy h = omega (arith, power_most q y hy)
 
 -- what the loop of `powers` keeps AFTER i STEPS: the power is the key's i-th, and those before it are in their places
 pub record Powering (x : ℕ) (all : List ℕ) (power i : ℕ) : Type 0 where
@@ -98,11 +82,7 @@ pub record Dividing (h c most j power : ℕ) : Type 0 where
   pub rest : divides_from most 0 c h ≡ divides_from (most - j) j c h
 
 divisor_small : (d h : ℕ) → 0 < h → h % d ≡ 0 → d ≤ h
-divisor_small d h pos e = go (dec_lt h d)
-  where
-    go : Dec (h < d) → d ≤ h
-    go (yes l) = absurd (omega (arith, mod-eq_of_lt l))
-    go (no l) = omega arith
+divisor_small d h pos e = grind (arith, mod-eq_of_lt {n = h} {m = d})
 
 -- one power more is tried
 tried : (c h m j : ℕ) → h % c ^ suc j ≡ 0 → divides_from (suc m) j c h ≡ divides_from m (suc j) c h
@@ -169,3 +149,8 @@ module _ (h c most : ℕ) (pos : 0 < c) where
     dividing_end l =
         let f : most - j ≡ 0 = omega (arith, i.within) in
         rw (i.rest, f)
+
+-- what `powers` and `higher` ask
+pub ruleset powering = (powering_start, powering_small, powering_end)
+
+pub ruleset dividing = (dividing_zero, dividing_some, dividing_fits, dividing_stop, dividing_end)

@@ -1,6 +1,7 @@
 -- Bytes that the check accepts: rule 1, the orders that they hold, and the partitions that were read.
+use Rattle.std.proofs.Common.{Option, Some, None, option_and_then}
 use mathlib.Core.Path.{◌≡◌, refl, ap, ◌∙◌, subst}
-use mathlib.Core.Bool.{true, ◌&&◌}
+use mathlib.Core.Bool.{true, ◌&&◌, false≢true}
 use mathlib.Core.List.{List, [], ◌∷◌}
 use Prim.Native.Nat.{ℕ, zero, suc, ◌+◌, ◌*◌, ◌-◌, ◌≤◌, ◌<◌}
 use native.Mathlib.Omega.{arith}
@@ -89,31 +90,37 @@ front_is s o e w =
 
 pub record Accepted (bs : List ℕ) : Type 0 where
   pub rule : Ruled bs
-  pub clean : (swept (sizes_in bs) bs).clean ≡ true
+  pub full : ℕ
+  pub clean : swept (sizes_in bs) bs ≡ Some full
   pub orders : List Order
   pub walk : Walks (sizes_in bs) (part_sound (sizes_in bs) bs) (beta (sizes_in bs)) front (front ∷ orders)
   pub good : orders_good (sizes_in bs) 1 orders ≡ true
   pub up : Up 1 orders
   pub held : length orders ≡ held_in bs
-  pub chunks : (swept (sizes_in bs) bs).full ≡ tally (sizes_in bs) (part_sound (sizes_in bs) bs) (beta (sizes_in bs)) 0
+  pub chunks : full ≡ tally (sizes_in bs) (part_sound (sizes_in bs) bs) (beta (sizes_in bs)) 0
 
 record Passed (bs : List ℕ) : Type 0 where
   pub rule : rule_1 bs ≡ true
-  pub clean : (swept (sizes_in bs) bs).clean ≡ true
-  pub ok : (walked (sizes_in bs) bs (held_in bs) (swept (sizes_in bs) bs).full).ok ≡ true
-  pub orders : (walked (sizes_in bs) bs (held_in bs) (swept (sizes_in bs) bs).full).orders ≡ 0
-  pub chunks : (walked (sizes_in bs) bs (held_in bs) (swept (sizes_in bs) bs).full).chunks ≡ 0
+  pub full : ℕ
+  pub clean : swept (sizes_in bs) bs ≡ Some full
+  pub end : Seen
+  pub walk : walked (sizes_in bs) bs (held_in bs) full ≡ Some end
+  pub orders : end.orders ≡ 0
+  pub chunks : end.chunks ≡ 0
 
 passed : (bs : List ℕ) → check_passes bs ≡ true → Passed bs
 unfolding check_passes ended
-passed bs e =
-    let t = swept (sizes_in bs) bs in
-    let z = walked (sizes_in bs) bs (held_in bs) t.full in
-    let p = and_parts (rule_1 bs) (t.clean && (z.ok && (eqb z.orders 0 && eqb z.chunks 0))) e in
-    let q = and_parts t.clean (z.ok && (eqb z.orders 0 && eqb z.chunks 0)) p.1 in
-    let r = and_parts z.ok (eqb z.orders 0 && eqb z.chunks 0) q.1 in
-    let w = and_parts (eqb z.orders 0) (eqb z.chunks 0) r.1 in
-    record { rule = p.0; clean = q.0; ok = r.0; orders = eqb-true z.orders 0 w.0; chunks = eqb-true z.chunks 0 w.1 }
+passed bs e = let p = and_parts (rule_1 bs) (ended (option_and_then (walked (sizes_in bs) bs (held_in bs)) (swept (sizes_in bs) bs))) e in swept_some p.0 (swept (sizes_in bs) bs) refl p.1
+  where
+    seen_all : rule_1 bs ≡ true → (m : ℕ) → swept (sizes_in bs) bs ≡ Some m → (r : Option Seen) → walked (sizes_in bs) bs (held_in bs) m ≡ r → ended r ≡ true → Passed bs
+    seen_all u m c None w q = absurd (false≢true q)
+    seen_all u m c (Some z) w q =
+        let v = and_parts (eqb z.orders 0) (eqb z.chunks 0) q in
+        record { rule = u; full = m; clean = c; end = z; walk = w; orders = eqb-true z.orders 0 v.0; chunks = eqb-true z.chunks 0 v.1 }
+
+    swept_some : rule_1 bs ≡ true → (r : Option ℕ) → swept (sizes_in bs) bs ≡ r → ended (option_and_then (walked (sizes_in bs) bs (held_in bs)) r) ≡ true → Passed bs
+    swept_some u None c q = absurd (false≢true q)
+    swept_some u (Some m) c q = seen_all u m c (walked (sizes_in bs) bs (held_in bs) m) refl q
 
 weighed_top : (s : Sizes) (b : ℕ) → 2 ≤ b → Weighed s b front
 weighed_top s zero h = absurd (omega arith)
@@ -126,31 +133,24 @@ accepted bs u e = go (passed bs e)
     s : Sizes
     s = sizes_in bs
 
-    n : ℕ
-    n = (swept s bs).full
-
-    x : Seen
-    x = record { ok = true; low = 0; orders = held_in bs + 1; chunks = n }
-
-    z : Seen
-    z = walked s bs (held_in bs) n
-
     go : Passed bs → Accepted bs
     go p =
         let r = ruled bs p.rule in
-        let o = opened s bs (small_read s bs u) (some_nodes s r.makes) (some_blocks s r.makes) (beta s) front x (weighed_top s (beta s) (beta_least s)) p.ok in
+        let x : Seen = record { low = 0; orders = held_in bs + 1; chunks = p.full } in
+        let o = opened s bs (small_read s bs u) (some_nodes s r.makes) (some_blocks s r.makes) (beta s) front x p.end (weighed_top s (beta s) (beta_least s)) p.walk in
         let h = shape s (part_sound s bs) (beta s) front o.seg o.walk in
-        let t = subst (λ (q : List Order). Step s x q (tally s (part_sound s bs) (beta s) 0) z) h.whole o.step in
+        let t = subst (λ (q : List Order). Step s x q (tally s (part_sound s bs) (beta s) 0) p.end) h.whole o.step in
         let f : h.head ≡ front = front_is s h.head h.same t.rising.2 in
         let w = subst (λ (q : List Order). Walks s (part_sound s bs) (beta s) front q) (h.whole ∙ ap (λ (y : Order). y ∷ h.rest) f) o.walk in
-        let a = subst (λ (y : Order). Rising s (suc y.key) h.rest z.low) f t.rising.3 in
+        let a = subst (λ (y : Order). Rising s (suc y.key) h.rest p.end.low) f t.rising.3 in
         record {
           rule = r;
+          full = p.full;
           clean = p.clean;
           orders = h.rest;
           walk = w;
-          good = rising_good s 1 z.low h.rest (omega arith) a;
-          up = rising_up s 1 z.low h.rest a;
+          good = rising_good s 1 p.end.low h.rest (omega arith) a;
+          up = rising_up s 1 p.end.low h.rest a;
           held = omega (arith, t.orders, p.orders);
           chunks = omega (arith, t.chunks, p.chunks);
         }

@@ -1,20 +1,21 @@
 -- The whole check: what rule 1 gives the pass and the walk, and what the three say together.
+use Rattle.std.proofs.Common.{Option, Some, None}
+use Rattle.std.specs.Bool.{then_some}
 use mathlib.Core.Path.{◌≡◌, refl, ap, sym, ◌∙◌, subst}
-use mathlib.Core.Bool.{Bool, true, false, and-false, true≢false}
+use mathlib.Core.Bool.{Bool, true, false, and-false}
 use mathlib.Core.List.{List}
 use Prim.Native.Nat.{ℕ, ◌+◌, ◌<◌, ◌≤◌}
 use native.Mathlib.Omega.{arith}
 use mir.Val.{Fits}
 use mir.Syntax.{w32}
 use lib.ListN.{length}
-use Rattle.sizes.specs.Sizes.{beta, made, seed_good}
+use Rattle.sizes.specs.Sizes.{beta, made}
 use Rattle.sizes.specs.Header.{block_long, table_long, sizes_in, held_in, rule_1}
 use Rattle.placement.specs.Place.{Shaped}
 use Rattle.sizes.specs.declared.Sizes.{Sizes}
 use Rattle.sizes.proofs.Laws.Sizes.{limits, some_blocks, row_least, row_most}
 use Rattle.sizes.proofs.Laws.HeaderLoops.{ruled, rule_short}
 use Rattle.table.specs.declared.Seen.{Seen}
-use Rattle.table.specs.declared.Tally.{Tally}
 use Rattle.table.specs.Walk.{Walkable, opens_of}
 use Rattle.table.specs.Check.{swept, walked, ended, check_passes, Passed}
 
@@ -30,14 +31,11 @@ walkable s bs m e =
     let l = limits s m in
     record { shaped = made_shaped s bs m e; base = l.gamma_least; base_most = l.gamma_most; orders_most = l.orders_most }
 
--- what follows from the header's sizes
-pub reckoned_in : (bs : List ℕ) (r s : Sizes) → r ≡ s → s ≡ sizes_in bs → r ≡ sizes_in bs
-reckoned_in bs r s e es = e ∙ es
-
+-- what follows from the header
 module _ (bs : List ℕ) (t : Bool) (et : t ≡ rule_1 bs) where
-  pub passes_unruled : t ≡ false → (r : Tally) → r ≡ record { clean = false; full = 0 } → Passed bs r
+  pub passes_unruled : t ≡ false → check_passes bs ≡ false
   unfolding check_passes
-  passes_unruled e r er = rw er (record { passes = rw (← et, e); count = λ z. absurd (true≢false (sym z)) })
+  passes_unruled e = rw (← et, e)
 
   module _ (e : t ≡ true) where
     module _ (s : Sizes) (es : s ≡ sizes_in bs) where
@@ -48,9 +46,6 @@ module _ (bs : List ℕ) (t : Bool) (et : t ≡ rule_1 bs) where
 
       pub ruled_shaped : Shaped s bs
       ruled_shaped = ruled_walkable.shaped
-
-      pub ruled_seeds : seed_good s.seed ≡ true
-      ruled_seeds = ruled_walkable.shaped.seeds
 
       pub ruled_gamma : 0 < s.gamma
       ruled_gamma = omega (arith, ruled_walkable.base)
@@ -70,31 +65,30 @@ module _ (bs : List ℕ) (t : Bool) (et : t ≡ rule_1 bs) where
           let r = ruled bs (sym et ∙ e) in
           record { fits = omega (arith, r.held, (limits (sizes_in bs) r.makes).orders_most) }
 
-      module _ (y : Tally) (ey : y ≡ swept s bs) where
-        tally : y ≡ swept (sizes_in bs) bs
-        tally = ey ∙ ap (λ (z : Sizes). swept z bs) es
+      pub passes_unclean : None ≡ swept s bs → check_passes bs ≡ false
+      unfolding check_passes ended
+      passes_unclean q =
+          let z : swept (sizes_in bs) bs ≡ None = sym (q ∙ ap (λ (z : Sizes). swept z bs) es) in
+          rw (z, and-false)
 
-        counted : y.full ≡ (swept (sizes_in bs) bs).full
-        counted = ap (λ (w : Tally). w.full) tally
+      module _ (n : ℕ) (en : Some n ≡ swept s bs) where
+        pub passes_counted : swept (sizes_in bs) bs ≡ Some n
+        passes_counted = sym (en ∙ ap (λ (z : Sizes). swept z bs) es)
 
-        pub passes_unclean : y.clean ≡ false → Passed bs y
-        unfolding check_passes
-        passes_unclean q =
-            let z : (swept (sizes_in bs) bs).clean ≡ false = ap (λ (w : Tally). w.clean) (sym tally) ∙ q in
-            record { passes = q ∙ sym (rw (z, and-false)); count = λ h. counted }
-
-        pub passes_walked : y.clean ≡ true → (top n : ℕ) → top ≡ beta s → n ≡ held_in bs → (x : Seen)
-            → x ≡ opens_of s bs top 0 (record { ok = true; low = 0; orders = n + 1; chunks = y.full }) → (r : Bool) → r ≡ ended x → Passed bs (record { clean = r; full = y.full })
+        pub passes_walked : (top held : ℕ) → top ≡ beta s → held ≡ held_in bs → (x : Option Seen) → x ≡ opens_of s bs top 0 (record { low = 0; orders = held + 1; chunks = n })
+            → check_passes bs ≡ ended x
         unfolding check_passes walked
-        passes_walked q top n et' en x ex r er =
-            let z : (swept (sizes_in bs) bs).clean ≡ true = ap (λ (w : Tally). w.clean) (sym tally) ∙ q in
-            let f = counted in
+        passes_walked top held et' eh x ex =
             let g : top ≡ beta (sizes_in bs) = et' ∙ ap beta es in
-            let h : rule_1 bs ≡ true = sym et ∙ e in
-            let w : x ≡ opens_of (sizes_in bs) bs (beta (sizes_in bs)) 0 (record { ok = true; low = 0; orders = held_in bs + 1; chunks = (swept (sizes_in bs) bs).full })
-            = ex ∙ (λ i. opens_of (es i) bs (g i) 0 (record { ok = true; low = 0; orders = en i + 1; chunks = f i })) in
-            record { passes = er ∙ ap ended w ∙ sym (rw (h, z)); count = λ v. f }
+            let w : x ≡ opens_of (sizes_in bs) bs (beta (sizes_in bs)) 0 (record { low = 0; orders = held_in bs + 1; chunks = n })
+            = ex ∙ (λ i. opens_of (es i) bs (g i) 0 (record { low = 0; orders = eh i + 1; chunks = n })) in
+            rw (← et, e, passes_counted) (ap ended (sym w))
+
+-- the count of full blocks, where the walk comes to its end
+pub passed_some : (bs : List ℕ) (n : ℕ) → swept (sizes_in bs) bs ≡ Some n → (t : Bool) → check_passes bs ≡ t → Passed bs (then_some t n)
+passed_some bs n e true q = (q, e)
+passed_some bs n e false q = q
 
 -- bytes that are too short for a header
-pub passes_short : (bs : List ℕ) → length bs < 53 → (r : Tally) → r ≡ record { clean = false; full = 0 } → Passed bs r
+pub passes_short : (bs : List ℕ) → length bs < 53 → check_passes bs ≡ false
 passes_short bs h = passes_unruled bs false (rule_short bs h) refl

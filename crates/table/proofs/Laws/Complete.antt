@@ -108,11 +108,11 @@ module _ (s : Sizes) (os : List Order) (m : made s ≡ true) (g : orders_good s 
   walk_ends =
       let u = good_up s 1 os g in
       let r = good_rising s 1 os (omega arith) g in
-      let st : Seen = record { ok = true; low = 0; orders = length os + 1; chunks = length (chunks s os) } in
-      let z : Seen = record { ok = true; low = r.0; orders = 0; chunks = 0 } in
+      let st : Seen = record { low = 0; orders = length os + 1; chunks = length (chunks s os) } in
+      let z : Seen = record { low = r.0; orders = 0; chunks = 0 } in
       let c = tally_all s os u (some_nodes s m) in
       let p : Step s st (front ∷ os) (tally s (part s os) (beta s) 0) z =
-      record { ok = refl; end = refl; rising = (omega arith, omega arith, front_weighs s, r.1); orders = omega arith; chunks = omega (arith, c) } in
+      record { rising = (omega arith, omega arith, front_weighs s, r.1); orders = omega arith; chunks = omega (arith, c) } in
       ap ended (opens_is s (image s os) (part s os) (some_nodes s m) finds (beta s) (omega arith) front (front ∷ os) (walks_all s os u) st z (fits_parts s os f).room p)
 
 -- ---- THE PASS over an image
@@ -148,12 +148,12 @@ module _ (s : Sizes) (os : List Order) (m : made s ≡ true) (g : orders_good s 
       rw (block_bytes_at s (some_blocks s m) (header s (length os)) head (blocks s os) all keeps.long i h)
       (bytes_clean s (get_or (blocks s os) i empty) (good_at s all i) (λ c e. keeps.map.full c (record { at = i; is = around_inside s.blocks (blocks s os) i h ∙ e })))
 
-  swept_image : ((swept s (image s os)).clean ≡ true) × ((swept s (image s os)).full ≡ length (chunks s os))
+  swept_image : swept s (image s os) ≡ Some (length (chunks s os))
   unfolding image
   swept_image =
       let l = (shaped s (map_of (chunks s os)) (length (chunks s os)) (header s (length os)) (image s os) (image_keeps s os m g f)).long in
       let c = cleaned s (image s os) (λ i h. block_cleaned s (image s os) i l h (image_clean i h)) in
-      (c, swept_count s (image s os) c ∙ ap how_many (blocks_back s (header s (length os)) (blocks s os) head keeps.long all) ∙ keeps.count)
+      c.1 ∙ ap Some (swept_count s (image s os) c.0 c.1 ∙ ap how_many (blocks_back s (header s (length os)) (blocks s os) head keeps.long all) ∙ keeps.count)
 
   held_back : held_in (image s os) ≡ length os
   unfolding held_in image header big field
@@ -164,5 +164,4 @@ module _ (s : Sizes) (os : List Order) (m : made s ≡ true) (g : orders_good s 
   unfolding check_passes ImageReadsBack
   check_complete =
       let e = (reads_back s os m g f).2 in
-      let w = swept_image in
-      rw (image_rule_1 s os m g f, e, held_back, w.0, w.1) (walk_ends s os m g f)
+      rw (image_rule_1 s os m g f, e, held_back, swept_image) (walk_ends s os m g f)

@@ -5,7 +5,6 @@ use mathlib.Core.Logic.{◌≢◌}
 use mathlib.Core.Bool.{Bool, true, false, ◌&&◌, cond, true≢false}
 use mathlib.Core.List.{List, [], ◌∷◌}
 use Prim.Native.Nat.{ℕ, zero, suc, ◌+◌, ◌*◌, ◌≤◌, ◌<◌}
-use native.Mathlib.Nat.{mul-one}
 use native.Mathlib.Omega.{arith}
 use lib.Dec.{leb, eqb}
 use borrow.Author.Tests.{leb-true, leb-false, eqb-true, eqb-false, le-leb, lt-leb}
@@ -21,7 +20,6 @@ use Rattle.sizes.specs.declared.Sizes.{Sizes}
 use Rattle.placement.specs.declared.Label.{Label}
 use Rattle.placement.proofs.Laws.Loops.{shaped_same}
 use Rattle.placement.proofs.Laws.Tables.{insert_keeps}
-use Rattle.sizes.proofs.Laws.Sizes.{row_most}
 use Rattle.skiplist.specs.Lists.{front}
 use Rattle.skiplist.proofs.Laws.Sound.{none_fine}
 use Rattle.table.specs.Make.{fronts_map, Fronts}
@@ -64,9 +62,6 @@ front_bytes s = go (eqb s.version 1)
     go : (t : Bool) → take (cond t 12 16 * 1) (drop 0 (replicate 16 0)) ≡ nodes_bytes (cond t 12 16) (front ∷ [])
     go true = refl
     go false = refl
-
-pub front_room : (s : Sizes) (node : List ℕ) → length node ≡ 16 → 0 + row s * 1 ≤ length node
-front_room s node e = omega (arith, row_most s, mul-one (row s))
 
 front_holdable : (s : Sizes) (n : ℕ) → 1 ≤ s.nodes → Holdable s (labelled (front_label (suc n)) (front ∷ []))
 unfolding front

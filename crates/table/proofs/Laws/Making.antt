@@ -1,14 +1,14 @@
 -- Make: its three questions, and the bytes that it leaves, which are the image of no orders.
 use mathlib.Core.Path.{◌≡◌, refl, sym, ap, ◌∙◌, subst}
-use mathlib.Core.Bool.{Bool, true, false, ◌&&◌, cond, and-false}
-use mathlib.Core.List.{List, [], ◌∷◌, ◌++◌, append-nil}
+use mathlib.Core.Bool.{Bool, true, false, ◌&&◌, cond}
+use mathlib.Core.List.{List, [], ◌∷◌, ◌++◌}
 use Prim.Native.Nat.{ℕ, zero, suc, ◌+◌, ◌*◌, ◌≤◌}
 use native.Mathlib.Omega.{arith}
-use native.Mathlib.Nat.{suc-mul, add_comm, zero-add, zero-mul}
+use native.Mathlib.Nat.{suc-mul, add_comm, zero-mul}
 use lib.Dec.{leb, eqb}
-use borrow.Author.Tests.{leb-true, leb-false, eqb-true, eqb-false, eq-eqb, ne_eqb, le-leb, lt-leb}
+use borrow.Author.Tests.{leb-true, leb-false, eqb-true, eqb-false, le-leb, lt-leb}
 use lib.ListN.{length, take, drop, replicate, length-replicate, replicate-append-replicate}
-use lib.Seq.{sets, sets-eq, length-sets, take_all, drop_at, drop-length}
+use lib.Seq.{take_all, drop_at}
 use Rattle.sizes.specs.Orders.{sorted}
 use Rattle.sizes.specs.Numbers.{rows, rows_in}
 use Rattle.sizes.specs.Sizes.{beta, sizes_good, seed_good, made}
@@ -26,11 +26,9 @@ use Rattle.placement.proofs.Laws.Keeps.{placed_keeps}
 use Rattle.placement.proofs.Laws.Tables.{shaped}
 use Rattle.skiplist.specs.Lists.{front, at_least, list_at, starts_one, run, rest, partitions, first_key, masked, chunks_of, all_chunks, chunks_from, chunks}
 use Rattle.skiplist.specs.Image.{image}
-use Rattle.skiplist.specs.Questions.{Parameters, first_no, sizes, asks_make}
-use Rattle.skiplist.specs.Book.{make_refusal}
+use Rattle.skiplist.specs.Questions.{Parameters, sizes}
 use Rattle.skiplist.proofs.Laws.Kept.{kept_none}
 use Rattle.skiplist.proofs.Laws.Image.{is_the_image}
-use Rattle.table.specs.Calls.{MakeSays}
 use Rattle.table.specs.Make.{fronts_map, Fronts}
 
 -- A TABLE OF NO CHUNKS: the header, and zeros
@@ -47,33 +45,18 @@ empty_bytes s (suc m) =
 drop_zeros : (a k : ℕ) → drop a (zeros (a + k)) ≡ zeros k
 drop_zeros a k = ap (drop a) (sym (replicate-append-replicate a k 0)) ∙ drop_at (zeros a) (zeros k) a (length-replicate a 0)
 
-all_zeros : (x : List ℕ) → sets x 0 (zeros (length x)) ≡ zeros (length x)
-all_zeros x =
-    let e : length (zeros (length x)) ≡ length x = length-replicate (length x) 0 in
-    sets-eq (zeros (length x)) x 0 (omega arith) ∙ rw (e, zero-add, drop-length, append-nil)
-
 empty_keeps : (s : Sizes) → made s ≡ true → Keeps s (replicate s.blocks empty) (map_of []) 0
 unfolding placed sorted
 empty_keeps s m = placed_keeps s [] (some_blocks s m) tt (omega arith) (λ c a. absurd a)
 
-module _ (s : Sizes) (m : made s ≡ true) where
-  pub made_base_most : s.gamma ≤ 64
-  made_base_most = (limits s m).gamma_most
-
-  pub made_orders_most : s.orders ≤ 65535
-  made_orders_most = (limits s m).orders_most
-
-  pub made_nodes_some : 1 ≤ s.nodes
-  made_nodes_some = (limits s m).nodes_some
-
-pub filled_long : (s : Sizes) (x x₁ : List ℕ) → length x ≡ table_long s → x₁ ≡ sets x 0 (replicate (length x) 0) → 53 ≤ length x₁
+pub filled_long : (s : Sizes) (x x₁ : List ℕ) → length x ≡ table_long s → x₁ ≡ replicate (length x) 0 → 53 ≤ length x₁
 unfolding table_long
-filled_long s x x₁ long e = omega (arith, ap length e ∙ length-sets x 0 (zeros (length x)))
+filled_long s x x₁ long e = omega (arith, ap length e ∙ length-replicate (length x) 0)
 
-module _ (s : Sizes) (m : made s ≡ true) (x x₁ x₂ : List ℕ) (long : length x ≡ table_long s) (e₁ : x₁ ≡ sets x 0 (replicate (length x) 0)) (e₂ : x₂ ≡ header s 0 ++ drop 53 x₁) where
+module _ (s : Sizes) (m : made s ≡ true) (x x₁ x₂ : List ℕ) (long : length x ≡ table_long s) (e₁ : x₁ ≡ replicate (length x) 0) (e₂ : x₂ ≡ header s 0 ++ drop 53 x₁) where
   zeros_left : x₂ ≡ header s 0 ++ all_bytes s (replicate s.blocks empty)
   unfolding table_long
-  zeros_left = e₂ ∙ ap (λ (z : List ℕ). header s 0 ++ z) (ap (drop 53) (e₁ ∙ all_zeros x ∙ ap zeros long) ∙ drop_zeros 53 (s.blocks * block_long s) ∙ sym (empty_bytes s s.blocks))
+  zeros_left = e₂ ∙ ap (λ (z : List ℕ). header s 0 ++ z) (ap (drop 53) (e₁ ∙ ap zeros long) ∙ drop_zeros 53 (s.blocks * block_long s) ∙ sym (empty_bytes s s.blocks))
 
   empty_table : Table s (map_of []) 0 (header s 0) x₂
   unfolding map_of
@@ -140,7 +123,7 @@ unfolding chunks fronts_map
 fronts_chunks s m l f i = sym (chunks_map s (beta s) 1 (beta s) (limits s m).nodes_some (omega arith) l f i)
 
 -- the image of no orders
-pub fronts_image : (s : Sizes) (m : made s ≡ true) (x x₁ x₂ : List ℕ) (long : length x ≡ table_long s) → x₁ ≡ sets x 0 (replicate (length x) 0) → x₂ ≡ header s 0 ++ drop 53 x₁
+pub fronts_image : (s : Sizes) (m : made s ≡ true) (x x₁ x₂ : List ℕ) (long : length x ≡ table_long s) → x₁ ≡ replicate (length x) 0 → x₂ ≡ header s 0 ++ drop 53 x₁
     → (top : ℕ) (z : List ℕ) → top ≡ beta s → Fronts s top x₂ z → z ≡ image s []
 unfolding Fronts
 fronts_image s m x x₁ x₂ long e₁ e₂ top z e f =
@@ -149,52 +132,7 @@ fronts_image s m x x₁ x₂ long e₁ e₂ top z e f =
     let k = kept_none s (limits s m) in
     is_the_image s [] (fronts_map (beta s)) (beta s) z k.good k.fit q (fronts_chunks s m)
 
--- THE QUESTIONS
-module _ (q : Parameters) where
-  refusal_is : (long : ℕ) (a b c : Bool) → (eqb (length q.seed) 40 && seed_good (sizes q).seed) ≡ a → sizes_good (sizes q) ≡ b → eqb long (table_long (sizes q)) ≡ c
-      → make_refusal q long ≡ cond a (cond b (cond c 0 3) 2) 1
-  unfolding make_refusal first_no asks_make
-  refusal_is long a b c ea eb ec = rw (ea, eb, ec)
-
-  says : (x z : List ℕ) (v : ℕ) → make_refusal q (length x) ≡ v → z ≡ cond (eqb v 0) (image (sizes q) []) x → MakeSays q v x z
-  unfolding MakeSays
-  says x z v e h = (sym e, rw e h)
-
-  pub make_short : (x : List ℕ) → (length q.seed ≡ 40 → ⊥) → MakeSays q 1 x x
-  make_short x e = says x x 1 (refusal_is (length x) false _ _ (rw (ne_eqb _ _ e)) refl refl) refl
-
-  module _ (s : Sizes) (es : s ≡ sizes q) (t : Bool) (et : t ≡ seed_good s.seed) where
-    seeds : (w : Bool) → t ≡ w → seed_good (sizes q).seed ≡ w
-    seeds w e = ap (λ (z : Sizes). seed_good z.seed) (sym es) ∙ sym et ∙ e
-
-    pub make_seed : (x : List ℕ) → t ≡ false → MakeSays q 1 x x
-    make_seed x e = says x x 1 (refusal_is (length x) false _ _ (rw (seeds false e, and-false)) refl refl) refl
-
-    module _ (t1 : t ≡ true) (u : Bool) (eu : u ≡ sizes_good s) where
-      whole : (w : Bool) → u ≡ w → sizes_good (sizes q) ≡ w
-      whole w e = ap sizes_good (sym es) ∙ sym eu ∙ e
-
-      ten : length (sizes q).seed ≡ 10
-      unfolding sizes rows_in
-      ten = refl
-
-      pub given_made : u ≡ true → made s ≡ true
-      unfolding made
-      given_made u1 = rw (es, whole true u1, seeds true t1, eq-eqb _ _ ten)
-
-      module _ (forty : length q.seed ≡ 40) (x : List ℕ) where
-        first : (eqb (length q.seed) 40 && seed_good (sizes q).seed) ≡ true
-        first = rw (eq-eqb _ _ forty, seeds true t1)
-
-        pub make_sizes : u ≡ false → MakeSays q 2 x x
-        make_sizes e = says x x 2 (refusal_is (length x) true false _ first (whole false e) refl) refl
-
-        module _ (u1 : u ≡ true) (k : ℕ) (ek : k ≡ table_long s) where
-          long : table_long (sizes q) ≡ k
-          long = ap table_long (sym es) ∙ sym ek
-
-          pub make_long : (length x ≡ k → ⊥) → MakeSays q 3 x x
-          make_long e = says x x 3 (refusal_is (length x) true true false first (whole true u1) (rw long (ne_eqb _ _ e))) refl
-
-          pub make_done : length x ≡ k → (z : List ℕ) → z ≡ image s [] → MakeSays q 0 x z
-          make_done e z h = says x z 0 (refusal_is (length x) true true true first (whole true u1) (rw long (eq-eqb _ _ e))) (h ∙ ap (λ (w : Sizes). image w []) es)
+-- sizes and seed that pass questions 1 and 2
+pub given_made : (q : Parameters) (s : Sizes) → s ≡ sizes q → true ≡ seed_good s.seed → true ≡ sizes_good s → made s ≡ true
+unfolding made sizes rows_in
+given_made q s e h g = rw (← h, ← g, ap (λ (z : Sizes). length z.seed) e) refl

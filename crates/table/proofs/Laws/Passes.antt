@@ -1,54 +1,24 @@
 -- Laws of the pass over the blocks, and of its end.
+use Rattle.std.proofs.Common.{Some, None}
 use mathlib.Core.Path.{◌≡◌, refl, ap, sym, ◌∙◌}
 use mathlib.Core.Bool.{Bool, true, false, ◌&&◌, cond, and-true, and_assoc}
-use mathlib.Core.List.{List}
-use Prim.Native.Nat.{ℕ, suc, ◌+◌, ◌*◌, ◌-◌, ◌≤◌, ◌<◌}
+use mathlib.Core.List.{List, ◌++◌}
+use Prim.Native.Nat.{ℕ, suc, ◌+◌, ◌*◌, ◌-◌, ◌/◌, ◌%◌, ◌≤◌, ◌<◌}
 use lib.Dec.{eqb}
 use lib.Bits.{bit_and, bit_or, or_add_and, and_le_l, and_le_r, and_zero_r, and_mask}
 use borrow.Author.Tests.{eq-eqb, ne_eqb, eqb-true, eqb-false}
 use native.Mathlib.Decide.{dec_lt}
 use native.Mathlib.Omega.{arith}
-use native.Mathlib.Nat.{sub-zero, mod-eq_of_lt}
+use native.Mathlib.Nat.{sub-zero, mod-eq_of_lt, mul_assoc}
 use native.Mathlib.Numerals.{add-one}
-use lib.ListN.{length, get_or, set, replicate, length-set, length-replicate, get_or-replicate}
-use lib.Seq.{get_or-set_same, get_or-set_other}
+use lib.ListN.{length, get_or, drop, replicate, length-append, length-drop, length-replicate, get_or-append, get_or-replicate}
+use lib.Seq.{get_or-append_right}
+use Rattle.std.proofs.lemmas.List.{get_or-drop}
 use Rattle.sizes.specs.Sizes.{row}
 use Rattle.sizes.specs.Header.{block_long}
 use Rattle.sizes.specs.declared.Sizes.{Sizes}
 use Rattle.placement.specs.Place.{Shaped}
-use Rattle.table.specs.declared.Seen.{Seen}
-use Rattle.table.specs.declared.Tally.{Tally}
-use Rattle.table.specs.Check.{longest, Words, Mask, zeros_from, used_of, more_of, unused, block_clean, sweep_from, swept, ended}
-
--- small ones
-pub used_none : (k l n : ℕ) → l ≡ 0 → 0 ≡ used_of k l n
-unfolding used_of
-used_none k l n e = rw (eq-eqb _ _ e)
-
-pub used_some : (k l n r : ℕ) → (l ≡ 0 → ⊥) → r ≡ k * n → 8 + r ≡ used_of k l n
-unfolding used_of
-used_some k l n r e er = rw (ne_eqb _ _ e, er)
-
-pub more_none : (m l : ℕ) → l ≡ 0 → m ≡ more_of m l
-unfolding more_of
-more_none m l e = rw (eq-eqb _ _ e)
-
-pub more_some : (m l : ℕ) → (l ≡ 0 → ⊥) → m + 1 ≡ more_of m l
-unfolding more_of
-more_some m l e = rw (ne_eqb _ _ e)
-
-module _ (x : Seen) where
-  pub finished_bad : x.ok ≡ false → false ≡ ended x
-  unfolding ended
-  finished_bad e = rw e
-
-  pub finished_orders : x.ok ≡ true → (x.orders ≡ 0 → ⊥) → false ≡ ended x
-  unfolding ended
-  finished_orders e f = rw (e, ne_eqb _ _ f)
-
-  pub finished_last : x.ok ≡ true → x.orders ≡ 0 → eqb x.chunks 0 ≡ ended x
-  unfolding ended
-  finished_last e f = rw (e, eq-eqb _ _ f)
+use Rattle.table.specs.Check.{longest, Words, Mask, zeros_from, used_of, more_of, unused, block_clean, sweep_from, swept}
 
 -- a number made of two by `or` is 0 when both are
 or_zero : (a b : ℕ) → eqb (bit_or a b) 0 ≡ (eqb a 0 && eqb b 0)
@@ -59,56 +29,37 @@ or_zero a b = go (eqb a 0) (eqb b 0) refl refl
     go true false p q = ne_eqb (bit_or a b) 0 (λ e. eqb-false b 0 q (omega (arith, or_add_and a b, and_le_l a b, eqb-true a 0 p)))
     go false u p q = ne_eqb (bit_or a b) 0 (λ e. eqb-false a 0 p (omega (arith, or_add_and a b, and_le_r a b)))
 
--- what the loop of `mask` keeps: the first i words are 0, the others have all bits set
-pub record Marking (ms : List ℕ) (i : ℕ) : Type 0 where
-  pub long : length ms ≡ 260
-  pub leaves : (k : ℕ) → k < i → get_or ms k 0 ≡ 0
-  pub has : (k : ℕ) → i ≤ k → k < 260 → get_or ms k 0 ≡ 4294967295
-
-pub marking_start : (ms : List ℕ) → ms ≡ replicate 260 4294967295 → Marking ms 0
-marking_start ms e =
+-- the mask: zeros in front of what is left of words with all bits set
+pub mask_made : (xs ys : List ℕ) → xs ≡ replicate 130 0 → ys ≡ replicate 260 4294967295 → Mask (xs ++ drop 130 ys)
+mask_made xs ys ex ey =
+    let n : length xs ≡ 130 = ap length ex ∙ length-replicate {A = ℕ} 130 0 in
+    let m : length ys ≡ 260 = ap length ey ∙ length-replicate {A = ℕ} 260 4294967295 in
     record {
-      long = ap length e ∙ length-replicate {A = ℕ} 260 4294967295;
-      leaves = λ k h. absurd (omega arith);
-      has = λ k l h. ap (λ (z : List ℕ). get_or z k 0) e ∙ get_or-replicate {A = ℕ} 260 k 4294967295 0 h;
+      long = omega (arith, length-append xs (drop 130 ys), length-drop 130 ys);
+      leaves = λ k h. get_or-append xs (drop 130 ys) 0 k (omega arith) ∙ ap (λ (z : List ℕ). get_or z k 0) ex ∙ get_or-replicate {A = ℕ} 130 k 0 0 h;
+      has = λ k l h.
+          get_or-append_right xs (drop 130 ys) k 0 (omega arith) ∙ get_or-drop 130 ys (k - length xs) 0 ∙ ap (λ (z : List ℕ). get_or z (130 + (k - length xs)) 0) ey
+          ∙ get_or-replicate {A = ℕ} 260 (130 + (k - length xs)) 4294967295 0 (omega arith);
     }
-
-pub marking_more : (ms : List ℕ) (i : ℕ) → Marking ms i → i < 130 → Marking (set ms i 0) (i + 1)
-marking_more ms i q h =
-    record {
-      long = length-set ms i 0 ∙ q.long;
-      leaves = λ k l. go k l (dec_lt k i);
-      has = λ k l m. get_or-set_other ms i k 0 0 (omega arith) ∙ q.has k (omega arith) m;
-    }
-  where
-    go : (k : ℕ) → k < i + 1 → Dec (k < i) → get_or (set ms i 0) k 0 ≡ 0
-    go k l (yes f) = get_or-set_other ms i k 0 0 (omega arith) ∙ q.leaves k f
-    go k l (no f) =
-        let e : k ≡ i = omega arith in
-        rw e (get_or-set_same ms i 0 0 (omega (arith, q.long)))
-
-pub mask_made : (ms : List ℕ) (i : ℕ) → Marking ms i → i ≤ 130 → 130 ≤ i → Mask ms
-mask_made ms i q l h = record { long = q.long; leaves = λ k f. q.leaves k (omega arith); has = λ k f g. q.has k (omega arith) g }
 
 -- four bytes as one number
-pub word_zero : (bs : List ℕ) (at a b c d : ℕ) → a ≡ get_or bs at 0 → b ≡ get_or bs (at + 1) 0 → c ≡ get_or bs (at + 2) 0 → d ≡ get_or bs (at + 3) 0
-    → eqb (a + (256 * b + (65536 * c + 16777216 * d))) 0 ≡ zeros_from bs 4 at
+pub word_zero : (bs : List ℕ) (at v : ℕ) → v ≡ get_or bs at 0 + get_or bs (at + 1) 0 * 256 + get_or bs (at + 2) 0 * 65536 + get_or bs (at + 3) 0 * 16777216
+    → eqb v 0 ≡ zeros_from bs 4 at
 unfolding zeros_from
-word_zero bs at a b c d ea eb ec ed =
+word_zero bs at v e =
     let second : at + 1 ≡ suc at = omega arith in
     let third : at + 2 ≡ suc (suc at) = omega arith in
     let fourth : at + 3 ≡ suc (suc (suc at)) = omega arith in
-    rw (← fourth, ← third, ← second, ← ea, ← eb, ← ec, ← ed) (go (eqb a 0) (eqb b 0) (eqb c 0) (eqb d 0) refl refl refl refl)
+    rw (← fourth, ← third, ← second)
+    (go (eqb (get_or bs at 0) 0) (eqb (get_or bs (at + 1) 0) 0) (eqb (get_or bs (at + 2) 0) 0) (eqb (get_or bs (at + 3) 0) 0) refl refl refl refl)
   where
-    n : ℕ
-    n = a + (256 * b + (65536 * c + 16777216 * d))
-
-    go : (p q r t : Bool) → eqb a 0 ≡ p → eqb b 0 ≡ q → eqb c 0 ≡ r → eqb d 0 ≡ t → eqb n 0 ≡ (p && (q && (r && (t && true))))
-    go false q r t x y z u = ne_eqb n 0 (λ e. eqb-false a 0 x (omega arith))
-    go true false r t x y z u = ne_eqb n 0 (λ e. eqb-false b 0 y (omega arith))
-    go true true false t x y z u = ne_eqb n 0 (λ e. eqb-false c 0 z (omega arith))
-    go true true true false x y z u = ne_eqb n 0 (λ e. eqb-false d 0 u (omega arith))
-    go true true true true x y z u = eq-eqb n 0 (omega (arith, eqb-true a 0 x, eqb-true b 0 y, eqb-true c 0 z, eqb-true d 0 u))
+    go : (p q r t : Bool) → eqb (get_or bs at 0) 0 ≡ p → eqb (get_or bs (at + 1) 0) 0 ≡ q → eqb (get_or bs (at + 2) 0) 0 ≡ r → eqb (get_or bs (at + 3) 0) 0 ≡ t
+        → eqb v 0 ≡ (p && (q && (r && (t && true))))
+    go false q r t x y z u = ne_eqb v 0 (λ h. eqb-false _ 0 x (omega (arith, e)))
+    go true false r t x y z u = ne_eqb v 0 (λ h. eqb-false _ 0 y (omega (arith, e)))
+    go true true false t x y z u = ne_eqb v 0 (λ h. eqb-false _ 0 z (omega (arith, e)))
+    go true true true false x y z u = ne_eqb v 0 (λ h. eqb-false _ 0 u (omega (arith, e)))
+    go true true true true x y z u = eq-eqb v 0 (omega (arith, e, eqb-true _ 0 x, eqb-true _ 0 y, eqb-true _ 0 z, eqb-true _ 0 u))
 
 zeros_four : (bs : List ℕ) (k a : ℕ) → zeros_from bs (4 + k) a ≡ (zeros_from bs 4 a && zeros_from bs k (a + 4))
 unfolding zeros_from
@@ -155,11 +106,6 @@ pub record Masking (bs : List ℕ) (at w u j any : ℕ) : Type 0 where
   pub rest : zeros_from bs (4 * (w - u)) (at + 4 * u) ≡ (eqb any 0 && past bs at w u j)
 
 module _ (bs : List ℕ) (at w u : ℕ) where
-  pub masking_start : Masking bs at w u 0 0
-  masking_start =
-      let e : 0 + (u - 0) ≡ u = omega arith in
-      record { rest = rw e }
-
   module _ (j any : ℕ) (z : Masking bs at w u j any) where
     pub masking_more : (n m : ℕ) → n ≤ longest → 4 * w ≡ n → 4 * u ≡ m → m < n → (ms : List ℕ) → Mask ms → j < w → (x y : ℕ) → eqb x 0 ≡ zeros_from bs 4 (at + 4 * j) → x < 4294967296
         → y ≡ get_or ms (130 - u + j) 0 → Masking bs at w u (j + 1) (bit_or any (bit_and x y))
@@ -173,24 +119,24 @@ module _ (bs : List ℕ) (at w u : ℕ) where
         sym (z.rest ∙ rw (e, and-true)) ∙ rw (f, em)
 
 -- the bytes of a block, and the used ones, are whole words
-words_row : (s : Sizes) (n : ℕ) → Words (8 + row s * n)
-unfolding row
-words_row s n = go (eqb s.version 1)
-  where
-    go : (t : Bool) → Words (8 + cond t 12 16 * n)
-    go true = omega arith
-    go false = omega arith
+words_rows : (k n : ℕ) → k % 4 ≡ 0 → Words (8 + k * n)
+words_rows k n four =
+    let e : k ≡ 4 * (k / 4) = omega arith in
+    let f : k * n ≡ 4 * (k / 4 * n) = ap (λ (z : ℕ). z * n) e ∙ mul_assoc 4 (k / 4) n in
+    omega (arith, f)
 
-pub words_long : (s : Sizes) (bs : List ℕ) (n : ℕ) → Shaped s bs → n ≡ block_long s → Words n
-words_long s bs n h e = let f : n ≡ 8 + row s * s.nodes = e ∙ h.width in rw f (words_row s s.nodes)
+pub words_long : (s : Sizes) (bs : List ℕ) (k n : ℕ) → Shaped s bs → k ≡ row s → k % 4 ≡ 0 → n ≡ block_long s → Words n
+words_long s bs k n h ek four e =
+    let f : n ≡ 8 + k * s.nodes = e ∙ h.width ∙ ap (λ (z : ℕ). 8 + z * s.nodes) (sym ek) in
+    rw f (words_rows k s.nodes four)
 
-pub words_used : (s : Sizes) (k l n u : ℕ) → k ≡ row s → u ≡ used_of k l n → Words u
+pub words_used : (k l n u : ℕ) → k % 4 ≡ 0 → u ≡ used_of k l n → Words u
 unfolding used_of
-words_used s k l n u ek eu = rw (eu, ek) (go (eqb l 0))
+words_used k l n u four eu = rw eu (go (eqb l 0))
   where
-    go : (t : Bool) → Words (cond t 0 (8 + row s * n))
+    go : (t : Bool) → Words (cond t 0 (8 + k * n))
     go true = refl
-    go false = words_row s n
+    go false = words_rows k n four
 
 -- THE PASS: a block of w bytes, with k for a node, as it is read
 pub record Blocked (k w : ℕ) (bs : List ℕ) (i at level u : ℕ) : Type 0 where
@@ -216,20 +162,20 @@ module _ (s : Sizes) (k w m : ℕ) (bs : List ℕ) where
   sweeping_start ek e f = record { within = omega arith; few = omega arith; rest = rw (sub-zero, ek, e, f) }
 
   module _ (i full : ℕ) (h : Sweeping s k w m bs i full) where
-    pub sweeping_end : (t : Bool) → t ≡ true → m ≤ i → ◌≡◌ {A = Tally} (record { clean = t; full = full }) (swept s bs)
+    pub sweeping_end : m ≤ i → Some full ≡ swept s bs
     unfolding sweep_from
-    sweeping_end t q le =
+    sweeping_end le =
         let e : m - i ≡ 0 = omega arith in
-        sym (h.rest ∙ rw (e, q))
+        sym (h.rest ∙ rw e)
 
     module _ (lt : i < m) (at l u : ℕ) (b : Blocked k w bs i at l u) (t : Bool) (et : t ≡ zeros_from bs (w - u) (at + u)) where
-      sweeping_turn : swept s bs ≡ cond t (sweep_from k w bs (m - (i + 1)) (i + 1) (more_of full l)) (record { clean = false; full = full })
+      sweeping_turn : swept s bs ≡ cond t (sweep_from k w bs (m - (i + 1)) (i + 1) (more_of full l)) None
       unfolding sweep_from
       sweeping_turn =
           let e : m - i ≡ suc (m - (i + 1)) = omega arith in
           h.rest ∙ rw (e, b.clean_is, ← et, add-one, b.level_is)
 
-      pub sweeping_stop : t ≡ false → ◌≡◌ {A = Tally} (record { clean = false; full = full }) (swept s bs)
+      pub sweeping_stop : t ≡ false → None ≡ swept s bs
       sweeping_stop q = sym (sweeping_turn ∙ rw q)
 
       pub sweeping_more : t ≡ true → (n : ℕ) → n ≡ more_of full l → n ≤ full + 1 → Sweeping s k w m bs (i + 1) n

@@ -1,13 +1,14 @@
 -- A walk that comes to its end reads partitions that open one another.
-use Rattle.std.proofs.Common.{Option}
+use Rattle.std.proofs.Common.{Option, Some, None, option_and_then}
 use mathlib.Core.Path.{◌≡◌, refl, sym, ap, ◌∙◌, subst}
-use mathlib.Core.Bool.{Bool, true, false, ◌&&◌, not, cond, false≢true}
+use mathlib.Core.Bool.{Bool, true, false, ◌&&◌, not, cond}
 use mathlib.Core.List.{List, [], ◌∷◌, ◌++◌, append_assoc, append-nil}
 use Prim.Native.Nat.{ℕ, zero, suc, ◌+◌, ◌*◌, ◌-◌, ◌≤◌, ◌<◌}
 use native.Mathlib.Nat.{suc-mul, zero-mul, add-zero, add_comm}
 use native.Mathlib.Numerals.{add-one}
 use native.Mathlib.Decide.{dec_lt}
 use native.Mathlib.Omega.{arith}
+use Rattle.std.proofs.lemmas.Option.{none-some, option_and_then_some}
 use borrow.Author.Tests.{eq-eqb, ne_eqb, le-leb, leb-true, ltb-false, eqb-true, eqb-false}
 use lib.Dec.{ltb, leb, eqb}
 use lib.ListN.{length, take, drop, length-append}
@@ -23,9 +24,9 @@ use Rattle.placement.proofs.Laws.Decoding.{nodes_count}
 use Rattle.skiplist.proofs.Laws.Count.{pieces, pieces_less}
 use Rattle.skiplist.proofs.Laws.Opens.{Exact, Nodes, Walks}
 use Rattle.table.specs.declared.Seen.{Seen}
-use Rattle.table.specs.Walk.{wrong_seen, quantities_ok, price_ok, belongs_in, counts, counted, enters_ok, entered_seen, ended_seen, stops_at, fits_in, node_good, spot, chunk_spot, count_in, chunk_by, chunks_by, opens_of}
+use Rattle.table.specs.Walk.{quantities_ok, price_ok, belongs_in, counts, counted, enters_ok, entered_seen, ended_seen, fits_in, node_good, spot, chunk_spot, count_in, chunk_by, chunks_by, opens_of}
 use Rattle.table.proofs.Laws.Steps.{enters_parts, counts_parts}
-use Rattle.table.proofs.Laws.Came.{weighs, Weighs, Step, step_none, step_both, wrong_not, nodes_on, chunk_read, chunk_are}
+use Rattle.table.proofs.Laws.Came.{weighs, Weighs, Step, step_none, step_both, nodes_on, chunk_read, chunk_are}
 use Rattle.table.proofs.Laws.Counted.{under, under_both, tally}
 
 -- ---- WHAT IS READ
@@ -116,24 +117,26 @@ module _ (s : Sizes) (bs : List ℕ) (small : (b : ℕ) → Small (chunk_read s 
     pub step : Step s x seg (under (tally s T l) ns) z
 
   -- at level 0
-  opened_zero : (o : Order) (x : Seen) → Weighs s o → (counted o.key x).ok ≡ true → Opened zero o x (counted o.key x)
+  opened_zero : (o : Order) (x z : Seen) → Weighs s o → counted o.key x ≡ Some z → Opened zero o x z
   unfolding counted tally
-  opened_zero o x q e = go (counts o.key x) refl e
+  opened_zero o x z q e = go (counts o.key x) refl e
     where
       now : Seen
-      now = record { ok = true; low = o.key + 1; orders = x.orders - 1; chunks = x.chunks }
+      now = record { low = o.key + 1; orders = x.orders - 1; chunks = x.chunks }
 
-      go : (t : Bool) → counts o.key x ≡ t → (cond t now wrong_seen).ok ≡ true → Opened zero o x (cond t now wrong_seen)
+      go : (t : Bool) → counts o.key x ≡ t → cond t (Some now) None ≡ Some z → Opened zero o x z
       go true c h =
           let a = counts_parts o.key x c in
-          record {
+          let k : now ≡ z = cc in
+          subst (Opened zero o x) k
+          (record {
             seg = o ∷ [];
             walk = refl;
-            step = record { ok = a.0; end = refl; rising = (a.1, a.2, q, sym (add-one o.key)); orders = omega (arith, a.3); chunks = omega arith };
-          }
-      go false c h = absurd (wrong_not h)
+            step = record { rising = (a.0, a.1, q, sym (add-one o.key)); orders = omega (arith, a.2); chunks = omega arith };
+          })
+      go false c h = absurd (none-some z h)
 
-  module _ (l : ℕ) (ih : (o : Order) (x : Seen) → Weighed s l o → (opens_of s bs l o.key x).ok ≡ true → Opened l o x (opens_of s bs l o.key x)) (f : ℕ) where
+  module _ (l : ℕ) (ih : (o : Order) (x z : Seen) → Weighed s l o → opens_of s bs l o.key x ≡ Some z → Opened l o x z) (f : ℕ) where
     weighed_of : (o : Order) → o.total < 4294967296 → o.price < 4294967296 → weighs s (suc l) o ≡ true → Weighed s l o
     weighed_of o h g e = go l e
       where
@@ -142,10 +145,10 @@ module _ (s : Sizes) (bs : List ℕ) (small : (b : ℕ) → Small (chunk_read s 
         go (suc l) e = tt
 
     -- a node is good: its key, its price and its quantities
-    good_parts : (o : Bool) (n : Order) (x : Seen) → node_good s (suc l) f o n x ≡ true → (belongs_in s (suc l) f o n.key ≡ true) × (weighs s (suc l) n ≡ true)
+    good_parts : (o : Bool) (n : Order) → node_good s (suc l) f o n ≡ true → (belongs_in s (suc l) f o n.key ≡ true) × (weighs s (suc l) n ≡ true)
     unfolding node_good fits_in weighs
-    good_parts o n x e =
-        let p = and_parts (price_ok s (suc l) n) (fits_in s (suc l) f o n) (and_parts x.ok (price_ok s (suc l) n && fits_in s (suc l) f o n) e).1 in
+    good_parts o n e =
+        let p = and_parts (price_ok s (suc l) n) (fits_in s (suc l) f o n) e in
         let q = and_parts (belongs_in s (suc l) f o n.key) (quantities_ok (suc l) n) p.1 in
         (q.0, rw (p.0, q.1))
 
@@ -160,32 +163,29 @@ module _ (s : Sizes) (bs : List ℕ) (small : (b : ℕ) → Small (chunk_read s 
     fitting_none false = tt
 
     -- THE NODES of a chunk
-    listed : (ns : List Order) (o : Bool) (x : Seen) → Small ns → (nodes_on (opens_of s bs l) s (suc l) f o ns x).ok ≡ true
-        → Listed l o f ns x (nodes_on (opens_of s bs l) s (suc l) f o ns x)
+    listed : (ns : List Order) (o : Bool) (x z : Seen) → Small ns → nodes_on (opens_of s bs l) s (suc l) f o ns x ≡ Some z → Listed l o f ns x z
     unfolding nodes_on under weigh_all
-    listed [] o x m e = record { seg = []; nodes = refl; fitting = fitting_none o; weights = refl; step = step_none x e }
-    listed (n ∷ ns) o x m e = go (λ y h. listed ns false y m.2 h) (node_good s (suc l) f o n x) refl e
+    listed [] o x z m e =
+        let k : x ≡ z = cc in
+        subst (Listed l o f [] x) k (record { seg = []; nodes = refl; fitting = fitting_none o; weights = refl; step = step_none x })
+    listed (n ∷ ns) o x z m e = go (λ y h. listed ns false y z m.2 h) (node_good s (suc l) f o n) refl e
       where
-        y : Seen
-        y = opens_of s bs l n.key x
-
-        z : Seen
-        z = nodes_on (opens_of s bs l) s (suc l) f false ns y
-
-        go : ((y : Seen) → (nodes_on (opens_of s bs l) s (suc l) f false ns y).ok ≡ true → Listed l false f ns y (nodes_on (opens_of s bs l) s (suc l) f false ns y)) →
-            (t : Bool) → node_good s (suc l) f o n x ≡ t → (cond t z wrong_seen).ok ≡ true → Listed l o f (n ∷ ns) x (cond t z wrong_seen)
+        go : ((y : Seen) → nodes_on (opens_of s bs l) s (suc l) f false ns y ≡ Some z → Listed l false f ns y z) → (t : Bool) → node_good s (suc l) f o n ≡ t
+            → cond t (option_and_then (nodes_on (opens_of s bs l) s (suc l) f false ns) (opens_of s bs l n.key x)) None ≡ Some z → Listed l o f (n ∷ ns) x z
         go next true c h =
-            let q = good_parts o n x c in
-            let r = next y h in
-            let w = ih n x (weighed_of n m.0 m.1 q.1) r.step.ok in
+            option_and_then_some (nodes_on (opens_of s bs l) s (suc l) f false ns) (opens_of s bs l n.key x) z h
+            (λ y a b.
+            let q = good_parts o n c in
+            let r = next y b in
+            let w = ih n x y (weighed_of n m.0 m.1 q.1) a in
             record {
               seg = w.seg ++ r.seg;
               nodes = (w.seg, r.seg, refl, w.walk, r.nodes);
               fitting = fitting_more o n ns q.0 r.fitting;
               weights = rw (q.1, r.weights);
               step = step_both x y z w.seg r.seg (tally s T l n.key) (under (tally s T l) ns) w.step r.step;
-            }
-        go next false c h = absurd (wrong_not h)
+            })
+        go next false c h = absurd (none-some z h)
 
     -- ONE CHUNK
     record Chunked (i : ℕ) (ns : List Order) (x z : Seen) : Type 0 where
@@ -197,34 +197,29 @@ module _ (s : Sizes) (bs : List ℕ) (small : (b : ℕ) → Small (chunk_read s 
       pub weights : weigh_all s (suc l) ns ≡ true
       pub step : Step s x seg (suc (under (tally s T l) ns)) z
 
-    chunked : (i b : ℕ) (x : Seen) → (chunk_by (opens_of s bs l) s bs (suc l) f i b x).ok ≡ true
-        → Chunked i (chunk_read s bs b) x (chunk_by (opens_of s bs l) s bs (suc l) f i b x)
+    chunked : (i b : ℕ) (x z : Seen) → chunk_by (opens_of s bs l) s bs (suc l) f i b x ≡ Some z → Chunked i (chunk_read s bs b) x z
     unfolding entered_seen
-    chunked i b x e =
-        subst (Chunked i (chunk_read s bs b) x) (sym (chunk_are (opens_of s bs l) s bs (suc l) f i b x))
-        (go (enters_ok s.nodes n x) refl (subst (λ (z : Seen). z.ok ≡ true) (chunk_are (opens_of s bs l) s bs (suc l) f i b x) e))
+    chunked i b x z e = go (enters_ok s.nodes n x) refl (sym (chunk_are (opens_of s bs l) s bs (suc l) f i b x) ∙ e)
       where
         n : ℕ
         n = count_in (block_long s) bs b
 
-        z : Seen
-        z = nodes_on (opens_of s bs l) s (suc l) f (eqb i 0) (chunk_read s bs b) (entered_seen x)
-
-        go : (t : Bool) → enters_ok s.nodes n x ≡ t → (cond t z wrong_seen).ok ≡ true → Chunked i (chunk_read s bs b) x (cond t z wrong_seen)
+        go : (t : Bool) → enters_ok s.nodes n x ≡ t → cond t (nodes_on (opens_of s bs l) s (suc l) f (eqb i 0) (chunk_read s bs b) (entered_seen x)) None ≡ Some z
+            → Chunked i (chunk_read s bs b) x z
         go true c h =
             let p = enters_parts s.nodes n x c in
-            let v = listed (chunk_read s bs b) (eqb i 0) (entered_seen x) (small b) h in
+            let v = listed (chunk_read s bs b) (eqb i 0) (entered_seen x) z (small b) h in
             let k = read_count s bs b in
             record {
               seg = v.seg;
               nodes = v.nodes;
               fitting = v.fitting;
               weights = v.weights;
-              some = omega (arith, k, p.1);
-              most = omega (arith, k, p.2);
-              step = record { ok = p.0; end = v.step.end; rising = v.step.rising; orders = v.step.orders; chunks = omega (arith, v.step.chunks, p.3) };
+              some = omega (arith, k, p.0);
+              most = omega (arith, k, p.1);
+              step = record { rising = v.step.rising; orders = v.step.orders; chunks = omega (arith, v.step.chunks, p.2) };
             }
-        go false c h = absurd (wrong_not h)
+        go false c h = absurd (none-some z h)
 
     -- THE CHUNKS of a partition
     record Parted (i : ℕ) (ns : List Order) (v : Bool) (x z : Seen) : Type 0 where
@@ -240,9 +235,9 @@ module _ (s : Sizes) (bs : List ℕ) (small : (b : ℕ) → Small (chunk_read s 
     fitting_both true (x ∷ xs) zs h u v = (u.0, exact_both s (suc l) xs zs u.1 v)
     fitting_both false xs zs h u v = exact_both s (suc l) xs zs u v
 
-    parted_none : (i : ℕ) (x : Seen) → (i ≡ 0 → ⊥) → x.ok ≡ true → Parted i [] true x x
+    parted_none : (i : ℕ) (x : Seen) → (i ≡ 0 → ⊥) → Parted i [] true x x
     unfolding pieces under
-    parted_none i x ne e = record { seg = []; nodes = refl; fitting = fitting_none (eqb i 0); some = λ q. absurd (ne q); sound = refl; step = step_none x e }
+    parted_none i x ne = record { seg = []; nodes = refl; fitting = fitting_none (eqb i 0); some = λ q. absurd (ne q); sound = refl; step = step_none x }
 
     -- one chunk, and those behind it
     joined : (i n : ℕ) (cs ns seg : List Order) (v : Bool) (x y z : Seen) → length cs ≡ n → Chunked i cs x y → pieces s.nodes (length (cs ++ ns)) ≡ suc (pieces s.nodes (length ns)) → v ≡ true →
@@ -256,14 +251,16 @@ module _ (s : Sizes) (bs : List ℕ) (small : (b : ℕ) → Small (chunk_read s 
           fitting = fitting_both (eqb i 0) cs ns w.some w.fitting c;
           some = λ q. simp length-append (omega (arith, w.some));
           sound = rw (le-leb 1 n (omega (arith, w.some)), le-leb n s.nodes (omega (arith, w.most)), w.weights, ev);
-          step = record { ok = t.ok; end = t.end; rising = t.rising; orders = t.orders; chunks = omega (arith, t.chunks, more, under_both (tally s T l) cs ns) };
+          step = record { rising = t.rising; orders = t.orders; chunks = omega (arith, t.chunks, more, under_both (tally s T l) cs ns) };
         }
 
-    parted : (j i : ℕ) (x : Seen) → 0 < s.nodes → 0 < i + j → (chunks_by (opens_of s bs l) s bs (suc l) f j i x).ok ≡ true
-        → Parted i (part_from s bs (suc l) f j i) (sound_from s bs (suc l) f j i) x (chunks_by (opens_of s bs l) s bs (suc l) f j i x)
-    unfolding chunks_by part_from sound_from ended_seen stops_at pieces under
-    parted zero i x b h e = parted_none i x (λ q. omega (arith, q)) e
-    parted (suc j) i x b h e = go (λ y h'. parted j (suc i) y b (omega arith) h') (found_at r) e
+    parted : (j i : ℕ) (x z : Seen) → 0 < s.nodes → 0 < i + j → chunks_by (opens_of s bs l) s bs (suc l) f j i x ≡ Some z
+        → Parted i (part_from s bs (suc l) f j i) (sound_from s bs (suc l) f j i) x z
+    unfolding chunks_by part_from sound_from ended_seen pieces under
+    parted zero i x z b h e =
+        let k : x ≡ z = cc in
+        subst (Parted i [] true x) k (parted_none i x (λ q. omega (arith, q)))
+    parted (suc j) i x z b h e = go (λ y h'. parted j (suc i) y z b (omega arith) h') (found_at r) e
       where
         r : Option ℕ
         r = chunk_spot s bs (suc l) f i
@@ -274,52 +271,51 @@ module _ (s : Sizes) (bs : List ℕ) (small : (b : ℕ) → Small (chunk_read s 
         cs : List Order
         cs = chunk_read s bs (spot r)
 
-        y : Seen
-        y = chunk_by (opens_of s bs l) s bs (suc l) f i (spot r) x
-
-        z : Seen
-        z = chunks_by (opens_of s bs l) s bs (suc l) f j (suc i) y
-
         ns : List Order
         ns = part_from s bs (suc l) f j (suc i)
 
         v : Bool
         v = sound_from s bs (suc l) f j (suc i)
 
-        more : ((y : Seen) → (chunks_by (opens_of s bs l) s bs (suc l) f j (suc i) y).ok ≡ true → Parted (suc i) ns v y (chunks_by (opens_of s bs l) s bs (suc l) f j (suc i) y)) →
-            (u : Bool) → y.ok ≡ u → (t : Bool) → ltb n s.nodes ≡ t → (cond (cond u t true) y z).ok ≡ true →
-            Parted i (cs ++ cond t [] ns) (((leb 1 n && leb n s.nodes) && weigh_all s (suc l) cs) && cond t true v) x (cond (cond u t true) y z)
-        more next false a t e' q = absurd (false≢true (sym a ∙ q))
-        more next true a true e' q =
-            let w = chunked i (spot r) x a in
-            joined i n cs [] [] true x y y (read_count s bs (spot r)) w (rw (append-nil cs) (pieces_last s.nodes (length cs) w.some w.most)) refl refl tt (step_none y a)
-        more next true a false e' q =
-            let w = chunked i (spot r) x a in
-            let p = next y q in
+        behind : Seen → Option Seen
+        behind = chunks_by (opens_of s bs l) s bs (suc l) f j (suc i)
+
+        more : (y : Seen) → Chunked i cs x y → (behind y ≡ Some z → Parted (suc i) ns v y z) → (t : Bool) → ltb n s.nodes ≡ t → cond t (Some y) (behind y) ≡ Some z
+            → Parted i (cs ++ cond t [] ns) (((leb 1 n && leb n s.nodes) && weigh_all s (suc l) cs) && cond t true v) x z
+        more y w next true e' q =
+            let k : y ≡ z = cc in
+            subst (Parted i (cs ++ []) (((leb 1 n && leb n s.nodes) && weigh_all s (suc l) cs) && true) x) k
+            (joined i n cs [] [] true x y y (read_count s bs (spot r)) w (rw (append-nil cs) (pieces_last s.nodes (length cs) w.some w.most)) refl refl tt (step_none y))
+        more y w next false e' q =
+            let p = next q in
             let k = read_count s bs (spot r) in
             let full : length cs ≡ s.nodes = omega (arith, w.most, ltb-false n s.nodes e') in
             joined i n cs ns p.seg v x y z k w (rw (length-append, full) (pieces_full s.nodes (length ns) b)) p.sound p.nodes
             (subst (λ (t : Bool). Fitting s (suc l) f t ns) (ne_eqb (suc i) 0 (λ o. omega (arith, o))) p.fitting) p.step
 
-        go : ((y : Seen) → (chunks_by (opens_of s bs l) s bs (suc l) f j (suc i) y).ok ≡ true → Parted (suc i) ns v y (chunks_by (opens_of s bs l) s bs (suc l) f j (suc i) y)) →
-            (t : Bool) → (cond t (cond (stops_at s.nodes n y) y z) (cond (eqb i 0) wrong_seen x)).ok ≡ true →
-            Parted i (cond t (cs ++ cond (ltb n s.nodes) [] ns) []) (cond t (((leb 1 n && leb n s.nodes) && weigh_all s (suc l) cs) && cond (ltb n s.nodes) true v) true) x (cond t (cond (stops_at s.nodes n y) y z) (cond (eqb i 0) wrong_seen x))
-        go next true q = more next y.ok refl (ltb n s.nodes) refl q
+        go : ((y : Seen) → behind y ≡ Some z → Parted (suc i) ns v y z) → (t : Bool) →
+            cond t (option_and_then (λ y. cond (ltb n s.nodes) (Some y) (behind y)) (chunk_by (opens_of s bs l) s bs (suc l) f i (spot r) x)) (cond (eqb i 0) None (Some x)) ≡ Some z →
+            Parted i (cond t (cs ++ cond (ltb n s.nodes) [] ns) []) (cond t (((leb 1 n && leb n s.nodes) && weigh_all s (suc l) cs) && cond (ltb n s.nodes) true v) true) x z
+        go next true q =
+            option_and_then_some (λ y. cond (ltb n s.nodes) (Some y) (behind y)) (chunk_by (opens_of s bs l) s bs (suc l) f i (spot r) x) z q
+            (λ y a b'. more y (chunked i (spot r) x y a) (next y) (ltb n s.nodes) refl b')
         go next false q = last (eqb i 0) refl q
           where
-            last : (u : Bool) → eqb i 0 ≡ u → (cond u wrong_seen x).ok ≡ true → Parted i [] true x (cond u wrong_seen x)
-            last true e' q' = absurd (wrong_not q')
-            last false e' q' = parted_none i x (eqb-false i 0 e') q'
+            last : (u : Bool) → eqb i 0 ≡ u → cond u None (Some x) ≡ Some z → Parted i [] true x z
+            last true e' q' = absurd (none-some z q')
+            last false e' q' =
+                let k : x ≡ z = cc in
+                subst (Parted i [] true x) k (parted_none i x (eqb-false i 0 e'))
 
   -- A NODE that opens
   head_of : (ns : List Order) → 0 < length ns → (o : Order) × (rest : List Order) × (ns ≡ o ∷ rest)
   head_of [] h = absurd (omega arith)
   head_of (o ∷ ns) h = (o, ns, refl)
 
-  pub opened : 0 < s.nodes → 0 < s.blocks → (l : ℕ) (o : Order) (x : Seen) → Weighed s l o → (opens_of s bs l o.key x).ok ≡ true → Opened l o x (opens_of s bs l o.key x)
+  pub opened : 0 < s.nodes → 0 < s.blocks → (l : ℕ) (o : Order) (x z : Seen) → Weighed s l o → opens_of s bs l o.key x ≡ Some z → Opened l o x z
   unfolding opens_of tally part_sound
-  opened b pos zero o x q e = opened_zero o x q e
-  opened b pos (suc l) o x q e = go (opened b pos l)
+  opened b pos zero o x z q e = opened_zero o x z q e
+  opened b pos (suc l) o x z q e = go (opened b pos l)
     where
       f : ℕ
       f = o.key
@@ -327,12 +323,9 @@ module _ (s : Sizes) (bs : List ℕ) (small : (b : ℕ) → Small (chunk_read s 
       all : List Order
       all = part_from s bs (suc l) f s.blocks 0
 
-      z : Seen
-      z = chunks_by (opens_of s bs l) s bs (suc l) f s.blocks 0 x
-
-      go : ((o : Order) (x : Seen) → Weighed s l o → (opens_of s bs l o.key x).ok ≡ true → Opened l o x (opens_of s bs l o.key x)) → Opened (suc l) o x z
+      go : ((o : Order) (x z : Seen) → Weighed s l o → opens_of s bs l o.key x ≡ Some z → Opened l o x z) → Opened (suc l) o x z
       go ih =
-          let p = parted l ih f s.blocks 0 x b (omega arith) e in
+          let p = parted l ih f s.blocks 0 x z b (omega arith) e in
           let st : T (suc l) f ≡ all = rw p.sound in
           let w = head_of all (p.some refl) in
           let u : Fitting s (suc l) f true (w.0 ∷ w.1) = subst (λ (r : List Order). Fitting s (suc l) f true r) w.2 (subst (λ (b : Bool). Fitting s (suc l) f b all) (eq-eqb 0 0 refl) p.fitting) in

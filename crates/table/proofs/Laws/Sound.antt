@@ -86,7 +86,7 @@ module _ (bs : List ℕ) (u : Bytes bs) (a : Accepted bs) where
 
   -- AS MANY full blocks as the orders have chunks
   count : how_many (blocks_in s bs) ≡ length (chunks s os)
-  count = sym (swept_count s bs a.clean) ∙ a.chunks ∙ met_all s os a.up (part_sound s bs) (reads_keys s (part_sound s bs) os a.walk a.up) (some_nodes s good)
+  count = sym (swept_count s bs a.full a.clean) ∙ a.chunks ∙ met_all s os a.up (part_sound s bs) (reads_keys s (part_sound s bs) os a.walk a.up) (some_nodes s good)
 
   fit : fits s os ≡ true
   fit = fits_make s os (omega (arith, a.held, a.rule.held)) (omega (arith, count, how_many_most (blocks_in s bs), blocks_many))
@@ -136,7 +136,7 @@ module _ (bs : List ℕ) (u : Bytes bs) (a : Accepted bs) where
   clean : (i : ℕ) → i < s.blocks → Clean s (block_in (block_long s) bs i)
   unfolding chunk_of
   clean i h =
-      clean_block s bs i long h (swept_clean s bs a.clean i h)
+      clean_block s bs i long h (swept_clean s bs a.full a.clean i h)
       (λ p.
       let x = block_in (block_long s) bs i in
       let m = filled_member s.nodes (chunk_of (row s) x) (chunks s os) (chunks_filled s os (some_nodes s good)) (only i (chunk_of (row s) x) h (full_block i h p)) in

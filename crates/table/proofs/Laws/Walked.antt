@@ -1,4 +1,5 @@
 -- Over bytes where each search finds the chunk of its partition, a walk goes on exactly by the orders and chunks under a node.
+use Rattle.std.proofs.Common.{Some}
 use mathlib.Core.Path.{◌≡◌, refl, sym, ap, ◌∙◌, subst}
 use mathlib.Core.Bool.{Bool, true, false, cond, true≢false}
 use mathlib.Core.List.{List, [], ◌∷◌, ◌++◌, append_assoc, map}
@@ -21,7 +22,7 @@ use Rattle.skiplist.specs.Lists.{masked}
 use Rattle.skiplist.proofs.Laws.Count.{pieces, pieces_less}
 use Rattle.skiplist.proofs.Laws.Opens.{Exact, Nodes, Walks, shape}
 use Rattle.table.specs.declared.Seen.{Seen}
-use Rattle.table.specs.Walk.{nothing_in, quantities_ok, price_ok, belongs_in, counts, counted, enters_ok, entered_seen, ended_seen, stops_at, fits_in, node_good, spot, chunk_spot, count_in, chunk_by, chunks_by, opens_of}
+use Rattle.table.specs.Walk.{nothing_in, quantities_ok, price_ok, belongs_in, counts, counted, enters_ok, entered_seen, ended_seen, fits_in, node_good, spot, chunk_spot, count_in, chunk_by, chunks_by, opens_of}
 use Rattle.table.proofs.Laws.Came.{weighs, Rising, Step, rising_split, step_split, nodes_on, chunk_read, chunk_are}
 use Rattle.table.proofs.Laws.Counted.{under, under_both, tally}
 use Rattle.table.proofs.Laws.Reading.{Fitting, read_count}
@@ -29,22 +30,20 @@ use Rattle.table.proofs.Laws.Reading.{Fitting, read_count}
 -- nothing came by
 pub step_same : {s : Sizes} (x z : Seen) → Step s x [] 0 z → x ≡ z
 step_same x z u =
-    let o = u.ok ∙ sym u.end in
     let l = u.rising in
     let n : x.orders ≡ z.orders = omega (arith, u.orders) in
     let c : x.chunks ≡ z.chunks = omega (arith, u.chunks) in
-    λ i. record { ok = o i; low = l i; orders = n i; chunks = c i }
+    λ i. record { low = l i; orders = n i; chunks = c i }
 
 -- one order came by
-one_counted : {s : Sizes} (o : Order) (x z : Seen) → Step s x (o ∷ []) 0 z → counted o.key x ≡ z
+one_counted : {s : Sizes} (o : Order) (x z : Seen) → Step s x (o ∷ []) 0 z → counted o.key x ≡ Some z
 unfolding counted counts
 one_counted o x z u =
     let r = u.rising in
     let k : o.key + 1 ≡ z.low = add-one o.key ∙ r.3 in
     let n : x.orders - 1 ≡ z.orders = omega (arith, u.orders) in
     let c : x.chunks ≡ z.chunks = omega (arith, u.chunks) in
-    let e = sym u.end in
-    rw (u.ok, le-leb x.low o.key r.0, lt-ltb o.key prime r.1, le-leb 1 x.orders (omega (arith, u.orders))) (λ i. record { ok = e i; low = k i; orders = n i; chunks = c i })
+    rw (le-leb x.low o.key r.0, lt-ltb o.key prime r.1, le-leb 1 x.orders (omega (arith, u.orders))) (λ i. Some (record { low = k i; orders = n i; chunks = c i }))
 
 -- after an order some key is passed
 rising_most : (s : Sizes) (a b : ℕ) (xs : List Order) → Rising s a xs b → a ≤ b
@@ -83,7 +82,7 @@ module _ (s : Sizes) (bs : List ℕ) (T : (l f : ℕ) → List Order) (b : 0 < s
     (finds : (l f i : ℕ) → 0 < l → l ≤ beta s → FindsChunk s bs l f i (map (masked l) (take s.nodes (drop (i * s.nodes) (T l f))))) where
   -- a node that opens as it should
   abbrev Opens : (l : ℕ) → Type 0
-  Opens l = (x : Order) (seg : List Order) → Walks s T l x seg → (st z : Seen) → st.chunks ≤ s.blocks → Step s st seg (tally s T l x.key) z → opens_of s bs l x.key st ≡ z
+  Opens l = (x : Order) (seg : List Order) → Walks s T l x seg → (st z : Seen) → st.chunks ≤ s.blocks → Step s st seg (tally s T l x.key) z → opens_of s bs l x.key st ≡ Some z
 
   module _ (l f : ℕ) (ih : Opens l) where
     -- a node is good: its key, its level, its price and its quantities
@@ -112,17 +111,17 @@ module _ (s : Sizes) (bs : List ℕ) (T : (l f : ℕ) → List Order) (b : 0 < s
     rest_exact true n ns u = u.1
     rest_exact false n ns u = u.1
 
-    good_is : (o : Bool) (n : Order) (x : Seen) → x.ok ≡ true → belongs_in s (suc l) f o n.key ≡ true → weighs s (suc l) (masked (suc l) n) ≡ true → node_good s (suc l) f o (masked (suc l) n) x ≡ true
+    good_is : (o : Bool) (n : Order) → belongs_in s (suc l) f o n.key ≡ true → weighs s (suc l) (masked (suc l) n) ≡ true → node_good s (suc l) f o (masked (suc l) n) ≡ true
     unfolding node_good fits_in weighs masked
-    good_is o n x a c d =
+    good_is o n c d =
         let p = and_parts (price_ok s (suc l) (masked (suc l) n)) (quantities_ok (suc l) (masked (suc l) n)) d in
-        rw (a, c, p.0, p.1)
+        rw (c, p.0, p.1)
 
     -- THE NODES of a chunk
     nodes_is : (ns : List Order) (o : Bool) (seg : List Order) (st z : Seen) → Nodes s T (Walks s T l) ns seg → Fitting s (suc l) f o ns → (o ≡ false → 0 < st.low) → st.chunks ≤ s.blocks →
-        Step s st seg (under (tally s T l) ns) z → nodes_on (opens_of s bs l) s (suc l) f o (map (masked (suc l)) ns) st ≡ z
+        Step s st seg (under (tally s T l) ns) z → nodes_on (opens_of s bs l) s (suc l) f o (map (masked (suc l)) ns) st ≡ Some z
     unfolding nodes_on under
-    nodes_is [] o seg st z w u h m p = step_same st z (subst (λ (r : List Order). Step s st r 0 z) w p)
+    nodes_is [] o seg st z w u h m p = ap Some (step_same st z (subst (λ (r : List Order). Step s st r 0 z) w p))
     nodes_is (n ∷ ns) o seg st z w u h m p =
         let d = step_split st z w.0 w.1 (tally s T l n.key) (under (tally s T l) ns) (subst (λ (r : List Order). Step s st r (tally s T l n.key + under (tally s T l) ns) z) w.2 p) in
         let y = d.state in
@@ -130,23 +129,23 @@ module _ (s : Sizes) (bs : List ℕ) (T : (l f : ℕ) → List Order) (b : 0 < s
         let e1 = belongs o n ns u (λ q. omega (arith, k.0, h q)) in
         let e2 = weighs_masked n w.0 st.low y.low w.3 d.first.rising in
         let e3 = ih n w.0 w.3 st y m d.first in
-        rw (good_is o n st p.ok e1 e2, key_is (suc l) n, e3) (nodes_is ns false w.1 y z w.4 (rest_exact o n ns u) (λ q. k.1) (omega (arith, d.first.chunks)) d.then)
+        rw (good_is o n e1 e2, key_is (suc l) n, e3) (nodes_is ns false w.1 y z w.4 (rest_exact o n ns u) (λ q. k.1) (omega (arith, d.first.chunks)) d.then)
 
     -- ONE CHUNK
     entered_step : (st y : Seen) (seg : List Order) (c : ℕ) → Step s st seg (suc c) y → Step s (entered_seen st) seg c y
     unfolding entered_seen
-    entered_step st y seg c p = record { ok = p.ok; end = p.end; rising = p.rising; orders = p.orders; chunks = omega (arith, p.chunks) }
+    entered_step st y seg c p = record { rising = p.rising; orders = p.orders; chunks = omega (arith, p.chunks) }
 
     enters_is : (n : ℕ) (st y : Seen) (seg : List Order) (c : ℕ) → 0 < n → n ≤ s.nodes → Step s st seg (suc c) y → enters_ok s.nodes n st ≡ true
     unfolding enters_ok
-    enters_is n st y seg c h g p = rw (p.ok, le-leb 1 n h, le-leb n s.nodes g, le-leb 1 st.chunks (omega (arith, p.chunks)))
+    enters_is n st y seg c h g p = rw (le-leb 1 n h, le-leb n s.nodes g, le-leb 1 st.chunks (omega (arith, p.chunks)))
 
     entered_low : (st : Seen) → ((entered_seen st).low ≡ st.low) × ((entered_seen st).chunks ≤ st.chunks)
     unfolding entered_seen
     entered_low st = (refl, omega arith)
 
     chunk_is : (i k : ℕ) (ns seg : List Order) (st y : Seen) → chunk_read s bs k ≡ map (masked (suc l)) ns → 0 < length ns → length ns ≤ s.nodes → Nodes s T (Walks s T l) ns seg →
-        Fitting s (suc l) f (eqb i 0) ns → (eqb i 0 ≡ false → 0 < st.low) → st.chunks ≤ s.blocks → Step s st seg (suc (under (tally s T l) ns)) y → chunk_by (opens_of s bs l) s bs (suc l) f i k st ≡ y
+        Fitting s (suc l) f (eqb i 0) ns → (eqb i 0 ≡ false → 0 < st.low) → st.chunks ≤ s.blocks → Step s st seg (suc (under (tally s T l) ns)) y → chunk_by (opens_of s bs l) s bs (suc l) f i k st ≡ Some y
     chunk_is i k ns seg st y e h g w u low m p =
         let c : count_in (block_long s) bs k ≡ length ns = sym (read_count s bs k) ∙ ap length e ∙ length-map ns (masked (suc l)) in
         let q = entered_low st in
@@ -155,17 +154,13 @@ module _ (s : Sizes) (bs : List ℕ) (T : (l f : ℕ) → List Order) (b : 0 < s
         (nodes_is ns (eqb i 0) seg (entered_seen st) y w u (λ z. omega (arith, q.0, low z)) (omega (arith, q.1)) (entered_step st y seg (under (tally s T l) ns) p))
 
     -- THE CHUNKS of a partition: one, and those behind it
-    stops_is : (n : ℕ) (y : Seen) → y.ok ≡ true → stops_at s.nodes n y ≡ ltb n s.nodes
-    unfolding stops_at
-    stops_is n y e = ap (λ (t : Bool). cond t (ltb n s.nodes) true) e
-
-    one_more : (j i : ℕ) (st y : Seen) → found_at (chunk_spot s bs (suc l) f i) ≡ true → chunk_by (opens_of s bs l) s bs (suc l) f i (spot (chunk_spot s bs (suc l) f i)) st ≡ y → y.ok ≡ true →
+    one_more : (j i : ℕ) (st y : Seen) → found_at (chunk_spot s bs (suc l) f i) ≡ true → chunk_by (opens_of s bs l) s bs (suc l) f i (spot (chunk_spot s bs (suc l) f i)) st ≡ Some y →
         chunks_by (opens_of s bs l) s bs (suc l) f (suc j) i st
-        ≡ cond (ltb (count_in (block_long s) bs (spot (chunk_spot s bs (suc l) f i))) s.nodes) y (chunks_by (opens_of s bs l) s bs (suc l) f j (suc i) y)
+        ≡ cond (ltb (count_in (block_long s) bs (spot (chunk_spot s bs (suc l) f i))) s.nodes) (Some y) (chunks_by (opens_of s bs l) s bs (suc l) f j (suc i) y)
     unfolding chunks_by
-    one_more j i st y e q o = rw (e, q, stops_is (count_in (block_long s) bs (spot (chunk_spot s bs (suc l) f i))) y o)
+    one_more j i st y e q = rw (e, q)
 
-    none_more : (j i : ℕ) (st : Seen) → found_at (chunk_spot s bs (suc l) f i) ≡ false → (i ≡ 0 → ⊥) → chunks_by (opens_of s bs l) s bs (suc l) f (suc j) i st ≡ st
+    none_more : (j i : ℕ) (st : Seen) → found_at (chunk_spot s bs (suc l) f i) ≡ false → (i ≡ 0 → ⊥) → chunks_by (opens_of s bs l) s bs (suc l) f (suc j) i st ≡ Some st
     unfolding chunks_by ended_seen
     none_more j i st e ne = rw (e, ne_eqb i 0 ne)
 
@@ -182,13 +177,13 @@ module _ (s : Sizes) (bs : List ℕ) (T : (l f : ℕ) → List Order) (b : 0 < s
 
     chunks_is : suc l ≤ beta s → (j i : ℕ) (rest seg : List Order) (st z : Seen) → rest ≡ drop (i * s.nodes) (T (suc l) f) → pieces s.nodes (length rest) ≤ j → (i ≡ 0 → 0 < length rest) →
         Nodes s T (Walks s T l) rest seg → Fitting s (suc l) f (eqb i 0) rest → (eqb i 0 ≡ false → 0 < st.low) → st.chunks ≤ s.blocks →
-        Step s st seg (pieces s.nodes (length rest) + under (tally s T l) rest) z → chunks_by (opens_of s bs l) s bs (suc l) f j i st ≡ z
+        Step s st seg (pieces s.nodes (length rest) + under (tally s T l) rest) z → chunks_by (opens_of s bs l) s bs (suc l) f j i st ≡ Some z
     unfolding pieces under chunks_by
-    chunks_is top zero i [] seg st z e h g w u low m p = step_same st z (subst (λ (r : List Order). Step s st r 0 z) w p)
+    chunks_is top zero i [] seg st z e h g w u low m p = ap Some (step_same st z (subst (λ (r : List Order). Step s st r 0 z) w p))
     chunks_is top (suc j) i [] seg st z e h g w u low m p =
         let d = finds (suc l) f i (omega arith) top in
         let n : length (map (masked (suc l)) (take s.nodes (drop (i * s.nodes) (T (suc l) f)))) ≡ 0 = rw (← e) (ap length (ap (map (masked (suc l))) (take-nil {A = Order} s.nodes))) in
-        none_more j i st (d.gone n) (λ q. omega (arith, g q)) ∙ step_same st z (subst (λ (r : List Order). Step s st r 0 z) w p)
+        none_more j i st (d.gone n) (λ q. omega (arith, g q)) ∙ ap Some (step_same st z (subst (λ (r : List Order). Step s st r 0 z) w p))
     chunks_is top zero i (r ∷ rs) seg st z e h g w u low m p = absurd (omega arith)
     chunks_is top (suc j) i (r ∷ rs) seg st z e h g w u low m p =
         go (λ seg' y. chunks_is top j (suc i) (drop s.nodes (r ∷ rs)) seg' y z) (nodes_split s T (Walks s T l) xs ys seg (subst (λ (q : List Order). Nodes s T (Walks s T l) q seg) (sym both) w))
@@ -204,8 +199,8 @@ module _ (s : Sizes) (bs : List ℕ) (T : (l f : ℕ) → List Order) (b : 0 < s
 
         go : ((seg' : List Order) (y : Seen) → ys ≡ drop (suc i * s.nodes) (T (suc l) f) → pieces s.nodes (length ys) ≤ j → (suc i ≡ 0 → 0 < length ys) → Nodes s T (Walks s T l) ys seg' →
             Fitting s (suc l) f (eqb (suc i) 0) ys → (eqb (suc i) 0 ≡ false → 0 < y.low) → y.chunks ≤ s.blocks → Step s y seg' (pieces s.nodes (length ys) + under (tally s T l) ys) z →
-            chunks_by (opens_of s bs l) s bs (suc l) f j (suc i) y ≡ z) →
-            (a : List Order) × (b : List Order) × (seg ≡ a ++ b) × Nodes s T (Walks s T l) xs a × Nodes s T (Walks s T l) ys b → chunks_by (opens_of s bs l) s bs (suc l) f (suc j) i st ≡ z
+            chunks_by (opens_of s bs l) s bs (suc l) f j (suc i) y ≡ Some z) →
+            (a : List Order) × (b : List Order) × (seg ≡ a ++ b) × Nodes s T (Walks s T l) xs a × Nodes s T (Walks s T l) ys b → chunks_by (opens_of s bs l) s bs (suc l) f (suc j) i st ≡ Some z
         go ih v =
             let n = length-take s.nodes (r ∷ rs) in
             let lx : 0 < length xs = omega (arith, n, b) in
@@ -221,16 +216,16 @@ module _ (s : Sizes) (bs : List ℕ) (T : (l f : ℕ) → List Order) (b : 0 < s
             (subst (λ (q : ℕ). Step s st (v.0 ++ v.1) q z) c3 (subst (λ (q : List Order). Step s st q (pieces s.nodes (length (r ∷ rs)) + under (tally s T l) (r ∷ rs)) z) v.2 p)) in
             let ck = chunk_is i (spot (chunk_spot s bs (suc l) f i)) xs v.0 st d.state (k1.1 ∙ ms) lx lb v.3 fs.0 low m d.first in
             let lc : count_in (block_long s) bs (spot (chunk_spot s bs (suc l) f i)) ≡ length xs = sym (read_count s bs (spot (chunk_spot s bs (suc l) f i))) ∙ ap length (k1.1 ∙ ms) ∙ length-map xs (masked (suc l)) in
-            one_more j i st d.state k1.0 ck d.first.end
+            one_more j i st d.state k1.0 ck
             ∙ last d.state d.first d.then lc (omega (arith, c1, h)) fs.1 (ltb (count_in (block_long s) bs (spot (chunk_spot s bs (suc l) f i))) s.nodes) refl
           where
             last : (y : Seen) → Step s st v.0 (suc (under (tally s T l) xs)) y → Step s y v.1 (pieces s.nodes (length ys) + under (tally s T l) ys) z →
                 count_in (block_long s) bs (spot (chunk_spot s bs (suc l) f i)) ≡ length xs → pieces s.nodes (length ys) ≤ j → Exact s (suc l) ys →
-                (t : Bool) → ltb (count_in (block_long s) bs (spot (chunk_spot s bs (suc l) f i))) s.nodes ≡ t → cond t y (chunks_by (opens_of s bs l) s bs (suc l) f j (suc i) y) ≡ z
+                (t : Bool) → ltb (count_in (block_long s) bs (spot (chunk_spot s bs (suc l) f i))) s.nodes ≡ t → cond t (Some y) (chunks_by (opens_of s bs l) s bs (suc l) f j (suc i) y) ≡ Some z
             last y p1 p2 lc few ex true q =
                 let n = length-take s.nodes (r ∷ rs) in
                 let n2 = length-drop s.nodes (r ∷ rs) in
-                none_left ys v.1 y z (omega (arith, n, n2, lc, ltb-true (count_in (block_long s) bs (spot (chunk_spot s bs (suc l) f i))) s.nodes q)) v.4 p2
+                ap Some (none_left ys v.1 y z (omega (arith, n, n2, lc, ltb-true (count_in (block_long s) bs (spot (chunk_spot s bs (suc l) f i))) s.nodes q)) v.4 p2)
             last y p1 p2 lc few ex false q =
                 let n = length-take s.nodes (r ∷ rs) in
                 let en : suc i * s.nodes ≡ i * s.nodes + s.nodes = suc-mul i s.nodes in

@@ -1,62 +1,37 @@
--- `edits::changes::amend` meets its contract: 14, 5 and 6 are asked together; then the way to the key ends at its order, or the key is not held.
-use borrow.Author.Rules.{rules}
+-- 14, 5 and 6 are asked together; then the way to the key ends at its order, or the key is not held.
+use Rattle.std.proofs.Common.{◌≡◌, arith, Some, None}
+use Rattle.std.proofs.lemmas.Result.{err_from_is_err_and}
+use Rattle.table.specs.Calls.{AmendSays}
+use Rattle.table.specs.declared.Refusal.TheVariants.{NotHeld}
 use Rattle.readings.proofs.Laws.Answers.{known_at}
-use Rattle.readings.proofs.Laws.Replies.{checked_yes, checked_no}
-use Rattle.edits.proofs.Laws.EditAnswers.{amend_no_4, asked_sure, amend_asked}
+use Rattle.edits.proofs.Laws.EditAnswers.{refused_4, asked_sure, amend_asked}
 use Rattle.edits.proofs.Laws.AmendAnswers.{amend_no_9, amend_done}
 use Rattle.edits.proofs.changes.amend.Goals as goal
 
-pub check-requires : goal.check-requires
-check-requires c = search rules
+pub returns-in_err-examine : goal.returns-in_err-examine
+unfolding AmendSays
+returns-in_err-examine c =
+    let p = err_from_is_err_and c.from_residual.result c.from_residual.ensures.1 in
+    rw (p.1, p.2) (refused_4 _ _ _ c.in_err-examine.ensures)
 
-pub shape_of-table-then-check-ne0 : goal.shape_of-table-then-check-ne0
-shape_of-table-then-check-ne0 c = search rules
-
-pub returns-then-check-ne0 : goal.returns-then-check-ne0
-returns-then-check-ne0 c = amend_no_4 _ _ (checked_no _ _ c.check.ensures.0 c.if-check-ne0.true)
-
-pub geometry_of-q-requires : goal.geometry_of-q-requires
-geometry_of-q-requires c = checked_yes _ _ c.check.ensures.0 c.if-check-ne0.false
-
-pub asked-n-requires : goal.asked-n-requires
-asked-n-requires c = search rules
-
-pub shape_of-table-then-n-ne0 : goal.shape_of-table-then-n-ne0
-shape_of-table-then-n-ne0 c = search rules
-
-pub returns-then-n-ne0 : goal.returns-then-n-ne0
-returns-then-n-ne0 c =
-    amend_asked _ (checked_yes _ _ c.check.ensures.0 c.if-check-ne0.false) _ c.geometry_of-q.ensures.0 _ _ c.asked-n.ensures c.if-n-ne0.true
+pub returns-in_err-asked : goal.returns-in_err-asked
+returns-in_err-asked c =
+    let p = err_from_is_err_and c.from_residual-in_err-asked.result c.from_residual-in_err-asked.ensures.1 in
+    rw (p.1, p.2) (amend_asked _ c.in_ok-examine.ensures.0 _ c.geometry_of-q.ensures.0 _ _ c.in_err-asked.ensures)
 
 pub way_down-w-requires : goal.way_down-w-requires
-way_down-w-requires c =
-    let p = asked_sure _ (checked_yes _ _ c.check.ensures.0 c.if-check-ne0.false) _ c.geometry_of-q.ensures.0 _ _ c.asked-n.ensures c.if-n-ne0.false in
-    ((known_at _ _ p.image p.sizes_are).shaped, c.geometry_of-q.ensures.1)
+way_down-w-requires c = ((known_at _ _ c.in_ok-examine.ensures.0 c.geometry_of-q.ensures.0).shaped, c.geometry_of-q.ensures.1)
 
-pub order_at-requires : goal.order_at-requires
-order_at-requires c = search rules
-
-pub enum_known-was : goal.enum_known-was
-enum_known-was c = search rules
-
-pub enum_told-1 : goal.enum_told-1
-enum_told-1 c = search rules
-
-pub shape_of-table-in_default : goal.shape_of-table-in_default
-shape_of-table-in_default c = search rules
-
-pub returns-in_default : goal.returns-in_default
-returns-in_default c =
-    let p = asked_sure _ (checked_yes _ _ c.check.ensures.0 c.if-check-ne0.false) _ c.geometry_of-q.ensures.0 _ _ c.asked-n.ensures c.if-n-ne0.false in
-    amend_no_9 _ _ _ p c.geometry_of-q.ensures.1 _ c.way_down-w.ensures.0 _ c.order_at.ensures (search rules)
-
-pub write_node-requires : goal.write_node-requires
-write_node-requires c = search rules
-
-pub shape_of-table : goal.shape_of-table
-shape_of-table c = search rules
+pub returns-in_err-ok_or : goal.returns-in_err-ok_or
+returns-in_err-ok_or c =
+    let s = asked_sure _ c.in_ok-examine.ensures.0 _ c.geometry_of-q.ensures.0 _ c.in_ok-asked.ensures in
+    let none : c.order_at.result ≡ None = grind arith in
+    let e : c.in_err-ok_or.field-0.0 ≡ NotHeld = grind arith in
+    let p = err_from_is_err_and c.from_residual-in_err-ok_or.result c.from_residual-in_err-ok_or.ensures.1 in
+    rw (p.1, p.2, e) (amend_no_9 _ _ _ s c.geometry_of-q.ensures.1 _ c.way_down-w.ensures.0 _ c.order_at.ensures none)
 
 pub returns : goal.returns
 returns c =
-    let p = asked_sure _ (checked_yes _ _ c.check.ensures.0 c.if-check-ne0.false) _ c.geometry_of-q.ensures.0 _ _ c.asked-n.ensures c.if-n-ne0.false in
-    amend_done _ _ _ p c.geometry_of-q.ensures.1 _ c.way_down-w.ensures.0 _ c.order_at.ensures c.in-Some.was c.in-Some.is _ (search rules)
+    let s = asked_sure _ c.in_ok-examine.ensures.0 _ c.geometry_of-q.ensures.0 _ c.in_ok-asked.ensures in
+    let some : c.order_at.result ≡ Some c.in_ok-ok_or.field-0 = grind arith in
+    amend_done _ _ _ s c.geometry_of-q.ensures.1 _ c.way_down-w.ensures.0 _ c.order_at.ensures _ some _ c.write_node.ensures

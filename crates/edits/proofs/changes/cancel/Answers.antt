@@ -1,55 +1,31 @@
--- `edits::changes::cancel` meets its contract: each need follows from the laws listed.
-use borrow.Author.Rules.{rules}
-use borrow.Author.Tests.{not-true, not-false}
+-- The key is one that an order may have, and an order has it.
+use Rattle.std.proofs.Common.{◌≡◌, sym, arith, Some, None}
+use Rattle.std.proofs.lemmas.Result.{err_from_is_err_and}
+use Rattle.table.specs.Calls.{CancelSays}
+use Rattle.table.specs.declared.Refusal.TheVariants.{NotHeld}
 use Rattle.readings.proofs.Laws.Answers.{known_at}
-use Rattle.readings.proofs.Laws.Replies.{checked_yes, checked_no, key_least, sought_absent}
-use Rattle.edits.proofs.Laws.EditAnswers.{told}
-use Rattle.edits.proofs.Laws.CancelAnswers.{seen_held, seen_is_key, seen_cancels, cancel_no_4, cancel_no_5, cancel_no_9}
+use Rattle.readings.proofs.Laws.Replies.{sought_absent, sought_there}
+use Rattle.edits.proofs.Laws.EditAnswers.{refused_4, key_some}
+use Rattle.edits.proofs.Laws.CancelAnswers.{cancel_no_5, cancel_no_9}
 use Rattle.edits.proofs.changes.cancel.Goals as goal
 
-ruleset laws = (rules, known_at, not-true, not-false, checked_yes, checked_no, told, key_least, cancel_no_4, cancel_no_5, cancel_no_9, sought_absent, seen_held, seen_is_key, seen_cancels)
-
-pub check-requires : goal.check-requires
-check-requires c = search laws
-
-pub shape_of-table-then-check-ne0 : goal.shape_of-table-then-check-ne0
-shape_of-table-then-check-ne0 c = search laws
-
-pub returns-then-check-ne0 : goal.returns-then-check-ne0
-returns-then-check-ne0 c = search laws
-
-pub is_key-requires : goal.is_key-requires
-is_key-requires c = search laws
-
-pub shape_of-table-then-not-is_key : goal.shape_of-table-then-not-is_key
-shape_of-table-then-not-is_key c = search laws
+pub returns-in_err-examine : goal.returns-in_err-examine
+unfolding CancelSays
+returns-in_err-examine c =
+    let p = err_from_is_err_and c.from_residual.result c.from_residual.ensures.1 in
+    rw (p.1, p.2) (refused_4 _ _ _ c.in_err-examine.ensures)
 
 pub returns-then-not-is_key : goal.returns-then-not-is_key
-returns-then-not-is_key c = search laws
-
-pub geometry_of-q-requires : goal.geometry_of-q-requires
-geometry_of-q-requires c = search laws
+returns-then-not-is_key c = cancel_no_5 _ _ c.in_ok-examine.ensures.0 (sym c.if-not-is_key.ensures)
 
 pub order_of-requires : goal.order_of-requires
-order_of-requires c = search laws
-
-pub enum_known-o : goal.enum_known-o
-enum_known-o c = search laws
-
-pub enum_told-1 : goal.enum_told-1
-enum_told-1 c = search laws
-
-pub shape_of-table-in_default : goal.shape_of-table-in_default
-shape_of-table-in_default c = search laws
+order_of-requires c =
+    (known_at _ _ c.in_ok-examine.ensures.0 c.geometry_of-q.ensures.0, c.geometry_of-q.ensures.1, key_some _ (sym c.if-not-is_key.ensures))
 
 pub returns-in_default : goal.returns-in_default
-returns-in_default c = search laws
+returns-in_default c =
+    cancel_no_9 _ _ c.in_ok-examine.ensures.0 (sym c.if-not-is_key.ensures) (sought_absent _ _ _ c.order_of.ensures c.in_default.is)
 
-pub cancel_sure-requires : goal.cancel_sure-requires
-cancel_sure-requires c = (search laws, search laws, search laws, c.geometry_of-q.ensures.0, c.geometry_of-q.ensures.1)
-
-pub shape_of-table : goal.shape_of-table
-shape_of-table c = search laws
-
-pub returns : goal.returns
-returns c = search laws
+pub cancel_held-requires : goal.cancel_held-requires
+cancel_held-requires c =
+    (c.in_ok-examine.ensures.0, sym c.if-not-is_key.ensures, (sought_there _ _ _ c.order_of.ensures _ c.in-Some.is).0, c.geometry_of-q.ensures.0, c.geometry_of-q.ensures.1)

@@ -1,74 +1,26 @@
--- `levels::edit::enter_in` meets its contract: each need follows from the laws listed.
-use borrow.Author.Rules.{rules}
-use mathlib.Core.Path.{refl}
-use native.Mathlib.Omega.{arith}
+-- `levels::edit::enter_in` meets its contract: each goal follows from a law of a key entered.
+use Rattle.std.proofs.Common.{◌≡◌, ◌+◌, ◌≤◌, refl, arith, rules}
 use Rattle.levels.proofs.Laws.Levels.{numbers_shift, enter_in_short, enter_in_made}
 use Rattle.levels.proofs.edit.enter_in.Goals as goal
 
-ruleset laws = (rules, enter_in_short)
-
-pub nonzero_div-number : goal.nonzero_div-number
-nonzero_div-number c = search laws
-
-pub nonzero_rem-kept : goal.nonzero_rem-kept
-nonzero_rem-kept c = search laws
-
-pub later-count-requires : goal.later-count-requires
-later-count-requires c = search laws
-
-pub slice_bounds-read-end : goal.slice_bounds-read-end
-slice_bounds-read-end c = search laws
-
-pub read-n-requires : goal.read-n-requires
-read-n-requires c = search laws
-
-pub shape_of-table-then-n-kept : goal.shape_of-table-then-n-kept
-shape_of-table-then-n-kept c = search laws
-
-pub returns-then-n-kept : goal.returns-then-n-kept
-returns-then-n-kept c = search laws
-
-pub slice_bounds-follow-end : goal.slice_bounds-follow-end
-slice_bounds-follow-end c = search laws
-
-pub slice_bounds-follow-end-2 : goal.slice_bounds-follow-end-2
-slice_bounds-follow-end-2 c = search laws
-
-pub follow-requires : goal.follow-requires
-follow-requires c = search laws
-
-pub slice_bounds-write_node-end : goal.slice_bounds-write_node-end
-slice_bounds-write_node-end c = search laws
-
-pub write_node-requires : goal.write_node-requires
-write_node-requires c = search laws
-
-pub slice_bounds-follow-end-3 : goal.slice_bounds-follow-end-3
-slice_bounds-follow-end-3 c = search laws
-
-pub overflow_add-kept : goal.overflow_add-kept
-overflow_add-kept c = search laws
-
-pub slice_bounds-follow-end-4 : goal.slice_bounds-follow-end-4
-slice_bounds-follow-end-4 c = search laws
-
-pub follow-requires-2 : goal.follow-requires-2
-follow-requires-2 c = search (laws, c.requires.0)
-
-pub slice_bounds-shift-end : goal.slice_bounds-shift-end
-slice_bounds-shift-end c = search laws
-
-pub overflow_add-n : goal.overflow_add-n
-overflow_add-n c = record { fits = omega (arith, c.read-n.ensures.1, c.requires.0.few) }
+pub returns-then-chunk-here : goal.returns-then-chunk-here
+returns-then-chunk-here c =
+    let p = c.place_of-here.ensures in
+    enter_in_short _ _ _ _ _ c.requires.1 _ _ _ refl p.1 _ _ (rw (p.0, c.new-chunk.ensures.1) at c.read.ensures.2) c.requires.0.few _ c.if-chunk-here.true
 
 pub shift-requires : goal.shift-requires
 shift-requires c =
-    (c.requires.0, c.requires.1, c.requires.2, omega (arith, c.read-n.ensures.1), search rules, numbers_shift _ c.args.x.below c.args.x.size _ _ c.requires.1 (omega (arith, c.ranges, c.struct_known-1.given)) (omega (arith, c.ranges, c.struct_known-1.given)) refl c.later-count.ensures)
-
-pub shape_of-table : goal.shape_of-table
-shape_of-table c = search laws
+    let p = c.place_of-here.ensures in
+    let n : c.follow-2.new.self.count ≤ c.args.s.nodes + 1 = omega (arith, c.new-chunk.ensures.1, c.new-carry.ensures.1, c.read.ensures.1, c.follow.ensures.0, c.push.ensures.0, c.follow-2.ensures.0, c.if-chunk-here.false) in
+    rw p.0
+    (c.requires.0, c.requires.1, c.requires.2, n, numbers_shift _ c.args.x.below c.args.x.size _ _ c.requires.1 (search rules) (search rules) refl p.2)
 
 pub returns : goal.returns
 returns c =
-    let p = c.requires in
-    enter_in_made _ _ _ _ _ p.1 _ _ _ refl refl _ _ c.read-n.ensures.2 p.0.few _ _ c.later-count.ensures (omega (arith, c.if-n-kept.false)) _ _ _ _ c.follow.ensures c.write_node.ensures c.follow-2.ensures (search rules) _ c.shift.ensures
+    let p = c.place_of-here.ensures in
+    let z = c.new-carry.ensures in
+    let k₁ : c.follow.new.self.count ≡ c.place_of-here.result.kept = omega (arith, z.1, c.follow.ensures.0) in
+    let k₂ : c.push.new.self.count ≡ c.place_of-here.result.kept + 1 = omega (arith, k₁, c.push.ensures.0) in
+    let k₃ : c.follow-2.new.self.count ≡ c.read.new.self.count + 1 = omega (arith, k₂, c.follow-2.ensures.0, c.if-chunk-here.false) in
+    enter_in_made _ _ _ _ _ c.requires.1 _ _ _ refl p.1 _ _ (rw (p.0, c.new-chunk.ensures.1) at c.read.ensures.2) c.requires.0.few _ _ p.2 (omega (arith, c.if-chunk-here.false)) _ _ _ _
+    (rw z.1 at c.follow.ensures.1) (rw (k₁, c.masked.ensures) at c.push.ensures.1) (rw k₂ at c.follow-2.ensures.1) z.0 _ (rw (p.0, k₃) at c.shift.ensures)

@@ -1,10 +1,6 @@
--- `levels::spots::scan` meets its contract: each need follows from the laws listed.
-use Prim.Native.Nat.{◌-◌}
+-- `levels::spots::scan` meets its contract: what its loop keeps, of the chunks that came by.
 use Rattle.levels.proofs.Laws.Scanning.{Scanning}
 use Rattle.levels.proofs.spots.scan.Given as goal
 
 abbrev pub invariant-loop-number : goal.invariant-loop-number
 invariant-loop-number l = Scanning l.q.sizes l.table l.level l.first l.y l.number l.spot
-
-abbrev pub decreases-loop-number : goal.decreases-loop-number
-decreases-loop-number l = l.q.sizes.blocks - l.number

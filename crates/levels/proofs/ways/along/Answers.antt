@@ -1,4 +1,4 @@
--- `levels::ways::along` meets its contract: each need follows from the laws listed.
+-- `levels::ways::along` meets its contract: each goal follows from a law of the chunks gone through.
 use borrow.Author.Rules.{rules}
 use Rattle.sizes.proofs.Laws.Hashes.{hash_below}
 use Rattle.levels.proofs.Laws.Ways.{along_start, along_end, along_none, along_below, along_behind, along_short, along_last, along_more, trod_long}
@@ -9,66 +9,39 @@ ruleset laws = (rules, hash_below, along_start, along_below, trod_long)
 pub home_over-start-requires : goal.home_over-start-requires
 home_over-start-requires c = search laws
 
-pub loop-want-init : goal.loop-want-init
-loop-want-init c = search laws
-
-pub find_past-requires : goal.find_past-requires
-find_past-requires c = search laws
-
-pub enum_known-i : goal.enum_known-i
-enum_known-i c = search laws
-
-pub enum_told-1 : goal.enum_told-1
-enum_told-1 c = search laws
-
-pub shape_of-path-in_default : goal.shape_of-path-in_default
-shape_of-path-in_default c = search laws
+pub loop-number-init : goal.loop-number-init
+loop-number-init c = search laws
 
 pub returns-in_default : goal.returns-in_default
 returns-in_default c =
-    along_none _ _ _ _ _ _ c.requires.0 _ _ _ _ c.loop-want.invariant c.loop-want-test.true _ c.find_past.ensures c.in_default.is
+    along_none _ _ _ _ _ _ c.requires.0 _ _ _ _ c.loop-number.invariant c.loop-number-test.true _ c.find_past.ensures c.in_default.is
 
 pub reached-n-requires : goal.reached-n-requires
 reached-n-requires c = search laws
 
-pub shape_of-path-then-n-eq0 : goal.shape_of-path-then-n-eq0
-shape_of-path-then-n-eq0 c = search laws
-
 pub returns-then-n-eq0 : goal.returns-then-n-eq0
 returns-then-n-eq0 c =
-    along_short _ _ _ _ _ _ c.requires.0 _ _ _ _ c.loop-want.invariant c.loop-want-test.true _ c.find_past.ensures _ c.in-Some.is _
+    along_short _ _ _ _ _ _ c.requires.0 _ _ _ _ c.loop-number.invariant c.loop-number-test.true _ c.find_past.ensures _ c.in-Some.is _
     c.reached-n.ensures.0 c.if-n-eq0.true
 
 pub tread-w-requires : goal.tread-w-requires
 tread-w-requires c = search laws
 
-pub shape_of-path-then-ends_here : goal.shape_of-path-then-ends_here
-shape_of-path-then-ends_here c = search laws
-
 pub returns-then-ends_here : goal.returns-then-ends_here
 returns-then-ends_here c =
-    along_last _ _ _ _ _ _ c.requires.0 _ _ _ _ c.loop-want.invariant c.loop-want-test.true _ c.find_past.ensures _ c.in-Some.is _
+    along_last _ _ _ _ _ _ c.requires.0 _ _ _ _ c.loop-number.invariant c.loop-number-test.true _ c.find_past.ensures _ c.in-Some.is _
     c.reached-n.ensures.0 c.if-n-eq0.false _ _ c.tread-w.ensures.0 c.tread-w.ensures.1 c.tread-w.ensures.2 c.if-ends_here.true
-
-pub overflow_add-want : goal.overflow_add-want
-overflow_add-want c = search laws
 
 pub behind-start-requires : goal.behind-start-requires
 behind-start-requires c =
-    along_behind _ _ _ _ c.args.t _ c.requires.0 _ _ _ _ c.loop-want.invariant c.loop-want-test.true _ c.find_past.ensures _ c.in-Some.is _ c.requires.2 (search laws)
+    along_behind _ _ _ _ c.args.t _ c.requires.0 _ _ _ _ c.loop-number.invariant c.loop-number-test.true _ c.find_past.ensures _ c.in-Some.is _ c.requires.2 (search laws)
 
-pub loop-want-smaller : goal.loop-want-smaller
-loop-want-smaller c = search laws
-
-pub loop-want-preserved : goal.loop-want-preserved
-loop-want-preserved c =
-    along_more _ _ _ _ c.args.t _ c.requires.0 _ _ _ _ c.loop-want.invariant c.loop-want-test.true _ c.find_past.ensures _ c.in-Some.is _
+pub loop-number-preserved : goal.loop-number-preserved
+loop-number-preserved c =
+    along_more _ _ _ _ c.args.t _ c.requires.0 _ _ _ _ c.loop-number.invariant c.loop-number-test.true _ c.find_past.ensures _ c.in-Some.is _
     c.reached-n.ensures.0 c.if-n-eq0.false _ _ c.tread-w.ensures.0 c.tread-w.ensures.1 c.tread-w.ensures.2 c.if-ends_here.false
     c.requires.3 (search laws) _ c.behind-start.ensures.0 c.behind-start.ensures.1
 
-pub shape_of-path : goal.shape_of-path
-shape_of-path c = search laws
-
 pub returns : goal.returns
 returns c =
-    along_end _ _ _ _ _ _ c.requires.0 _ _ _ _ c.loop-want.invariant c.loop-want-test.false
+    along_end _ _ _ _ _ _ c.requires.0 _ _ _ _ c.loop-number.invariant c.loop-number-test.false

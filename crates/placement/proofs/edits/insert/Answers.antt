@@ -1,40 +1,28 @@
--- `placement::insert` meets its contract: each need follows from the laws listed.
-use Rattle.std.proofs.Common.{arith, rules}
-use Rattle.placement.proofs.Laws.Loops.{free_at, inserted_found, inserted_made, inserted_same}
+-- The chunk goes to a free block, and from there to its place.
+use Rattle.std.proofs.Common.{◌<◌, rules, arith}
+use Rattle.placement.proofs.Laws.Loops.{free_inside, inserted_made, inserted_same}
 use Rattle.placement.proofs.edits.insert.Goals as goal
 
-ruleset laws = (rules, free_at)
-
-pub home-first-requires : goal.home-first-requires
-home-first-requires c = search laws
-
-pub free-requires : goal.free-requires
-free-requires c = search laws
-
-pub enum_known-e : goal.enum_known-e
-enum_known-e c = search laws
-
-pub enum_told-1 : goal.enum_told-1
-enum_told-1 c = search laws
-
-pub shape_of-table-in_default : goal.shape_of-table-in_default
-shape_of-table-in_default c = search laws
-
-pub returns-in_default : goal.returns-in_default
-returns-in_default c = (search inserted_found, inserted_same _ _ _ _ _)
+pub returns-in_err-e : goal.returns-in_err-e
+returns-in_err-e c = rw (c.from_residual.ensures, ← c.home-first.ensures.0) (c.in_err-e.ensures, inserted_same _ _ _ _ _)
 
 pub write_block-requires : goal.write_block-requires
-write_block-requires c = search laws
+write_block-requires c =
+    let h : c.in_ok-e.e < c.args.s.blocks = free_inside _ _ _ _ _ c.in_ok-e.ensures (omega arith) in
+    search rules
+
+pub distance-requires : goal.distance-requires
+distance-requires c =
+    let h : c.in_ok-e.e < c.args.s.blocks = free_inside _ _ _ _ _ c.in_ok-e.ensures (omega arith) in
+    search rules
 
 pub settle_in-requires : goal.settle_in-requires
-settle_in-requires c = (search laws, search laws, search laws, omega arith)
+settle_in-requires c =
+    let h : c.in_ok-e.e < c.args.s.blocks = free_inside _ _ _ _ _ c.in_ok-e.ensures (omega arith) in
+    search rules
 
-pub shape_of-table : goal.shape_of-table
-shape_of-table c = search laws
-
--- by hand: `search` goes past its limit of steps here; that the steps are the distance it finds
 pub returns : goal.returns
 returns c = (
-  search inserted_found,
-  inserted_made _ _ _ _ _ c.home-first.ensures.0 c.free.ensures _ _ _ _ _ _ c.write_block.ensures (search rules) c.settle_in.ensures,
+  rw (← c.home-first.ensures.0) c.in_ok-e.ensures,
+  inserted_made _ _ _ _ _ _ _ _ _ _ c.home-first.ensures.0 c.write_block.ensures c.distance.ensures.0 c.settle_in.ensures,
 )
