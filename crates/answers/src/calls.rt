@@ -1,9 +1,10 @@
 // The calls on the program's table. No other file names the crates that have them.
-ghost use Rattle.std.specs.Prelude.{◌≡◌, true, false, [], ◌≤◌, MatchOption, length};
+ghost use Rattle.std.specs.Prelude.{◌≡◌, true, false, [], ◌≤◌, MatchOption, length, option_map};
 ghost use Rattle.sizes.specs.Sizes.{row, sizes_good};
 ghost use Rattle.sizes.specs.Header.{sizes_in};
 ghost use Rattle.skiplist.specs.Image.{is_image};
 ghost use Rattle.table.specs.Calls.{EnterSays, AmendSays, CancelSays, check_number, LookSays, SpanSays, SeekSays};
+ghost use Rattle.table.specs.Refusals.{answer, order_reply, count_reply};
 ghost use Rattle.answers.specs.Answers.{MakeDoes};
 ghost use Rattle.answers.specs.Asked.{seed_asked, sizes_asked, plain_asked, long_asked};
 ghost use Rattle.answers.specs.Put.{PutDoes};
@@ -14,7 +15,7 @@ use sizes::Sizes;
 use sizes::header::{Header, row, sizes_allowed, table_length};
 use sizes::numbers::put4;
 use std::marker::Model;
-use table::{Reply, answer};
+use table::Refusal;
 
 // The sizes that a make is asked for, with no seed.
 fn sizes_of(pieces: [u32; 15]) -> Sizes
@@ -52,11 +53,11 @@ fn write_seed(seed: &mut [u8], pieces: [u32; 15])
     }
 }
 
-// A buffer and how many of its bytes are the table: none before a make succeeds.
+// A buffer and how many of its bytes are the table: none before a make succeeds. The fields are public, as a caller may bring a buffer of its own.
 #[derive(Drop)]
 pub struct Table {
-    buffer: [u8; 65536],
-    long: usize,
+    pub buffer: [u8; 65536],
+    pub long: usize,
 }
 
 impl Model for Table {
@@ -88,8 +89,8 @@ impl Table {
     }
 
     // A make whose table is too long is no call. A refused make keeps the older table.
-    pub(crate) fn make(&mut self, pieces: [u32; 15]) -> Option<u32>
-        ensures { MakeDoes pieces result self.old self.new }
+    pub(crate) fn make(&mut self, pieces: [u32; 15]) -> Option<Result<(), Refusal>>
+        ensures { MakeDoes pieces (option_map answer result) self.old self.new }
     {
         let long = wanted(pieces).unwrap_or(0);
         if 65536 < long {
@@ -106,29 +107,28 @@ impl Table {
             pieces[4],
             &seed,
         );
-        let n = answer(made);
-        if n == 0 {
+        if made.is_ok() {
             self.long = long;
         }
-        Some(n)
+        Some(made)
     }
 
-    fn enter(&mut self, o: Order) -> u32
-        ensures { Front self.old self.new (EnterSays o.key o.total o.displayed o.price result) }
+    fn enter(&mut self, o: Order) -> Result<(), Refusal>
+        ensures { Front self.old self.new (EnterSays o.key o.total o.displayed o.price (answer result)) }
     {
-        answer(edits::changes::enter(&mut self.buffer[..self.long], o))
+        edits::changes::enter(&mut self.buffer[..self.long], o)
     }
 
-    fn amend(&mut self, o: Order) -> u32
-        ensures { Front self.old self.new (AmendSays o.key o.total o.displayed o.price result) }
+    fn amend(&mut self, o: Order) -> Result<(), Refusal>
+        ensures { Front self.old self.new (AmendSays o.key o.total o.displayed o.price (answer result)) }
     {
-        answer(edits::changes::amend(&mut self.buffer[..self.long], o))
+        edits::changes::amend(&mut self.buffer[..self.long], o)
     }
 
     // A put enters a key; one that is held already is amended. The program's orders have no price.
     #[tactic(auto, using(crate::proofs::Laws::Puts::put_entered, crate::proofs::Laws::Puts::put_amended))]
-    pub(crate) fn put(&mut self, key: u32, total: u32, displayed: u32) -> u32
-        ensures { Front self.old self.new (PutDoes key total displayed result) }
+    pub(crate) fn put(&mut self, key: u32, total: u32, displayed: u32) -> Result<(), Refusal>
+        ensures { Front self.old self.new (PutDoes key total displayed (answer result)) }
     {
         let o = Order {
             key,
@@ -137,40 +137,40 @@ impl Table {
             price: 0,
         };
         match self.enter(o) {
-            13 => self.amend(o),
-            n => n,
+            Err(Refusal::HeldAlready) => self.amend(o),
+            entered => entered,
         }
     }
 
-    pub(crate) fn cancel(&mut self, key: u32) -> u32
-        ensures { Front self.old self.new (CancelSays key result) }
+    pub(crate) fn cancel(&mut self, key: u32) -> Result<(), Refusal>
+        ensures { Front self.old self.new (CancelSays key (answer result)) }
     {
-        answer(edits::changes::cancel(&mut self.buffer[..self.long], key))
+        edits::changes::cancel(&mut self.buffer[..self.long], key)
     }
 
-    pub(crate) fn show(&self, key: u32) -> Reply
-        ensures { LookSays self.now.bytes key result }
+    pub(crate) fn show(&self, key: u32) -> Result<Order, Refusal>
+        ensures { LookSays self.now.bytes key (order_reply result) }
     {
-        Reply::from(readings::calls::lookup(self.bytes(), key))
+        readings::calls::lookup(self.bytes(), key)
     }
 
-    // The rows of the orders go into `found`.
-    pub(crate) fn span(&self, lo: u32, hi: u32, found: &mut [u8]) -> Reply
-        ensures { SpanSays self.now.bytes lo hi result found.old found.new }
+    // The rows of the orders go into `found`; how many they are.
+    pub(crate) fn span(&self, lo: u32, hi: u32, found: &mut [u8]) -> Result<u32, Refusal>
+        ensures { SpanSays self.now.bytes lo hi (count_reply result) found.old found.new }
     {
-        Reply::from(readings::calls::span(self.bytes(), lo, hi, found))
+        readings::calls::span(self.bytes(), lo, hi, found)
     }
 
-    pub(crate) fn seek(&self, lo: u32, hi: u32, reserve: u32) -> Reply
-        ensures { SeekSays self.now.bytes lo hi reserve result }
+    pub(crate) fn seek(&self, lo: u32, hi: u32, reserve: u32) -> Result<Order, Refusal>
+        ensures { SeekSays self.now.bytes lo hi reserve (order_reply result) }
     {
-        Reply::from(readings::calls::seek(self.bytes(), lo, hi, reserve))
+        readings::calls::seek(self.bytes(), lo, hi, reserve)
     }
 
-    pub(crate) fn check(&self) -> u32
-        ensures { result ≡ check_number self.now.bytes }
+    pub(crate) fn check(&self) -> Result<(), Refusal>
+        ensures { answer result ≡ check_number self.now.bytes }
     {
-        answer(table::checking::check(self.bytes()))
+        table::checking::check(self.bytes())
     }
 
     // The bytes of a row of the table.

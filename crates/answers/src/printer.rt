@@ -6,13 +6,13 @@ use lines::writing::{put_dash, put_mark, put_row};
 use std::io;
 use std::io::Stdout;
 
-// Where it writes to, and its buffer, of which the first bytes wait to be written.
+// Where it writes to, and its buffer, of which the first bytes wait to be written. The fields are public, as a caller may bring a buffer of its own.
 #[derive(Drop)]
 pub struct Printer {
-    to: Output,
-    buffer: [u8; 65536],
-    used: usize,
-    ghost within: { used ≤ 65536 },
+    pub to: Output,
+    pub buffer: [u8; 65536],
+    pub used: usize,
+    pub ghost within: { used ≤ 65536 },
 }
 
 impl Printer {

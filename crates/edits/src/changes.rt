@@ -1,6 +1,5 @@
 // Enter, amend and cancel, each with its questions in the documents' order.
 ghost use Rattle.std.specs.Prelude.{◌≡◌, true, ◌≤◌, ◌<◌, length};
-ghost use Rattle.sizes.specs.Geometry.{Reckoned};
 ghost use Rattle.sizes.specs.Header.{held_in, sizes_in};
 ghost use Rattle.skiplist.specs.Lists.{chunks};
 ghost use Rattle.skiplist.specs.Image.{price_good, quantities_good, is_image, orders_in};
@@ -17,7 +16,7 @@ use levels::ways::way_down;
 use placement::Order;
 use placement::rows::write_node;
 use readings::calls::is_key;
-use readings::descent::{geometry_of, order_at, order_of};
+use readings::descent::{geometry_of, order_of, place_of};
 use sizes::hash::level_of;
 use sizes::header::{Header, field};
 use sizes::numbers::put2;
@@ -46,7 +45,7 @@ impl Change {
 
 // One level of a change, the key's own or one below it; the first key of the partition one level down.
 fn change_level(table: &mut [u8], q: Geometry, level: u32, l: u32, first: u32, c: Change) -> u32
-    requires { Shaped q.sizes table.old × Reckoned q × (2 ≤ q.sizes.nodes) × (level ≤ q.top) }
+    requires { Shaped q.sizes table.old × (2 ≤ q.sizes.nodes) × (level ≤ q.top) }
     ensures { Turn q.sizes level l first c table.old table.new result }
 {
     let y = c.key();
@@ -73,7 +72,7 @@ fn change_level(table: &mut [u8], q: Geometry, level: u32, l: u32, first: u32, c
 
 // A change at each level, from the key's own down; `first` leads to it there.
 fn change_levels(table: &mut [u8], q: Geometry, first: u32, l: u32, c: Change)
-    requires { Shaped q.sizes table.old × Reckoned q × (2 ≤ q.sizes.nodes) × (l ≤ q.top) }
+    requires { Shaped q.sizes table.old × (2 ≤ q.sizes.nodes) × (l ≤ q.top) }
     ensures { Turned q.sizes first l c table.old table.new }
 {
     let mut from = first;
@@ -84,7 +83,7 @@ fn change_levels(table: &mut [u8], q: Geometry, first: u32, l: u32, c: Change)
 
 // A key that is not held comes in, while there are fewer orders than N: 8 is counted before any change. `full` blocks are not empty.
 fn enter_free(table: &mut [u8], q: Geometry, held: u32, full: u32, o: Order) -> Result<(), Refusal>
-    requires { Sure table.old q.sizes o × Free table.old q.sizes o.key × (held ≡ held_in table.old) × (full ≡ length (chunks q.sizes (orders_in table.old))) × Reckoned q }
+    requires { Sure table.old q.sizes o × Free table.old q.sizes o.key × (held ≡ held_in table.old) × (full ≡ length (chunks q.sizes (orders_in table.old))) }
     ensures { EnterSays o.key o.total o.displayed o.price (answer result) table.old table.new }
 {
     let l = level_of(q.sizes, q.top, o.key);
@@ -168,14 +167,14 @@ pub fn amend(table: &mut [u8], o: Order) -> Result<(), Refusal>
     let q = geometry_of(table);
     asked(q.sizes, o)?;
     let w = way_down(table, q, 0, o.key);
-    order_at(table, q.sizes, w.at, o.key).ok_or(Refusal::NotHeld)?;
-    write_node(table, q.sizes, w.at, o);
+    let place = place_of(table, q.sizes, w.at, o.key).ok_or(Refusal::NotHeld)?;
+    write_node(table, q.sizes, place, o);
     Ok(())
 }
 
 // A cancel of a held key.
 fn cancel_held(table: &mut [u8], q: Geometry, key: u32)
-    requires { (is_image table.old ≡ true) × (is_key key ≡ true) × (held key (orders_in table.old) ≡ true) × (q.sizes ≡ sizes_in table.old) × Reckoned q }
+    requires { (is_image table.old ≡ true) × (is_key key ≡ true) × (held key (orders_in table.old) ≡ true) × (q.sizes ≡ sizes_in table.old) }
     ensures { CancelSays key 0 table.old table.new }
 {
     let held = field(table, Header::HELD_FIELD);

@@ -1,5 +1,5 @@
 -- The way down to a key in bytes that are as long as a table, an image or not.
-use Rattle.std.specs.Prelude.{cond, List, [], ◌∷◌, ℕ, zero, suc, ◌+◌, ◌*◌, ◌-◌, ltb, leb, eqb, length, get_or, Option, Some, None}
+use Rattle.std.specs.Prelude.{cond, List, [], ◌∷◌, ℕ, zero, suc, ◌+◌, ◌*◌, ◌-◌, ltb, leb, eqb, ◌≤◌, length, get_or, Option, Some, None, IfSome}
 use Rattle.std.proofs.lemmas.List.Edits.{sets}
 use Rattle.sizes.specs.Numbers.{big, field}
 use Rattle.sizes.specs.Sizes.{row}
@@ -19,7 +19,7 @@ trek t o = record { trail = t; path = o }
 
 -- the way has not begun; it has come to a level with so many blocks, and goes through the partition that f heads
 abbrev pub coming : (count f : ℕ) → Trail
-coming c f = record { count = c; first = f; at = 0 }
+coming c f = record { count = c; first = f; at = None }
 
 abbrev pub starting : Trail
 starting = coming 0 0
@@ -60,7 +60,11 @@ node_place s i n = 53 + i * block_long s + (8 + row s * (n - 1))
 -- A BLOCK COMES ON THE WAY, with n nodes that are not above the key
 unfoldable pub trod : Sizes → List ℕ → (i n : ℕ) → Trek → Trek
 trod s bs i n x =
-    trek (record { count = x.trail.count + 1; first = field (node_place s i n) 4 bs; at = node_place s i n }) (number_in x.path x.trail.count i)
+    trek (record { count = x.trail.count + 1; first = field (node_place s i n) 4 bs; at = Some (node_place s i n) }) (number_in x.path x.trail.count i)
+
+-- where the way has come to a node, the bytes have all of it
+abbrev pub Inside : Sizes → List ℕ → (at : Option ℕ) → Type 0
+Inside s bs at = IfSome at (λ a. a + row s ≤ length bs)
 
 -- CHUNKS j, j + 1, .. of partition f of level l, as far as one that has not B nodes that are not above y
 unfoldable pub chunks_in : Sizes → List ℕ → (l f y : ℕ) → (most j : ℕ) → Trek → Trek

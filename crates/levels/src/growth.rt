@@ -1,6 +1,5 @@
 // How much an enter adds, and the way down to a key.
 ghost use Rattle.std.specs.Prelude.{◌*◌, ◌≤◌, ◌<◌};
-ghost use Rattle.sizes.specs.Geometry.{Reckoned};
 ghost use Rattle.placement.specs.Place.{Shaped};
 ghost use Rattle.levels.specs.Edit.{most_nodes, Grows, Leads};
 ghost use Rattle.levels.specs.Scan.{Grown};
@@ -25,7 +24,7 @@ fn grown(nodes: u32, level: u32, l: u32, x: Spot) -> u32
 
 // How many chunks the table has more once a key of level l is there: none above that level, where `first` leads to the key.
 pub fn growth(table: &[u8], q: Geometry, first: u32, l: u32, y: u32) -> u32
-    requires { Shaped q.sizes table.now × Reckoned q × (2 ≤ q.sizes.nodes) × (l ≤ q.top) }
+    requires { Shaped q.sizes table.now × (2 ≤ q.sizes.nodes) × (l ≤ q.top) }
     ensures { Grows q.sizes table.now first l y result × (result ≤ 2 * l) }
 {
     let mut sum = 0;
@@ -40,7 +39,7 @@ pub fn growth(table: &[u8], q: Geometry, first: u32, l: u32, y: u32) -> u32
 
 // The first key of the partition of level l that has the nodes just below a key: where the way to the key before it comes to.
 pub fn lead(table: &[u8], q: Geometry, l: u32, y: u32) -> u32
-    requires { Shaped q.sizes table.now × Reckoned q × (1 ≤ y) }
+    requires { Shaped q.sizes table.now × (1 ≤ y) }
     ensures { Leads q.sizes table.now l y result }
 {
     way_down(table, q, l, y - 1).first

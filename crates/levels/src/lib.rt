@@ -32,15 +32,15 @@ pub const SHIFTED: usize = 2 * CHUNK + 16;
 pub struct Carry<const N: usize> {
     pub nodes: [u8; N],
     pub count: u32,
-    ghost fits: { 16 * count ≤ N },
-    ghost small: { N ≤ 1040 },
+    pub ghost fits: { 16 * count ≤ N },
+    pub ghost small: { N ≤ 1040 },
 }
 
 // The way down to a key so far: how many blocks are on it, the greatest key not above the one sought, which heads the partition to go through next, and
-// the place of that key's node, 0 where the last level had none.
+// the place of that key's node, unless the last level had none.
 #[derive(Clone, Copy, Default)]
 pub struct Trail {
     pub count: u32,
     pub first: u32,
-    pub at: usize,
+    pub at: Option<usize>,
 }

@@ -83,7 +83,7 @@ impl<const N: usize> Carry<N> {
     }
 }
 
-// The first n of some nodes, as a chunk that is not there yet, if there are any.
+// The first n of some nodes, as a chunk that is not there yet, if there are any. `n` is no buffer's count: the first B nodes of a carry may be more of it.
 pub fn write_some(table: &mut [u8], s: Sizes, want: Label, n: u32, nodes: &[u8])
     requires { Shaped s table.old × (want.level < 256) × (n ≤ s.nodes) × (16 * n ≤ length nodes.now) }
     ensures { Shaped s table.new × Puts s want n table.old table.new nodes.now }

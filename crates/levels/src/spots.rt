@@ -1,6 +1,5 @@
 // Where a key comes in a partition.
 ghost use Rattle.std.specs.Prelude.{◌≡◌, ◌+◌, ◌*◌, ◌-◌, ◌≤◌, ◌<◌, length};
-ghost use Rattle.sizes.specs.Geometry.{Reckoned};
 ghost use Rattle.sizes.specs.Hash.{hash_from};
 ghost use Rattle.placement.specs.Place.{Shaped, search_in};
 ghost use Rattle.skiplist.specs.Parts.{pieces};
@@ -49,15 +48,15 @@ fn pass_nodes(table: &[u8], w: usize, at: usize, n: u32, y: u32, x: Spot) -> Spo
 
 // A chunk's block, by the hash g of the first key.
 fn chunk(table: &[u8], q: Geometry, g: u32, want: Label) -> Option<u32>
-    requires { Shaped q.sizes table.now × Reckoned q × (g ≡ hash_from 5 5 q.sizes.seed want.first) × (want.level ≤ q.top) × (want.number ≤ 65535) }
+    requires { Shaped q.sizes table.now × (g ≡ hash_from 5 5 q.sizes.seed want.first) × (want.level ≤ q.top) × (want.number ≤ 65535) }
     ensures { result ≡ search_in q.sizes table.now want }
 {
-    find_high(table, q.sizes, q.round, g, want)
+    find_high(table, q, g, want)
 }
 
 // How many nodes of a partition are below a key, the key of the last of them, and how many nodes there are.
 pub fn scan(table: &[u8], q: Geometry, level: u32, first: u32, y: u32) -> Spot
-    requires { Shaped q.sizes table.now × Reckoned q × (level ≤ q.top) }
+    requires { Shaped q.sizes table.now × (level ≤ q.top) }
     ensures { Scans q.sizes table.now level first y result × (result.below ≤ result.size) × (result.size ≤ most_nodes) }
 {
     let s = q.sizes;

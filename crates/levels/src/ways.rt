@@ -3,10 +3,9 @@
 ghost use Rattle.std.specs.Prelude.{◌≡◌, ◌+◌, ◌*◌, ◌-◌, ◌≤◌, ◌<◌, length};
 ghost use Rattle.sizes.specs.Numbers.{field};
 ghost use Rattle.sizes.specs.Sizes.{row};
-ghost use Rattle.sizes.specs.Geometry.{Reckoned};
 ghost use Rattle.sizes.specs.Hash.{hash_from};
 ghost use Rattle.placement.specs.Place.{Shaped};
-ghost use Rattle.levels.specs.Ways.{starting, trek, number_in, upto_in, passed_in, reached_in, trod, along_in, down_in, way_down};
+ghost use Rattle.levels.specs.Ways.{starting, trek, number_in, upto_in, passed_in, reached_in, trod, Inside, along_in, down_in, way_down};
 
 use crate::Trail;
 use placement::Label;
@@ -83,29 +82,28 @@ fn write_number(path: &mut [u8], count: u32, i: u32)
 #[tactic(auto, unfolding(crate::specs::Ways::trod, crate::specs::Ways::node_place))]
 fn tread(table: &[u8], s: Sizes, i: u32, n: u32, t: Trail, path: &mut [u8]) -> Trail
     requires { Shaped s table.now × (i < s.blocks) × (0 < n) × (n ≤ s.nodes) × (t.count < 4294967295) }
-    ensures { (trek result path.new ≡ trod s table.now i n (trek t path.old)) × (result.count ≡ t.count + 1) × (result.at + row s ≤ length table.now) }
+    ensures { (trek result path.new ≡ trod s table.now i n (trek t path.old)) × (result.count ≡ t.count + 1) × Inside s table.now result.at }
 {
     let at = offset(s, i) + (8 + used(s, n - 1));
     write_number(path, t.count, i);
     Trail {
         count: t.count + 1,
         first: be4(table, at),
-        at: at,
+        at: Some(at),
     }
 }
 
 // One level: chunk after chunk of the partition that is to be gone through. A chunk that is looked at only to see that its first key is larger is not on
 // the way.
 fn along(table: &[u8], q: Geometry, g: u32, level: u32, y: u32, t: Trail, path: &mut [u8]) -> Trail
-    requires { Shaped q.sizes table.now × Reckoned q × (g ≡ hash_from 5 5 q.sizes.seed t.first) × (0 < level) × (level ≤ q.top) × (t.count + 65535 ≤ 4294967295) }
-    ensures { (trek result path.new ≡ along_in q.sizes table.now level y (trek t path.old)) × (result.count ≤ t.count + 65535) × (result.at + row q.sizes ≤ length table.now) }
+    requires { Shaped q.sizes table.now × (g ≡ hash_from 5 5 q.sizes.seed t.first) × (0 < level) × (level ≤ q.top) × (t.count + 65535 ≤ 4294967295) }
+    ensures { (trek result path.new ≡ along_in q.sizes table.now level y (trek t path.old)) × (result.count ≤ t.count + 65535) × Inside q.sizes table.now result.at }
 {
     let s = q.sizes;
     let first = t.first;
-    let mut w = Trail { at: 0, ..t };
+    let mut w = Trail { at: None, ..t };
     let mut start = home_over(
-        s,
-        q.round,
+        q,
         g,
         Label {
             level,
@@ -142,8 +140,8 @@ fn along(table: &[u8], q: Geometry, g: u32, level: u32, y: u32, t: Trail, path: 
 
 // The levels above l.
 pub fn descend(table: &[u8], q: Geometry, l: u32, y: u32, path: &mut [u8]) -> Trail
-    requires { Shaped q.sizes table.now × Reckoned q }
-    ensures { (trek result path.new ≡ down_in q.sizes table.now l y (q.top - l) (trek starting path.old)) × (result.at + row q.sizes ≤ length table.now) }
+    requires { Shaped q.sizes table.now }
+    ensures { (trek result path.new ≡ down_in q.sizes table.now l y (q.top - l) (trek starting path.old)) × Inside q.sizes table.now result.at }
 {
     let mut t = Trail::default();
     // One hash for a key: where the way stays with a partition's first key, the hash is that of the level above.
@@ -162,8 +160,8 @@ pub fn descend(table: &[u8], q: Geometry, l: u32, y: u32, path: &mut [u8]) -> Tr
 // The way alone, without its path.
 #[tactic(auto, unfolding(crate::specs::Ways::way_down))]
 pub fn way_down(table: &[u8], q: Geometry, l: u32, y: u32) -> Trail
-    requires { Shaped q.sizes table.now × Reckoned q }
-    ensures { (result ≡ way_down q.sizes table.now q.top l y) × (result.at + row q.sizes ≤ length table.now) }
+    requires { Shaped q.sizes table.now }
+    ensures { (result ≡ way_down q.sizes table.now q.top l y) × Inside q.sizes table.now result.at }
 {
     let mut none = [0u8; 1];
     descend(table, q, l, y, &mut none)

@@ -1,7 +1,6 @@
 // Labels: read from a block, compared, and the block where the search for one starts.
 ghost use Rattle.std.specs.Prelude.{◌≡◌, ◌+◌, ◌*◌, ◌<◌, ◌≤◌, true, false, ◌≢◌};
 ghost use Rattle.sizes.specs.Header.{block_long};
-ghost use Rattle.sizes.specs.Numbers.{over};
 ghost use Rattle.sizes.specs.Sizes.{seed_good};
 ghost use Rattle.sizes.specs.Hash.{hash_from};
 ghost use Rattle.placement.specs.Labels.{level_before, before, home};
@@ -11,7 +10,10 @@ use crate::{Ahead, Label, Met};
 use sizes::hash::hash;
 use sizes::header::{Header, block_length};
 use sizes::numbers::{be2, be4, remainder};
-use sizes::{PRIME, Sizes};
+use sizes::{Geometry, PRIME, Sizes};
+
+// A table's bytes and its sizes go side by side here and above, with `Shaped` in each contract. Tried as a struct of both: a reading has & of the bytes and an
+// edit &mut, so it is two structs, every edit has to say besides that the sizes stay, and a clause reads `self.new.bytes.now` for `table.new`: no plainer.
 
 // Where a block starts. As in Rust, no From makes a usize of a u32.
 pub fn offset(s: Sizes, i: u32) -> usize
@@ -65,7 +67,8 @@ fn past_if(smaller: bool) -> Met
     if smaller { Met::Past } else { Met::Other }
 }
 
-// The levels that come before a level: in version 1 those from 1 up to it, else those from it on.
+// The levels that come before a level: in version 1 those from 1 up to it, else those from it on. Beside `level_before` for speed: with the version asked at each
+// block a check takes up to 1.08 of its time in tables without a free block (bench/NOTES.md, "Upper levels nearer home, once more").
 #[tactic(auto, using(crate::proofs::Laws::Ahead::ahead))]
 pub fn ahead(s: Sizes, level: u32) -> Ahead
     ensures { Leading s level result }
@@ -83,7 +86,8 @@ pub fn ahead(s: Sizes, level: u32) -> Ahead
 }
 
 // What a search for a label meets in a block, where `a` are the levels before the label's. Most often the level decides, or else the first key; so no more is
-// read than what decides: with whole labels, compared by `before`, a check takes 1.08 to 1.56 of its time (bench/NOTES.md, "Upper levels nearer home").
+// read than what decides: a first form that called `before` on whole labels, and the search at two places, took 1.08 to 1.56 of a check's time (bench/NOTES.md,
+// "Upper levels nearer home").
 #[tactic(auto, using(crate::proofs::Laws::Loops::meets))]
 pub fn meets(table: &[u8], s: Sizes, i: u32, a: Ahead, want: Label) -> Met
     requires { Shaped s table.now × (i < s.blocks) × Leading s want.level a }
@@ -120,11 +124,11 @@ pub fn home(s: Sizes, want: Label) -> u32
 // The same from the hash g of the first key, without a division: `round` is 2^32 over the number of blocks, rounded up. Two for speed: with divisions a check
 // takes 12.0 ns for each order in place of 11.2 (bench/NOTES.md, "The check, on the first machine"). And `home` is of labels of any size.
 #[tactic(auto, using(crate::proofs::Laws::Loops::home_below, crate::proofs::Laws::Loops::home_past))]
-pub fn home_over(s: Sizes, round: u64, g: u32, want: Label) -> u32
-    requires { (0 < s.blocks) × (s.blocks ≤ 65535) × (round ≡ over s.blocks) × (g ≡ hash_from 5 5 s.seed want.first) × (g < 2147483647) × (want.level ≤ 19) × (want.number ≤ 65535) }
-    ensures { (result ≡ home s want) × (result < s.blocks) }
+pub fn home_over(q: Geometry, g: u32, want: Label) -> u32
+    requires { (0 < q.sizes.blocks) × (q.sizes.blocks ≤ 65535) × (g ≡ hash_from 5 5 q.sizes.seed want.first) × (g < 2147483647) × (want.level ≤ 19) × (want.number ≤ 65535) }
+    ensures { (result ≡ home q.sizes want) × (result < q.sizes.blocks) }
 {
     let t = g + 65536 * want.level + want.number;
     let t = if t < PRIME { t } else { t - PRIME };
-    remainder(t, s.blocks, round)
+    remainder(t, q.sizes.blocks, q.round)
 }

@@ -1,6 +1,5 @@
 // The search for a label, and what stands in the block that it finds.
 ghost use Rattle.std.specs.Prelude.{◌≡◌, ◌+◌, ◌-◌, ◌*◌, ◌%◌, ◌<◌, ◌≤◌, ◌==◌, slice_index};
-ghost use Rattle.sizes.specs.Numbers.{over};
 ghost use Rattle.sizes.specs.Hash.{hash_from};
 ghost use Rattle.sizes.specs.Header.{block_long};
 ghost use Rattle.placement.specs.Labels.{before, home};
@@ -8,7 +7,7 @@ ghost use Rattle.placement.specs.Place.{Shaped, label_in, probe, GoesOn, is_lowe
 
 use crate::labels::{ahead, home, home_over, label_at, meets, offset};
 use crate::{Label, Met};
-use sizes::{PRIME, Sizes};
+use sizes::{Geometry, PRIME, Sizes};
 
 // Block i of m, going round: behind the last comes the first.
 fn around(i: u32, m: u32) -> u32
@@ -46,7 +45,7 @@ fn lower(table: &[u8], s: Sizes, i: u32, level: u32) -> bool
     0 < l && l < level
 }
 
-// Do four in a row? Counted from 0, for over i..i + 4 the compiler keeps a loop, and a descent takes a third more instructions.
+// Do four in a row? Counted from 0: over i..i + 4 the compiler keeps a loop, and a descent takes a third more instructions (there too).
 fn four_lower(table: &[u8], s: Sizes, i: u32, level: u32) -> bool
     requires { Shaped s table.now × (i + 4 ≤ s.blocks) }
     ensures { result ≡ four_lower (label_in (block_long s) table.now) level i }
@@ -55,7 +54,7 @@ fn four_lower(table: &[u8], s: Sizes, i: u32, level: u32) -> bool
 }
 
 // In version 1, past blocks from one on, four in a turn, as far as all four hold chunks of lower levels: most of a search on a way down. Counted by hand, for
-// speed: where blocks are small, a descent takes 1.02 of the instructions that it took before, and with `step_by` 1.05, which is past the bar of 1.03.
+// speed: where blocks are small, a descent takes 1.02 of the instructions that it took before, and with `step_by` 1.05 (bench/NOTES.md, "Four blocks a turn").
 #[tactic(auto, using(crate::proofs::Laws::Loops::goes_start, crate::proofs::Laws::Loops::goes_four))]
 fn past_fours(table: &[u8], s: Sizes, start: u32, want: Label) -> u32
     requires { Shaped s table.now × (start < s.blocks) × (s.version ≡ 1) }
@@ -114,23 +113,23 @@ pub fn find(table: &[u8], s: Sizes, want: Label) -> Option<u32>
     find_from(table, s, home(s, want), s.blocks, want)
 }
 
-// The same from the hash g of the first key, without a division: `round` is 2^32 over the number of blocks, rounded up. Two for speed, as `home_over` says.
+// The same from the hash g of the first key, without a division. Two for speed, as `home_over` says.
 #[tactic(auto, using(sizes::proofs::Laws::Hashes::hash_below), unfolding(crate::specs::Place::search_in))]
-pub fn find_over(table: &[u8], s: Sizes, round: u64, g: u32, want: Label) -> Option<u32>
-    requires { Shaped s table.now × (round ≡ over s.blocks) × (g ≡ hash_from 5 5 s.seed want.first) × (want.level ≤ 19) × (want.number ≤ 65535) }
-    ensures { result ≡ search_in s table.now want }
+pub fn find_over(table: &[u8], q: Geometry, g: u32, want: Label) -> Option<u32>
+    requires { Shaped q.sizes table.now × (g ≡ hash_from 5 5 q.sizes.seed want.first) × (want.level ≤ 19) × (want.number ≤ 65535) }
+    ensures { result ≡ search_in q.sizes table.now want }
 {
-    find_from(table, s, home_over(s, round, g, want), s.blocks, want)
+    find_from(table, q.sizes, home_over(q, g, want), q.sizes.blocks, want)
 }
 
 // The same on a way down. A walk has `find_over`, for speed: with this a check takes 1.03 to 1.04 of its time where blocks are small (bench/NOTES.md, "Two
 // loops in the walk").
 #[tactic(auto, using(sizes::proofs::Laws::Hashes::hash_below), unfolding(crate::specs::Place::search_in))]
-pub fn find_high(table: &[u8], s: Sizes, round: u64, g: u32, want: Label) -> Option<u32>
-    requires { Shaped s table.now × (round ≡ over s.blocks) × (g ≡ hash_from 5 5 s.seed want.first) × (want.level ≤ 19) × (want.number ≤ 65535) }
-    ensures { result ≡ search_in s table.now want }
+pub fn find_high(table: &[u8], q: Geometry, g: u32, want: Label) -> Option<u32>
+    requires { Shaped q.sizes table.now × (g ≡ hash_from 5 5 q.sizes.seed want.first) × (want.level ≤ 19) × (want.number ≤ 65535) }
+    ensures { result ≡ search_in q.sizes table.now want }
 {
-    find_past(table, s, home_over(s, round, g, want), want)
+    find_past(table, q.sizes, home_over(q, g, want), want)
 }
 
 // Where the search for a chunk may start once the chunk before it was found in block i: behind that, for all on the way from its home are smaller. Only
@@ -148,11 +147,11 @@ pub fn behind(s: Sizes, g: u32, want: Label, i: u32) -> u32
 
 // Does the search for a label start at an empty block, and end there?
 #[tactic(auto, using(sizes::proofs::Laws::Hashes::hash_below), unfolding(crate::specs::Place::label_in))]
-pub fn ends_at_once(table: &[u8], s: Sizes, round: u64, g: u32, want: Label) -> bool
-    requires { Shaped s table.now × (round ≡ over s.blocks) × (g ≡ hash_from 5 5 s.seed want.first) × (want.level ≤ 19) × (want.number ≤ 65535) }
-    ensures { result ≡ ((label_in (block_long s) table.now (home s want)).level == 0) }
+pub fn ends_at_once(table: &[u8], q: Geometry, g: u32, want: Label) -> bool
+    requires { Shaped q.sizes table.now × (g ≡ hash_from 5 5 q.sizes.seed want.first) × (want.level ≤ 19) × (want.number ≤ 65535) }
+    ensures { result ≡ ((label_in (block_long q.sizes) table.now (home q.sizes want)).level == 0) }
 {
-    table[offset(s, home_over(s, round, g, want))] == 0
+    table[offset(q.sizes, home_over(q, g, want))] == 0
 }
 
 // The first empty block from one on, going round.

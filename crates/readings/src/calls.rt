@@ -65,7 +65,7 @@ pub fn first_with(table: &[u8], lo: u32, hi: u32, least: u32) -> Option<Order>
     visit_all(table, h.sizes, Visit::new(lo, hi, least, 1), &mut []).last
 }
 
-// Lookup: 4, 5, 9.
+// Lookup: 4, 5, 9. Document 01 asks for the let else.
 pub fn lookup(table: &[u8], key: u32) -> Result<Order, Refusal>
     ensures { LookSays table.now key (order_reply result) × (table.exit.now ≡ table.entry.now) }
 {

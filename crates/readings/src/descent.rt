@@ -1,14 +1,14 @@
 // The way down to one key: lookup's order, and the call that shows its way.
-ghost use Rattle.std.specs.Prelude.{◌≡◌, true, ◌+◌, ◌*◌, ◌≤◌, length};
+ghost use Rattle.std.specs.Prelude.{◌≡◌, true, ◌*◌, ◌≤◌, length};
 ghost use Rattle.sizes.specs.Sizes.{row};
 ghost use Rattle.sizes.specs.Header.{sizes_in};
-ghost use Rattle.sizes.specs.Geometry.{Reckoned};
 ghost use Rattle.placement.specs.Place.{Shaped};
 ghost use Rattle.skiplist.specs.Image.{is_image, orders_in};
 ghost use Rattle.skiplist.specs.Questions.{between};
 ghost use Rattle.table.specs.Calls.{DescentSays};
+ghost use Rattle.levels.specs.Ways.{Inside};
 ghost use Rattle.readings.specs.Visit.{Known, first_of};
-ghost use Rattle.readings.specs.Descent.{way, landed, Written, path_reply};
+ghost use Rattle.readings.specs.Descent.{way, landed, standing, Written, path_reply};
 
 use crate::calls::is_key;
 use levels::ways::{descend, way_down};
@@ -16,35 +16,38 @@ use placement::Order;
 use placement::rows::node_of;
 use sizes::hash::reckon;
 use sizes::header::{Header, rule_of};
-use sizes::numbers::bring;
+use sizes::numbers::{be4, bring};
 use sizes::{Geometry, Sizes};
 use table::{Refusal, Reply};
 
 // The sizes of an image, with what follows from them.
 pub fn geometry_of(table: &[u8]) -> Geometry
     requires { is_image table.now ≡ true }
-    ensures { (result.sizes ≡ sizes_in table.now) × Reckoned result }
+    ensures { result.sizes ≡ sizes_in table.now }
 {
     let h = Header::read(table);
     reckon(h.sizes)
 }
 
-// The order at the place where a way has ended, if it has the key.
-#[tactic(auto, using(crate::proofs::Laws::Descents::landed_none))]
-pub fn order_at(table: &[u8], s: Sizes, at: usize, key: u32) -> Option<Order>
-    requires { at + row s ≤ length table.now }
+// The place where a way has ended, if the order there has the key.
+pub fn place_of(table: &[u8], s: Sizes, at: Option<usize>, key: u32) -> Option<usize>
+    requires { Inside s table.now at }
+    ensures { (result ≡ standing (row s) table.now at key) × Inside s table.now result }
+{
+    at.filter(|a| be4(table, *a) == key)
+}
+
+// The order at that place.
+pub fn order_at(table: &[u8], s: Sizes, at: Option<usize>, key: u32) -> Option<Order>
+    requires { Inside s table.now at }
     ensures { result ≡ landed (row s) table.now at key }
 {
-    if at == 0 {
-        return None;
-    }
-    let o = node_of(table, s, at);
-    (o.key == key).then_some(o)
+    place_of(table, s, at, key).map(|a| node_of(table, s, a))
 }
 
 // The order with a key.
 pub fn order_of(table: &[u8], q: Geometry, key: u32) -> Option<Order>
-    requires { Known q.sizes table.now × Reckoned q × (1 ≤ key) }
+    requires { Known q.sizes table.now × (1 ≤ key) }
     ensures { result ≡ first_of (between key key (orders_in table.now)) }
 {
     let t = way_down(table, q, 0, key);
@@ -53,7 +56,7 @@ pub fn order_of(table: &[u8], q: Geometry, key: u32) -> Option<Order>
 
 // The path to a key, to an output that has room for it: a short one was kept, a longer one is gone once more.
 fn write_path(table: &[u8], q: Geometry, key: u32, count: u32, short: &[u8], path: &mut [u8])
-    requires { Shaped q.sizes table.now × Reckoned q × Written q table.now key count short.now × (2 * count ≤ length path.old) }
+    requires { Shaped q.sizes table.now × Written q table.now key count short.now × (2 * count ≤ length path.old) }
     ensures { path.new ≡ (way q table.now key path.old).path }
 {
     let long = 2 * (count as usize);
@@ -90,7 +93,7 @@ fn path_to(table: &[u8], key: u32, path: &mut [u8]) -> Result<(u32, Option<Order
     Ok((t.count, order_at(table, q.sizes, t.at, key)))
 }
 
-// Descent: 4, 5, 11, and 9, which has the count of the path too.
+// Descent: 4, 5, 11, and 9, which has the count of the path too. It answers the reply that it was promised to answer; `path_to` has the Result.
 pub fn descent(table: &[u8], key: u32, path: &mut [u8]) -> Reply
     ensures { DescentSays table.now key result path.old path.new × (table.exit.now ≡ table.entry.now) }
 {

@@ -4,5 +4,4 @@ pub mod Sizes
 pub mod Hash
 pub mod Powers
 pub mod Header
-pub mod Geometry
 pub mod Parts

@@ -4,7 +4,6 @@ ghost use Rattle.sizes.specs.Numbers.{over};
 ghost use Rattle.sizes.specs.Sizes.{least_power, beta, seed_good};
 ghost use Rattle.sizes.specs.Hash.{hash_from, divides_from, level};
 ghost use Rattle.sizes.specs.Powers.{Powers, Ready};
-ghost use Rattle.sizes.specs.Geometry.{Reckoned};
 
 use crate::numbers::{divisible, over};
 use crate::{Geometry, PRIME, Sizes};
@@ -143,7 +142,7 @@ pub fn highest(s: Sizes) -> u32
 // What follows from the sizes.
 pub fn reckon(s: Sizes) -> Geometry
     requires { (0 < s.gamma) × (s.gamma ≤ 64) × (s.orders ≤ 65535) × (0 < s.blocks) }
-    ensures { (result.sizes ≡ s) × Reckoned result }
+    ensures { result.sizes ≡ s }
 {
     Geometry {
         sizes: s,
@@ -154,6 +153,7 @@ pub fn reckon(s: Sizes) -> Geometry
 }
 
 // The level of a key, β being given; the front, of key 0, has β.
+// Of a Geometry's parts, not of one: docs/DECISIONS.md names this function, so it may not ask for more.
 #[tactic(auto, using(crate::proofs::Laws::Hashes::levels))]
 pub fn level_of(s: Sizes, top: u32, key: u32) -> u32
     requires { (seed_good s.seed ≡ true) × (0 < s.gamma) × (top ≡ beta s) }
@@ -171,6 +171,7 @@ pub fn level_of(s: Sizes, top: u32, key: u32) -> u32
 
 // Is the level of a key, which is not the front's, exactly l? No more powers of gamma are tried than that takes, and the first without a division: it is the
 // only one for most keys.
+// Of a Geometry's parts, not of one: docs/notes/A.3.md names this function, so it may not ask for more.
 #[tactic(auto, using(crate::proofs::Laws::Hashes::exact_levels))]
 pub fn has_level(s: Sizes, ratio: u64, top: u32, l: u32, key: u32) -> bool
     requires { (seed_good s.seed ≡ true) × (0 < s.gamma) × (ratio ≡ over s.gamma) × (top ≡ beta s) × (1 ≤ l) × (l ≤ top) × (0 < key) }

@@ -1,6 +1,10 @@
 // The sizes and the seed of a table: numbers in bytes, the hashes, and the header that has them.
 #![tactic(auto)]
 
+ghost use Rattle.std.specs.Prelude.{◌≡◌, ◌≤◌};
+ghost use Rattle.sizes.specs.Numbers.{over};
+ghost use Rattle.sizes.specs.Sizes.{beta};
+
 pub mod hash;
 pub mod header;
 pub mod numbers;
@@ -20,13 +24,18 @@ pub struct Sizes {
 }
 
 // Sizes with what follows from them, reckoned once and carried along: 2^32 over gamma and over the number of blocks, each rounded up (`numbers::over`), and β,
-// the highest level.
+// the highest level. The ghost fields say so; whoever makes a Geometry owes them, so that no call that takes one asks for them.
 #[derive(Clone, Copy)]
 pub struct Geometry {
     pub sizes: Sizes,
     pub ratio: u64,
     pub round: u64,
     pub top: u32,
+    pub ghost ratio_is: { ratio ≡ over sizes.gamma },
+    pub ghost round_is: { round ≡ over sizes.blocks },
+    pub ghost top_is: { top ≡ beta sizes },
+    pub ghost top_least: { 2 ≤ top },
+    pub ghost top_most: { top ≤ 19 },
 }
 
 // Where a field of the header stands, and how wide it is.

@@ -4,7 +4,7 @@ ghost use Rattle.std.proofs.lemmas.List.Edits.{sets};
 ghost use Rattle.sizes.specs.Numbers.{big, field, over};
 ghost use Rattle.sizes.specs.Parts.{Apart, Forward};
 
-// A byte as a wider number. It stands beside `u32::from` for its bound, which the callers' sums need.
+// A byte as a wider number, with its bound. It stands beside `u32::from` as it was promised.
 pub fn wide(x: u8) -> u32
     ensures { (result ≡ x) × (result < 256) }
 {

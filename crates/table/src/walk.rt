@@ -2,7 +2,6 @@
 ghost use Rattle.std.specs.Prelude.{◌≡◌, true, ◌+◌, ◌*◌, ◌-◌, ◌<◌, ◌≤◌, length};
 ghost use Rattle.sizes.specs.Sizes.{row, seed_good};
 ghost use Rattle.sizes.specs.Hash.{hash_from};
-ghost use Rattle.sizes.specs.Geometry.{Reckoned};
 ghost use Rattle.placement.specs.Labels.{label};
 ghost use Rattle.placement.specs.Decode.{node_of};
 ghost use Rattle.table.specs.Walk.{Walkable, quantities_ok, price_ok, fits_in, node_good, enters_ok, entered_seen, ended_seen, nodes_by, enters_lowest, comes_ok, passed_seen, opens_of};
@@ -54,7 +53,7 @@ fn priced(table: &[u8], s: Sizes, level: u32, at: usize, n: Order) -> bool
 // Does a node fit into a partition? The first key is known, any other has exactly the level of its list.
 #[tactic(auto, unfolding(crate::specs::Walk::fits_in, crate::specs::Walk::belongs_in))]
 fn fits(q: Geometry, level: u32, first: u32, opens: bool, n: Order) -> bool
-    requires { (seed_good q.sizes.seed ≡ true) × (0 < q.sizes.gamma) × Reckoned q × (1 ≤ level) × (level ≤ q.top) }
+    requires { (seed_good q.sizes.seed ≡ true) × (0 < q.sizes.gamma) × (1 ≤ level) × (level ≤ q.top) }
     ensures { result ≡ fits_in q.sizes level first opens n }
 {
     if !quantities(level, n) {
@@ -69,7 +68,7 @@ fn fits(q: Geometry, level: u32, first: u32, opens: bool, n: Order) -> bool
 // May the node at a place come by, above level 1?
 #[tactic(auto, unfolding(crate::specs::Walk::node_good))]
 fn comes_by(table: &[u8], q: Geometry, level: u32, first: u32, opens: bool, at: usize) -> bool
-    requires { (seed_good q.sizes.seed ≡ true) × (0 < q.sizes.gamma) × Reckoned q × (1 ≤ level) × (level ≤ q.top) × (at + row q.sizes ≤ length table.now) }
+    requires { (seed_good q.sizes.seed ≡ true) × (0 < q.sizes.gamma) × (1 ≤ level) × (level ≤ q.top) × (at + row q.sizes ≤ length table.now) }
     ensures { result ≡ node_good q.sizes level first opens (node_of (row q.sizes) table.now at) }
 {
     let n = node_of(table, q.sizes, at);
@@ -115,7 +114,7 @@ fn enters_lowest(nodes: u32, n: u32, x: Seen) -> bool
 // May the node at a place come by at level 1, an order or the front? Its key is at least `low`, and below p.
 #[tactic(auto, unfolding(crate::specs::Walk::comes_ok))]
 fn comes(table: &[u8], q: Geometry, first: u32, opens: bool, low: u32, at: usize) -> bool
-    requires { (seed_good q.sizes.seed ≡ true) × (0 < q.sizes.gamma) × Reckoned q × (1 ≤ q.top) × (at + row q.sizes ≤ length table.now) }
+    requires { (seed_good q.sizes.seed ≡ true) × (0 < q.sizes.gamma) × (at + row q.sizes ≤ length table.now) }
     ensures { result ≡ comes_ok q.sizes first opens low (node_of (row q.sizes) table.now at) }
 {
     let n = node_of(table, q.sizes, at);
@@ -148,14 +147,15 @@ fn label(level: u32, first: u32, number: u32) -> Label
 
 // A partition of level 1: the blocks of its chunks, and in each its nodes, one after the other. A node that may not come by leaves both by the
 // label. The search for the first chunk starts at its home, that for a next one behind the block of the one before it. `g` is the hash g of the partition's first key.
+// Document 01 asks for the two loops and the label; and a loop of its own for level 1 is for speed (bench/NOTES.md, "Two loops in the walk").
 fn walk_lowest(table: &[u8], q: Geometry, first: u32, g: u32, x: Seen) -> Option<Seen>
-    requires { Walkable q.sizes table.now × Reckoned q × (1 ≤ q.top) × (g ≡ hash_from 5 5 q.sizes.seed first) }
+    requires { Walkable q.sizes table.now × (g ≡ hash_from 5 5 q.sizes.seed first) }
     ensures { result ≡ opens_of q.sizes table.now 1 first x }
 {
     let w = row(q.sizes);
     let mut seen = x;
     let front = label(1, first, 0);
-    let mut start = home_over(q.sizes, q.round, g, front);
+    let mut start = home_over(q, g, front);
     'blocks: {
         for number in 0..q.sizes.blocks {
             let want = label(1, first, number);
@@ -199,7 +199,7 @@ pub fn walk_partition(
     g: u32,
     x: Seen,
 ) -> Option<Seen>
-    requires { Walkable q.sizes table.now × Reckoned q × (1 ≤ level) × (level ≤ q.top) × (g ≡ hash_from 5 5 q.sizes.seed first) }
+    requires { Walkable q.sizes table.now × (1 ≤ level) × (level ≤ q.top) × (g ≡ hash_from 5 5 q.sizes.seed first) }
     ensures { result ≡ opens_of q.sizes table.now level first x }
 {
     if level == 1 {
@@ -208,7 +208,7 @@ pub fn walk_partition(
     let mut seen = x;
     for number in 0..q.sizes.blocks {
         let want = label(level, first, number);
-        let Some(i) = find_over(table, q.sizes, q.round, g, want) else {
+        let Some(i) = find_over(table, q, g, want) else {
             return ended(number, seen);
         };
         let at = offset(q.sizes, i);
@@ -238,7 +238,7 @@ pub fn walk_nodes(
     left: u32,
     x: Seen,
 ) -> Option<Seen>
-    requires { Walkable q.sizes table.now × Reckoned q × (2 ≤ level) × (level ≤ q.top) × (1 ≤ left) × (at + row q.sizes * left ≤ length table.now) }
+    requires { Walkable q.sizes table.now × (2 ≤ level) × (level ≤ q.top) × (1 ≤ left) × (at + row q.sizes * left ≤ length table.now) }
     ensures { result ≡ nodes_by (opens_of q.sizes table.now (level - 1)) q.sizes table.now level first left at opens x }
 {
     let w = row(q.sizes);
@@ -255,7 +255,7 @@ pub fn walk_nodes(
             let key = be4(table, place + w);
             next = hash(q.sizes, 5, key);
             let want = label(level - 1, key, 0);
-            if ends_at_once(table, q.sizes, q.round, next, want) {
+            if ends_at_once(table, q, next, want) {
                 return None;
             }
         }

@@ -25,7 +25,6 @@ use Rattle.sizes.proofs.Laws.Sizes.{some_blocks}
 use Rattle.sizes.proofs.Laws.HeaderLoops.{rows_room}
 use Rattle.placement.proofs.Laws.Cells.{cut_length}
 use Rattle.placement.proofs.Laws.Decoding.{nodes_count}
-use Rattle.placement.proofs.Laws.Reading.{key_of}
 use Rattle.placement.proofs.Laws.Bridge.{Good, free, held, good_at}
 use Rattle.placement.proofs.Laws.Tables.{sound_blocks}
 use Rattle.placement.proofs.Laws.Edits.{block_bytes_at}
@@ -33,14 +32,16 @@ use Rattle.sizes.proofs.Laws.Bytes.{offset_end}
 use Rattle.skiplist.specs.Image.{is_image, orders_in}
 use Rattle.readings.proofs.Laws.Chunked.{kept}
 use Rattle.readings.proofs.Laws.Answers.{known_image}
+use Rattle.table.specs.declared.Refusal.{Refusal}
 use Rattle.table.specs.Calls.{check_number}
+use Rattle.table.specs.Refusals.{number_of}
 use Rattle.table.proofs.Laws.Standing.{block_at}
-use Rattle.answers.specs.Answers.{keys_of, block_line, block_lines, image_lines, blocks_lines}
+use Rattle.answers.specs.Answers.{answer_lines, keys_of, block_line, block_lines, image_lines, blocks_lines}
 use Rattle.answers.specs.Output.{Said}
 use Rattle.answers.specs.declared.printer.Printer.{Printer}
 use Rattle.answers.proofs.Laws.Orders.{nodes_more}
 use Rattle.answers.proofs.Laws.Output.{said_on}
-use Rattle.answers.proofs.Laws.Answers.{no_lines, yes_lines}
+use Rattle.answers.proofs.Laws.Answers.{refused_lines}
 
 -- AN IMAGE: no block says more than B nodes
 second_most : (s : Sizes) (b : Block Chunk) → Good s b → get_or (block_bytes s b) 1 0 ≤ s.nodes
@@ -64,19 +65,14 @@ module _ (bs : List ℕ) (e : is_image bs ≡ true) where
 -- ONE BLOCK
 -- one key more behind the front of a row
 module _ (w : ℕ) (nodes head rows : List ℕ) (i : ℕ) where
-  pub keying_more : (v : ℕ) → length rows ≡ 36 → i < 32 → v ≡ field (w * i) 4 nodes → take (4 + i) rows ≡ take 4 head ++ keys_of (nodes_from w i nodes)
+  pub keying_more : (v : ℕ) → length rows ≡ 36 → i < 32 → (node_of w nodes (w * i)).key ≡ v → take (4 + i) rows ≡ take 4 head ++ keys_of (nodes_from w i nodes)
       → take (4 + (i + 1)) (set rows (4 + i) v) ≡ take 4 head ++ keys_of (nodes_from w (i + 1) nodes)
-  keying_more v l h e is =
+  keying_more v l h own is =
       let four : 4 + (i + 1) ≡ suc (4 + i) = omega arith in
-      let own : (node_of w nodes (w * i)).key ≡ v = key_of w nodes (w * i) ∙ sym e in
       let key : keys_of (nodes_from w (i + 1) nodes) ≡ keys_of (nodes_from w i nodes) ++ (v ∷ []) =
       ap keys_of (nodes_more w i nodes) ∙ map-append (λ (o : Order). o.key) (nodes_from w i nodes) (node_of w nodes (w * i) ∷ [])
       ∙ ap (λ (y : ℕ). keys_of (nodes_from w i nodes) ++ (y ∷ [])) own in
       rw (four, take-suc-set rows (4 + i) v (omega arith), is, key) (append_assoc (take 4 head) (keys_of (nodes_from w i nodes)) (v ∷ []))
-
-pub keying_end : (w : ℕ) (nodes head rows : List ℕ) (n i : ℕ) → i ≤ n → n ≤ i → take (4 + i) rows ≡ take 4 head ++ keys_of (nodes_from w i nodes)
-    → take (4 + n) rows ≡ take 4 head ++ keys_of (nodes_from w n nodes)
-keying_end w nodes head rows n i a b is = let e : i ≡ n = omega arith in rw e at is
 
 -- the front of a row
 pub head_made : (a b c n a' b' c' : ℕ) → a ≡ a' → b ≡ b' → c ≡ c' → take 4 (set (set (set (set (replicate 36 0) 0 a) 1 b) 2 c) 3 n) ≡ a' ∷ b' ∷ c' ∷ n ∷ []
@@ -156,11 +152,11 @@ module _ (bs : List ℕ) (size w : ℕ) (l : Laid bs size w) where
         rw (add-one, lines_more 0 i (blocks_in (sizes_in bs) bs) (omega (arith, many)), zero-add i, this) (said_on old out new _ _ said s)
 
 -- THE CALL
-module _ (x : List ℕ) (n : ℕ) (h : n ≡ check_number x) where
-  pub blocks_no : (old new : Printer) → n ≢ 0 → Said old (row n [] ∷ []) new → Said old (blocks_lines x) new
+module _ (x : List ℕ) (old new : Printer) where
+  pub blocks_no : (e : Refusal) → number_of e ≡ check_number x → Said old (row (number_of e) [] ∷ []) new → Said old (blocks_lines x) new
   unfolding blocks_lines
-  blocks_no old new e s = rw (← h, no_lines) s
+  blocks_no e h s = rw (← h, refused_lines) s
 
-  pub blocks_yes : (old mid new : Printer) → n ≡ 0 → Said old (row n [] ∷ []) mid → Said mid (image_lines x) new → Said old (blocks_lines x) new
-  unfolding blocks_lines
-  blocks_yes old mid new e a b = rw (← h, yes_lines) (said_on old mid new _ _ (rw e at a) b)
+  pub blocks_yes : 0 ≡ check_number x → (mid : Printer) → Said old (row 0 [] ∷ []) mid → Said mid (image_lines x) new → Said old (blocks_lines x) new
+  unfolding blocks_lines answer_lines
+  blocks_yes h mid a b = rw (← h) (said_on old mid new _ _ a b)

@@ -1,5 +1,5 @@
 -- The step of one line, put together from what its call did and what was printed.
-use Rattle.std.proofs.Common.{Option, None, Some}
+use Rattle.std.proofs.Common.{Option, None, Some, Result, Ok, Err, is_ok, option_map}
 use mathlib.Core.Path.{◌≡◌, refl, ap, sym, ◌∙◌, subst}
 use mathlib.Core.Logic.{◌≢◌}
 use mathlib.Core.Bool.{Bool, true, false, cond}
@@ -14,7 +14,10 @@ use Rattle.lines.specs.Text.{row}
 use Rattle.lines.specs.declared.Call.{Call}
 use Rattle.lines.specs.declared.Call.TheVariants.{Make, Put, Cancel}
 use Rattle.skiplist.specs.Image.{image}
+use Rattle.table.specs.declared.Refusal.{Refusal}
 use Rattle.table.specs.Calls.{MakeSays, EditSays, CancelSays}
+use Rattle.table.specs.Refusals.{answer}
+use Rattle.table.proofs.Laws.Refusals.{number_some}
 use Rattle.answers.specs.Answers.{answer_lines, mark_lines, make_number, make_lines, make_leaves, MakeDoes, leaves, prints, Step}
 use Rattle.answers.specs.Asked.{piece, sizes_asked, long_asked, MakeAsked}
 use Rattle.answers.specs.Output.{Said}
@@ -29,6 +32,15 @@ unfolding answer_lines
 alone zero = refl
 alone (suc n) = refl
 
+-- a call that is done answers 0, and one that is refused another number
+done_zero : (r : Result (Unit {0}) Refusal) → true ≡ is_ok r → answer r ≡ 0
+done_zero (Ok u) e = refl
+done_zero (Err f) e = cc
+
+refused_some : (r : Result (Unit {0}) Refusal) → false ≡ is_ok r → answer r ≢ 0
+refused_some (Ok u) e = cc
+refused_some (Err f) e = λ z. omega (arith, (number_some f).1)
+
 -- a buffer's two parts are as long as it
 parts_long : (n : ℕ) (x : List ℕ) → length (take n x) + length (drop n x) ≡ length x
 parts_long n x = sym (length-append (take n x) (drop n x)) ∙ ap length (take-append-drop n x)
@@ -41,7 +53,11 @@ module _ (p : List ℕ) (long : ℕ) (e : long ≡ long_asked p) where
       let t : ltb 65536 (long_asked p) ≡ true = ap (ltb 65536) (sym e) ∙ lt-ltb 65536 long h in
       record { number = sym (rw t); left = sym (rw t); behind = sym (drop_at table.bytes table.behind (length table.bytes) refl); whole = refl }
 
-  module _ (n l : ℕ) (buffer z : List ℕ) (whole : length buffer ≡ 65536) (h : long ≤ 65536) (w : length z ≡ length (take long buffer)) (f : MakeAsked p n (take long buffer) z) where
+  module _ (r : Result (Unit {0}) Refusal) (l : ℕ) (buffer z : List ℕ) (whole : length buffer ≡ 65536) (h : long ≤ 65536) (w : length z ≡ length (take long buffer))
+      (f : MakeAsked p (answer r) (take long buffer) z) where
+    abbrev n : ℕ
+    n = answer r
+
     within : long ≤ length buffer
     within = omega arith
 
@@ -73,9 +89,9 @@ module _ (p : List ℕ) (long : ℕ) (e : long ≡ long_asked p) where
     parts : table.bytes ++ table.behind ≡ buffer
     parts = take-append-drop l buffer
 
-    pub make_done : n ≡ 0 → MakeDoes p (Some n) table (record { bytes = take long now; behind = drop long now })
+    pub make_done : true ≡ is_ok r → MakeDoes p (Some n) table (record { bytes = take long now; behind = drop long now })
     make_done k =
-        let b = eq-eqb n 0 k in
+        let b = eq-eqb n 0 (done_zero r k) in
         let front = front_now long buffer z within w in
         record {
           number = answered;
@@ -84,9 +100,9 @@ module _ (p : List ℕ) (long : ℕ) (e : long ≡ long_asked p) where
           whole = parts_long long now ∙ length_front buffer z long w ∙ sym (parts_long l buffer);
         }
 
-    pub make_refused : n ≢ 0 → MakeDoes p (Some n) table (record { bytes = take l now; behind = drop l now })
+    pub make_refused : false ≡ is_ok r → MakeDoes p (Some n) table (record { bytes = take l now; behind = drop l now })
     make_refused k =
-        let b = ne_eqb n 0 k in
+        let b = ne_eqb n 0 (refused_some r k) in
         let same : now ≡ buffer = rw (rw b at table_is) (take-append-drop long buffer) in
         rw same (record { number = answered; left = rw b at (left_so table.bytes); behind = sym (drop_at table.bytes table.behind (length table.bytes) refl); whole = refl })
 
@@ -115,22 +131,22 @@ module _ (c : Option Call) (p : List ℕ) (room : ℕ) (table : Held) (to : Prin
     step_cancel e f = step_changed _ f (rw e f.says.1) (rw (e, f.says.0))
 
   -- a make: its number, or that there is no call
-  module _ (new : Held) (to' : Printer) (r : Option ℕ) (m : c ≡ Some Make) (d : MakeDoes p r table new) where
+  module _ (new : Held) (to' : Printer) (r : Option (Result (Unit {0}) Refusal)) (m : c ≡ Some Make) (d : MakeDoes p (option_map answer r) table new) where
     step_make : (ls : List (List ℕ)) → make_lines p ≡ ls → Said to ls to' → Step c p room table to new to'
     unfolding leaves prints
     step_make ls e s = record { left = d.left ∙ rw m; behind = d.behind; whole = d.whole; said = rw (m, e) s }
 
-    pub step_made : (n : ℕ) → r ≡ Some n → Said to (row n [] ∷ []) to' → Step c p room table to new to'
+    pub step_made : (made : Result (Unit {0}) Refusal) → r ≡ Some made → Said to (row (answer made) [] ∷ []) to' → Step c p room table to new to'
     unfolding make_lines
-    step_made n e s = step_make _ (go (ltb 65536 (long_asked p)) (make_number p) (sym e ∙ d.number) ∙ sym (alone n)) s
+    step_made made e s = step_make _ (go (ltb 65536 (long_asked p)) (make_number p) (sym (ap (option_map answer) e) ∙ d.number) ∙ sym (alone (answer made))) s
       where
-        go : (t : Bool) (k : ℕ) → Some n ≡ cond t None (Some k) → cond t mark_lines (answer_lines k [] []) ≡ answer_lines n [] []
+        go : (t : Bool) (k : ℕ) → Some (answer made) ≡ cond t None (Some k) → cond t mark_lines (answer_lines k [] []) ≡ answer_lines (answer made) [] []
         go true k h = cc
-        go false k h = let same : n ≡ k = cc in rw same
+        go false k h = let same : answer made ≡ k = cc in rw same
 
     pub step_marked : r ≡ None → Said to mark_lines to' → Step c p room table to new to'
     unfolding make_lines
-    step_marked e s = step_make _ (go (ltb 65536 (long_asked p)) (make_number p) (sym e ∙ d.number)) s
+    step_marked e s = step_make _ (go (ltb 65536 (long_asked p)) (make_number p) (sym (ap (option_map answer) e) ∙ d.number)) s
       where
         go : (t : Bool) (k : ℕ) → None ≡ cond t None (Some k) → cond t mark_lines (answer_lines k [] []) ≡ mark_lines
         go true k h = refl

@@ -7,7 +7,6 @@ use Prim.Native.Nat.{ℕ}
 use native.Mathlib.Omega.{arith}
 use lib.Seq.{sets}
 use Rattle.sizes.specs.Sizes.{beta, row}
-use Rattle.sizes.specs.Geometry.{Reckoned}
 use Rattle.sizes.specs.declared.Sizes.{Sizes}
 use Rattle.sizes.specs.declared.Geometry.{Geometry}
 use Rattle.placement.specs.Chunks.{node_bytes}
@@ -23,17 +22,16 @@ use Rattle.table.specs.Calls.{AmendSays}
 use Rattle.levels.specs.declared.Trail.{Trail}
 use Rattle.levels.specs.Ways.{way_down}
 use Rattle.readings.specs.Visit.{Known, first_of}
-use Rattle.readings.specs.Descent.{landed}
+use Rattle.readings.specs.Descent.{landed, standing}
 use Rattle.readings.proofs.Laws.Answers.{known_at}
 use Rattle.readings.proofs.Laws.Replies.{key_least, sought_absent, sought_there}
-use Rattle.readings.proofs.Laws.Descents.{order_alone}
+use Rattle.readings.proofs.Laws.Descents.{landed_none, landed_some, standing_there, order_alone}
 use Rattle.edits.specs.Change.{Setting, Sure}
 use Rattle.edits.proofs.Laws.EditAnswers.{refused, accepted, known_kept, HeldAt, held_at}
 use Rattle.edits.proofs.Laws.Helds.{held_done}
 
--- the way down to the key has ended at a place, and r is the order there if it has the key
-module _ (bs : List ℕ) (new : Order) (q : Geometry) (p : Sure bs q.sizes new) (rk : Reckoned q) (x : Trail) (ex : x ≡ way_down q.sizes bs q.top 0 new.key)
-    (r : Option Order) (er : r ≡ landed (row q.sizes) bs x.at new.key) where
+-- the way down to the key has ended, at its order or not
+module _ (bs : List ℕ) (new : Order) (q : Geometry) (p : Sure bs q.sizes new) (x : Trail) (ex : x ≡ way_down q.sizes bs q.top 0 new.key) where
   abbrev s : Sizes
   s = q.sizes
 
@@ -49,16 +47,19 @@ module _ (bs : List ℕ) (new : Order) (q : Geometry) (p : Sure bs q.sizes new) 
   w : Known s bs
   w = known_at bs s p.image p.sizes_are
 
-  sought : r ≡ first_of (between k k os)
-  sought = order_alone s bs w k (key_least k (is_key k) refl p.key) q refl rk x ex r er
+  abbrev found : Option Order
+  found = landed (row s) bs x.at k
 
-  pub amend_no_9 : r ≡ None → AmendSays new.key new.total new.displayed new.price 9 bs bs
+  sought : found ≡ first_of (between k k os)
+  sought = order_alone s bs w k (key_least k (is_key k) refl p.key) q refl x ex found refl
+
+  pub amend_no_9 : standing (row s) bs x.at k ≡ None → AmendSays new.key new.total new.displayed new.price 9 bs bs
   unfolding AmendSays refusal asks first_no asks_image asks_amend asks_order
-  amend_no_9 z = refused amending 9 bs (rw (p.image, ← p.sizes_are, p.price, p.key, p.quantities, sought_absent k os r sought z)) (λ y. omega arith)
+  amend_no_9 z = refused amending 9 bs (rw (p.image, ← p.sizes_are, p.price, p.key, p.quantities, sought_absent k os found sought (landed_none s bs k x.at z))) (λ y. omega arith)
 
-  module _ (y : Order) (z : r ≡ Some y) where
+  module _ (a : ℕ) (z : standing (row s) bs x.at k ≡ Some a) where
     there : held k os ≡ true
-    there = (sought_there k os r sought y z).0
+    there = (sought_there k os found sought _ (landed_some s bs k x.at a z)).0
 
     b : HeldAt k os
     b = held_at k os (good_up s 1 os w.good) there
@@ -70,13 +71,14 @@ module _ (bs : List ℕ) (new : Order) (q : Geometry) (p : Sure bs q.sizes new) 
     unfolding book_refusal asks first_no asks_amend asks_order
     yes = rw (p.price, p.key, p.quantities, there)
 
-    pub amend_done : (bs' : List ℕ) → bs' ≡ sets bs x.at (node_bytes (row s) new) → AmendSays new.key new.total new.displayed new.price 0 bs bs'
+    pub amend_done : (bs' : List ℕ) → bs' ≡ sets bs a (node_bytes (row s) new) → AmendSays new.key new.total new.displayed new.price 0 bs bs'
     unfolding AmendSays refusal asks changed first_no asks_image asks_amend asks_order
     amend_done bs' i =
         let u = kept_amend s (limits s w.sizes_made) k new.total new.displayed new.price os (known_kept bs s w) yes in
         let was : Setting s b.before b.own b.behind = record { sizes = w.sizes_made; good = rw b.is at w.good; fit = rw b.is at w.fit } in
         let now : Setting s b.before new b.behind = record { sizes = w.sizes_made; good = rw over_is at u.good; fit = rw over_is at u.fit } in
-        let at : x.at ≡ (way_down s bs (beta s) 0 k).at = ap (λ (v : Trail). v.at) ex ∙ ap (λ (v : ℕ). (way_down s bs v 0 k).at) rk.top_is in
+        let at : (way_down s bs (beta s) 0 k).at ≡ Some a =
+        sym (ap (λ (v : Trail). v.at) ex ∙ ap (λ (v : ℕ). (way_down s bs v 0 k).at) q.top_is) ∙ standing_there s bs k x.at a z in
         accepted amending bs bs' (rw (p.image, ← p.sizes_are, p.price, p.key, p.quantities, there))
         (subst (λ (v : Sizes). bs' ≡ image v (with_order new os)) p.sizes_are
-        (i ∙ ap (λ (v : ℕ). sets bs v (node_bytes (row s) new)) at ∙ held_done s b.before b.own new b.behind b.key was now bs (rw b.is at (sym w.bytes)) ∙ ap (image s) (sym over_is)))
+        (i ∙ held_done s b.before b.own new b.behind b.key was now bs (rw b.is at (sym w.bytes)) a at ∙ ap (image s) (sym over_is)))

@@ -1,5 +1,7 @@
 -- The node of a held key of level 1: the way down to the key ends at it, at the head of a partition of its own or behind the nodes below it; with its
 -- quantities and price replaced there, the table is the image of the orders with these.
+use Rattle.std.proofs.Common.{Option, Some}
+use Rattle.std.specs.Option.{IsSomeAnd}
 use mathlib.Core.Path.{◌≡◌, refl, sym, ap, ◌∙◌, subst}
 use mathlib.Core.Bool.{Bool, true, false}
 use mathlib.Core.List.{List, [], ◌∷◌, ◌++◌, append_assoc}
@@ -33,10 +35,7 @@ use Rattle.edits.proofs.Laws.Settings.{all_up, front_below, behind_up, key_pos, 
 use Rattle.edits.proofs.Laws.Swaps.{swapped}
 
 module _ (s : Sizes) (xs : List Order) (y o : Order) (zs : List Order) (e : y.key ≡ o.key) (w : Setting s xs y zs) (v : Setting s xs o zs) (bs : List ℕ)
-    (i : bs ≡ image s (xs ++ y ∷ zs)) where
-  abbrev place : ℕ
-  place = (way_down s bs (beta s) 0 o.key).at
-
+    (i : bs ≡ image s (xs ++ y ∷ zs)) (place : ℕ) (at : (way_down s bs (beta s) 0 o.key).at ≡ Some place) where
   -- WHERE IT STANDS: it is the last of the orders not above its key
   cut : Way s bs (suc o.key) (xs ++ y ∷ []) zs
   unfolding below
@@ -58,8 +57,8 @@ module _ (s : Sizes) (xs : List Order) (y o : Order) (zs : List Order) (e : y.ke
       let up = up_front (xs ++ y ∷ []) zs 1 (rw (append_assoc xs (y ∷ []) zs) (all_up s xs y zs w)) in
       let a = arrives s bs o.key (xs ++ y ∷ []) zs cut (beta s) (omega arith) starting (sym (start_top s (xs ++ y ∷ []) up)) (0 ∷ []) in
       let top : beta s - 0 ≡ beta s = omega arith in
-      let is : place ≡ a.trail.at = ap (λ (n : ℕ). (down_in s bs 0 o.key n (trek starting (0 ∷ []))).trail.at) top ∙ ap (λ (x : Trek). x.trail.at) a.is in
-      subst (Seated s bs 1 (first_key (head_part s 1 (xs ++ y ∷ []))) (length (head_part s 1 (xs ++ y ∷ [])) - 1)) (sym is) (a.ended (omega (arith, beta_least s))).seat
+      let is : Some place ≡ a.trail.at = sym at ∙ ap (λ (n : ℕ). (down_in s bs 0 o.key n (trek starting (0 ∷ []))).trail.at) top ∙ ap (λ (x : Trek). x.trail.at) a.is in
+      subst (λ (p : Option ℕ). IsSomeAnd p (Seated s bs 1 (first_key (head_part s 1 (xs ++ y ∷ []))) (length (head_part s 1 (xs ++ y ∷ [])) - 1))) (sym is) (a.ended (omega (arith, beta_least s))).seat
 
   two : 2 ≤ s.nodes
   two = (limits s w.sizes).nodes_least

@@ -1,4 +1,5 @@
 -- The way down in an image: the path that its definition tells, and the node with the greatest key not above the one sought.
+use Rattle.std.specs.Option.{IsSomeAnd}
 use mathlib.Core.Path.{◌≡◌, refl, sym, ap, ◌∙◌, subst}
 use mathlib.Core.Bool.{Bool}
 use mathlib.Core.List.{List, [], ◌∷◌, ◌++◌, map, map-append}
@@ -63,7 +64,7 @@ module _ (s : Sizes) (bs : List ℕ) (y : ℕ) (xs zs : List Order) (w : Way s b
   -- the last node of level 1 that is not above y: where it is, and where it stands
   pub record Ended (x : Trail) : Type 0 where
     pub ends : Ends s bs x (last_of front (nodes 1))
-    pub seat : Seated s bs 1 (first_key (head_part s 1 xs)) (length (head_part s 1 xs) - 1) x.at
+    pub seat : IsSomeAnd x.at (Seated s bs 1 (first_key (head_part s 1 xs)) (length (head_part s 1 xs) - 1))
 
   pub record Arrived (r : Trek) (k : ℕ) (x : Trail) (o : List ℕ) : Type 0 where
     pub trail : Trail
@@ -117,11 +118,11 @@ module _ (s : Sizes) (bs : List ℕ) (y : ℕ) (xs zs : List Order) (w : Way s b
         }
 
   one_seat : (h : 1 ≤ beta s) (x : Trail) (e : x.first ≡ first_key (head_part s 1 xs)) (o : List ℕ) →
-      Seated s bs 1 (first_key (head_part s 1 xs)) (length (head_part s 1 xs) - 1) (one 0 h x e o).trail.at
+      IsSomeAnd (one 0 h x e o).trail.at (Seated s bs 1 (first_key (head_part s 1 xs)) (length (head_part s 1 xs) - 1))
   one_seat h x e o =
       let l = length-map (head_part s 1 xs) (masked 1) in
       let some = head_part_long s 1 xs in
-      subst (λ (f : ℕ). Seated s bs 1 f (length (head_part s 1 xs) - 1) (one 0 h x e o).trail.at) e
+      subst (λ (f : ℕ). IsSomeAnd (one 0 h x e o).trail.at (Seated s bs 1 f (length (head_part s 1 xs) - 1))) e
       ((one 0 h x e o).seat (length (head_part s 1 xs) - 1) (λ z. absurd (omega (arith, l, some))) (λ z. omega (arith, l, some)))
 
   pub arrives : (k : ℕ) → k ≤ beta s → (x : Trail) → x.first ≡ first_key (head_part s k xs) → (o : List ℕ) → Arrived (down_in s bs 0 y k (trek x o)) k x o

@@ -1,5 +1,6 @@
 -- The way down in a table: the blocks that come on it, and the node where it ends.
 use Rattle.std.proofs.Common.{Option, Some, None}
+use Rattle.std.specs.Option.{IsSomeAnd}
 use mathlib.Core.Path.{◌≡◌, refl, sym, ap, ◌∙◌, subst}
 use mathlib.Core.Bool.{Bool, true, false, cond}
 use mathlib.Core.List.{List, [], ◌∷◌, ◌++◌, map}
@@ -39,7 +40,7 @@ use Rattle.levels.proofs.Laws.Chunking.{pieces_none, pieces_full, drop_past}
 
 -- A NODE stands in bytes
 abbrev pub NodeAt : Sizes → List ℕ → (at : ℕ) → Order → Type 0
-NodeAt s bs a o = (0 < a) × (node_of (row s) bs a ≡ o)
+NodeAt s bs a o = node_of (row s) bs a ≡ o
 
 -- the last of some nodes, z where there is none
 unfoldable pub last_of : (z : Order) → List Order → Order
@@ -167,11 +168,11 @@ module _ (s : Sizes) (F : Map) (n : ℕ) (hd bs : List ℕ) (t : Table s F n hd 
           let b = there.0 in
           let v = some_found s F n hd bs t (label k f j) pos (sought j) refl b there.1 in
           let z : 53 + b * block_long s + (8 + row s * (i - 1)) ≡ 53 + b * block_long s + 8 + row s * (i - 1) = omega arith in
-          rw there.1 (omega arith, ap (node_of (row s) bs) z ∙ node_read s bs b (label k f j) (F k f j) v.is v.held.fine (i - 1) (omega arith))
+          rw there.1 (ap (node_of (row s) bs) z ∙ node_read s bs b (label k f j) (F k f j) v.is v.held.fine (i - 1) (omega arith))
 
 -- WHERE THE WAY ENDS: at a node, whose key it has
 abbrev pub Ends : Sizes → List ℕ → Trail → Order → Type 0
-Ends s bs x z = (x.first ≡ z.key) × NodeAt s bs x.at z
+Ends s bs x z = (x.first ≡ z.key) × IsSomeAnd x.at (λ a. NodeAt s bs a z)
 
 -- WHERE NODE m of partition f of level k stands, counted from 0: in the block of its chunk
 pub record Seated (s : Sizes) (bs : List ℕ) (k f m a : ℕ) : Type 0 where
@@ -195,7 +196,7 @@ pub record Landed (s : Sizes) (bs : List ℕ) (bl : List (Block Chunk)) (k f : �
   pub is : r ≡ trek trail (numbers_in o x.count (map (stands_in bl) (labels_from (pieces s.nodes (length ps)) k f j)))
   pub count : trail.count ≡ x.count + pieces s.nodes (length ps)
   pub ends : (z : Order) → (length ps ≡ 0 → Ends s bs x z) → Ends s bs trail (last_of z ps)
-  pub seat : (m : ℕ) → (length ps ≡ 0 → Seated s bs k f m x.at) → (0 < length ps → m + 1 ≡ j * s.nodes + length ps) → Seated s bs k f m trail.at
+  pub seat : (m : ℕ) → (length ps ≡ 0 → IsSomeAnd x.at (Seated s bs k f m)) → (0 < length ps → m + 1 ≡ j * s.nodes + length ps) → IsSomeAnd trail.at (Seated s bs k f m)
 
 module _ (s : Sizes) (bs : List ℕ) (bl : List (Block Chunk)) (k f : ℕ) where
   landed_none : (j : ℕ) (x : Trail) (o : List ℕ) → Landed s bs bl k f (trek x o) j [] x o
@@ -212,7 +213,7 @@ module _ (s : Sizes) (bs : List ℕ) (bl : List (Block Chunk)) (k f : ℕ) where
     trail = w.trail;
     is = w.is ∙ rw (e, ← ei);
     count = omega (arith, w.count, e);
-    ends = λ z q. rw (last_append z own rest, last_at z own some) (w.ends (node_at own (length own - 1)) (λ g. (sym (key_of (row s) bs (node_place s i (length own))) ∙ ap (λ (q : Order). q.key) h.1, h)));
+    ends = λ z q. rw (last_append z own rest, last_at z own some) (w.ends (node_at own (length own - 1)) (λ g. (sym (key_of (row s) bs (node_place s i (length own))) ∙ ap (λ (q : Order). q.key) h, h)));
     seat = λ m z g.
         w.seat m
         (λ q. seated s bs k f j i (length own) m found some few (omega (arith, g (omega (arith, length-append own rest)), length-append own rest)))

@@ -24,7 +24,7 @@ use Rattle.placement.proofs.Laws.Cells.{cond_valid}
 use Rattle.placement.proofs.Laws.Loops.{search_below}
 use Rattle.placement.proofs.Laws.Behind.{starts_home, starts_behind}
 use Rattle.levels.specs.declared.Trail.{Trail}
-use Rattle.levels.specs.Ways.{Trek, trek, coming, starting, number_in, upto_in, reached_in, found_upto, found_block, trod, chunks_in, along_in, down_in}
+use Rattle.levels.specs.Ways.{Trek, trek, coming, starting, number_in, upto_in, reached_in, found_upto, found_block, trod, Inside, chunks_in, along_in, down_in}
 
 -- one row more
 pub rows_next : (w i : ℕ) → w * (i + 1) ≡ w * i + w
@@ -62,7 +62,7 @@ module _ (o : List ℕ) (c i : ℕ) where
 pub record Along (s : Sizes) (bs : List ℕ) (l y c f : ℕ) (o : List ℕ) (j : ℕ) (start : ℕ) (w : Trail) (z : List ℕ) : Type 0 where
   pub within : j ≤ s.blocks
   pub few : w.count ≤ c + j
-  pub inside : w.at + row s ≤ length bs
+  pub inside : Inside s bs w.at
   pub long : length z ≡ length o
   pub rest : along_in s bs l y (trek (coming c f) o) ≡ chunks_in s bs l f y (s.blocks - j) j (trek w z)
   pub starts : Starts s bs (label l f j) start
@@ -70,14 +70,14 @@ pub record Along (s : Sizes) (bs : List ℕ) (l y c f : ℕ) (o : List ℕ) (j :
 module _ (s : Sizes) (bs : List ℕ) (l y : ℕ) (t : Trail) (o : List ℕ) (g : Shaped s bs) where
   -- what is said of the way when the level is done
   abbrev Gone : (r : Trail) → (z : List ℕ) → Type 0
-  Gone r z = (trek r z ≡ along_in s bs l y (trek t o)) × (r.count ≤ t.count + 65535) × (r.at + row s ≤ length bs)
+  Gone r z = (trek r z ≡ along_in s bs l y (trek t o)) × (r.count ≤ t.count + 65535) × Inside s bs r.at
 
   pub along_start : (start : ℕ) → start ≡ home s (label l t.first 0) → start < s.blocks
       → Along s bs l y t.count t.first o 0 start (coming t.count t.first) o
   unfolding along_in search_in
   along_start start e h =
       let c : s.blocks - 0 ≡ s.blocks = omega arith in
-      record { within = omega arith; few = omega arith; inside = omega (arith, g.long, g.wide); long = refl; rest = rw c; starts = starts_home s bs (label l t.first 0) start e h }
+      record { within = omega arith; few = omega arith; inside = tt; long = refl; rest = rw c; starts = starts_home s bs (label l t.first 0) start e h }
 
   module _ (j start : ℕ) (w : Trail) (z : List ℕ) (p : Along s bs l y t.count t.first o j start w z) where
     stop : chunks_in s bs l t.first y (s.blocks - j) j (trek w z) ≡ trek w z → Gone w z
@@ -115,7 +115,7 @@ module _ (s : Sizes) (bs : List ℕ) (l y : ℕ) (t : Trail) (o : List ℕ) (g :
           unfolding chunks_in found_upto
           along_short q = stop (rw (step, ← er, e, ← en, q))
 
-          module _ (q : n ≡ 0 → ⊥) (w' : Trail) (z' : List ℕ) (ew : trek w' z' ≡ trod s bs i n (trek w z)) (c : w'.count ≡ w.count + 1) (a : w'.at + row s ≤ length bs) where
+          module _ (q : n ≡ 0 → ⊥) (w' : Trail) (z' : List ℕ) (ew : trek w' z' ≡ trod s bs i n (trek w z)) (c : w'.count ≡ w.count + 1) (a : Inside s bs w'.at) where
             -- the output keeps its length
             pub trod_long : length z' ≡ length o
             unfolding trod
@@ -144,19 +144,19 @@ module _ (s : Sizes) (bs : List ℕ) (l y : ℕ) (t : Trail) (o : List ℕ) (g :
 pub record Down (s : Sizes) (bs : List ℕ) (top l y : ℕ) (o : List ℕ) (k : ℕ) (t : Trail) (z : List ℕ) : Type 0 where
   pub within : k ≤ top
   pub few : t.count ≤ 65535 * (top - k)
-  pub inside : t.at + row s ≤ length bs
+  pub inside : Inside s bs t.at
   pub long : length z ≡ length o
   pub rest : down_in s bs l y (top - l) (trek starting o) ≡ down_in s bs l y (k - l) (trek t z)
 
 module _ (s : Sizes) (bs : List ℕ) (top l y : ℕ) (o : List ℕ) where
-  pub down_start : Shaped s bs → Down s bs top l y o top starting o
-  down_start h = record { within = omega arith; few = omega arith; inside = omega (arith, h.long, h.wide); long = refl; rest = refl }
+  pub down_start : Down s bs top l y o top starting o
+  down_start = record { within = omega arith; few = omega arith; inside = tt; long = refl; rest = refl }
 
   module _ (k : ℕ) (t : Trail) (z : List ℕ) (p : Down s bs top l y o k t z) where
     pub down_room : top ≤ 19 → t.count + 65535 ≤ 4294967295
     down_room h = omega (arith, p.few)
 
-    pub down_more : l < k → (t' : Trail) (z' : List ℕ) → trek t' z' ≡ along_in s bs k y (trek t z) → t'.count ≤ t.count + 65535 → t'.at + row s ≤ length bs → length z' ≡ length z →
+    pub down_more : l < k → (t' : Trail) (z' : List ℕ) → trek t' z' ≡ along_in s bs k y (trek t z) → t'.count ≤ t.count + 65535 → Inside s bs t'.at → length z' ≡ length z →
         Down s bs top l y o (k - 1) t' z'
     unfolding down_in
     down_more h t' z' e c a g =

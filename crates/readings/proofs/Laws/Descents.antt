@@ -1,6 +1,8 @@
 -- The way down to one key: the order where it ends, and the path that is written.
 use Rattle.std.proofs.Common.{Option, Some, None}
 use Rattle.std.specs.Bool.{then_some}
+use Rattle.std.specs.Option.{MatchOption, IsSomeAnd, option_map}
+use Rattle.std.proofs.lemmas.Option.{cond_some}
 use mathlib.Core.Path.{◌≡◌, refl, sym, ap, ◌∙◌, subst}
 use mathlib.Core.Bool.{Bool, true, false, cond}
 use mathlib.Core.List.{List, [], ◌∷◌, ◌++◌, append_assoc}
@@ -11,13 +13,14 @@ use borrow.Author.Tests.{ltb-true, lt-ltb, eq-eqb, ne_eqb, le-leb, lt-leb}
 use lib.Dec.{ltb, eqb}
 use lib.ListN.{length, take, drop, length-map}
 use lib.Seq.{sets, sets-eq, take_at}
+use Rattle.sizes.specs.Numbers.{field}
 use Rattle.sizes.specs.Sizes.{beta, row}
-use Rattle.sizes.specs.Geometry.{Reckoned}
 use Rattle.sizes.specs.declared.Sizes.{Sizes}
 use Rattle.sizes.specs.declared.Geometry.{Geometry}
 use Rattle.placement.specs.Decode.{node_of}
 use Rattle.placement.specs.declared.Order.{Order}
-use Rattle.sizes.proofs.Laws.Sizes.{and_parts}
+use Rattle.sizes.proofs.Laws.Sizes.{and_parts, row_least}
+use Rattle.placement.proofs.Laws.Reading.{key_of}
 use Rattle.skiplist.specs.Lists.{front}
 use Rattle.skiplist.specs.Image.{orders_in}
 use Rattle.skiplist.specs.Questions.{between}
@@ -30,12 +33,12 @@ use Rattle.skiplist.proofs.Laws.Nodes.{below_more}
 use Rattle.table.proofs.Laws.Descents.{path_long}
 use Rattle.levels.specs.declared.Trail.{Trail}
 use Rattle.levels.specs.Edit.{Way}
-use Rattle.levels.specs.Ways.{Trek, trek, starting, down_in, way_down}
+use Rattle.levels.specs.Ways.{Trek, trek, starting, Inside, down_in, way_down}
 use Rattle.levels.proofs.Laws.Numbers.{numbers_in, numbers_long, numbers_room, Goes, goes_down}
 use Rattle.levels.proofs.Laws.Leading.{last_of, last_append, Ends}
 use Rattle.levels.proofs.Laws.Arriving.{arrives, last_listed}
 use Rattle.readings.specs.Visit.{Known, first_of}
-use Rattle.readings.specs.Descent.{way, landed, Written}
+use Rattle.readings.specs.Descent.{way, landed, standing, Written}
 use Rattle.readings.proofs.Laws.Chunked.{orders_up}
 
 -- THE ORDER OF A KEY among rising orders: those below it, and what comes then
@@ -74,21 +77,57 @@ below_one k y h = rw (lt-ltb y.key k h)
 
 -- what stands where a way has ended
 landed_is : (s : Sizes) (bs : List ℕ) (k : ℕ) (t : Trail) (o : Order) → Ends s bs t o → landed (row s) bs t.at k ≡ cond (eqb o.key k) (Some o) None
-unfolding landed
-landed_is s bs k t o e = rw (ne_eqb t.at 0 (omega (arith, e.1.0)), e.1.1)
+unfolding landed standing
+landed_is s bs k t o e = go t.at e.1
+  where
+    held : (a : ℕ) → node_of (row s) bs a ≡ o → (b : Bool) → option_map (node_of (row s) bs) (cond b (Some a) None) ≡ cond b (Some o) None
+    held a e true = ap Some e
+    held a e false = refl
 
-module _ (w : ℕ) (bs : List ℕ) (a k : ℕ) where
-  pub landed_none : a ≡ 0 → None ≡ landed w bs a k
-  unfolding landed
-  landed_none e = rw e
+    go : (at : Option ℕ) → IsSomeAnd at (λ a. node_of (row s) bs a ≡ o) → landed (row s) bs at k ≡ cond (eqb o.key k) (Some o) None
+    go None e = absurd e
+    go (Some a) e = ap (λ (z : Order). option_map (node_of (row s) bs) (cond (eqb z.key k) (Some a) None)) e ∙ held a e (eqb o.key k)
 
-  pub landed_at : (a ≡ 0 → ⊥) → (o : Order) → o ≡ node_of w bs a → then_some (eqb o.key k) o ≡ landed w bs a k
-  unfolding landed
-  landed_at h o eo = rw (ne_eqb a 0 h, ← eo) (go (eqb o.key k))
+module _ (s : Sizes) (bs : List ℕ) (k : ℕ) where
+  -- .. and its place, whose key is in the bytes
+  pub standing_key : (at : Option ℕ) → Inside s bs at → (a : ℕ) → at ≡ Some a → a + 4 ≤ length bs
+  standing_key at h a e =
+      let r : a + row s ≤ length bs = rw e at h in
+      omega (arith, r, row_least s)
+
+  pub standing_is : (at : Option ℕ) → Inside s bs at → (r : Option ℕ) (Q : ℕ → Bool → Type 0) → MatchOption at (r ≡ None) (λ a. (b : Bool) × Q a b × (r ≡ then_some b a)) →
+      ((a : ℕ) (b : Bool) → Q a b → b ≡ eqb (field a 4 bs) k) → (r ≡ standing (row s) bs at k) × Inside s bs r
+  unfolding standing
+  standing_is None h r Q e q = (e, rw e tt)
+  standing_is (Some a) h r Q (b, eb, er) q = rw (er, key_of (row s) bs a, ← q a b eb) (go b)
     where
-      go : (t : Bool) → then_some t o ≡ cond t (Some o) None
-      go true = refl
-      go false = refl
+      go : (t : Bool) → (then_some t a ≡ cond t (Some a) None) × Inside s bs (then_some t a)
+      go true = (refl, h)
+      go false = (refl, tt)
+
+  pub standing_there : (at : Option ℕ) (a : ℕ) → standing (row s) bs at k ≡ Some a → at ≡ Some a
+  unfolding standing
+  standing_there None a e = cc
+  standing_there (Some b) a e = ap Some (cond_some (eqb (node_of (row s) bs b).key k) b a e).1
+
+  -- the order at that place
+  pub landed_at : (at p : Option ℕ) → p ≡ standing (row s) bs at k → (r : Option Order) (Q : ℕ → Order → Type 0) → MatchOption p (r ≡ None) (λ a. IsSomeAnd r (Q a)) →
+      ((a : ℕ) (o : Order) → Q a o → o ≡ node_of (row s) bs a) → r ≡ landed (row s) bs at k
+  unfolding landed
+  landed_at at p ep r Q h q = go p r h ∙ ap (option_map (node_of (row s) bs)) ep
+    where
+      go : (p : Option ℕ) (r : Option Order) → MatchOption p (r ≡ None) (λ a. IsSomeAnd r (Q a)) → r ≡ option_map (node_of (row s) bs) p
+      go None r h = h
+      go (Some a) None h = absurd h
+      go (Some a) (Some o) h = ap Some (q a o h)
+
+  pub landed_none : (at : Option ℕ) → standing (row s) bs at k ≡ None → landed (row s) bs at k ≡ None
+  unfolding landed
+  landed_none at e = rw e
+
+  pub landed_some : (at : Option ℕ) (a : ℕ) → standing (row s) bs at k ≡ Some a → landed (row s) bs at k ≡ Some (node_of (row s) bs a)
+  unfolding landed
+  landed_some at a e = rw e
 
 -- the front of a list where it was written over
 take_sets_front : (l vs : List ℕ) (n : ℕ) → length vs ≡ n → n ≤ length l → take n (sets l 0 vs) ≡ vs
@@ -126,7 +165,7 @@ module _ (s : Sizes) (bs : List ℕ) (w : Known s bs) (k : ℕ) (pos : 1 ≤ k) 
   cut_way xs zs q b u =
       record { good = w.sizes_made; orders = rw q at w.good; fit = rw q at w.fit; is = sym (rw q at w.bytes); low = b; high = u; pos = omega arith }
 
-  module _ (q : Geometry) (eq : q.sizes ≡ s) (rk : Reckoned q) where
+  module _ (q : Geometry) (eq : q.sizes ≡ s) where
     -- .. the way ends at the last of those before, and its path is the one that the definition tells
     pub record Reached (o : List ℕ) (z : Order) : Type 0 where
       pub trail : Trail
@@ -139,12 +178,12 @@ module _ (s : Sizes) (bs : List ℕ) (w : Known s bs) (k : ℕ) (pos : 1 ≤ k) 
     by_cut xs zs e b u o =
         let v = cut_way xs zs e b u in
         let a = arrives s bs k xs zs v (beta s) (omega arith) starting (sym (start_top s xs (up_front xs zs 1 (rw e at (orders_up s bs w))))) o in
-        let top : q.top - 0 ≡ beta s = omega (arith, rk.top_is, ap beta eq) in
+        let top : q.top - 0 ≡ beta s = omega (arith, q.top_is, ap beta eq) in
         record {
           trail = a.trail;
           is = rw (e, eq, top) a.is;
           count = rw (e, length-map) (a.count ∙ zero-add _);
-          ends = rw (last_listed s xs) at (a.ended (omega (arith, rk.top_least, rk.top_is, ap beta eq))).ends;
+          ends = rw (last_listed s xs) at (a.ended (omega (arith, q.top_least, q.top_is, ap beta eq))).ends;
         }
 
     -- THE ORDER OF THE KEY is what stands there, if it has the key

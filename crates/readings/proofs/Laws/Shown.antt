@@ -12,7 +12,6 @@ use lib.Seq.{sets-eq}
 use Rattle.sizes.specs.Numbers.{rows}
 use Rattle.sizes.specs.Sizes.{row}
 use Rattle.sizes.specs.Header.{sizes_in, rule_1}
-use Rattle.sizes.specs.Geometry.{Reckoned}
 use Rattle.sizes.specs.declared.Geometry.{Geometry}
 use Rattle.placement.specs.declared.Order.{Order}
 use Rattle.sizes.proofs.Laws.HeaderLoops.{rule_short}
@@ -79,7 +78,7 @@ module _ (bs : List ℕ) (k : ℕ) (o : List ℕ) where
       within = within_none _ o refl;
     }
 
-    module _ (rb : b ≡ true) (q : Geometry) (eq : q.sizes ≡ sizes_in bs) (rk : Reckoned q) (t : Trail) (x x' : List ℕ) (et : trek t x' ≡ way q bs k x) where
+    module _ (rb : b ≡ true) (q : Geometry) (eq : q.sizes ≡ sizes_in bs) (t : Trail) (x x' : List ℕ) (et : trek t x' ≡ way q bs k x) where
       passed : (first_no (asks_first bs k) ≡ 0 → ⊥) → {P : Type 0} → P
       passed z = absurd (z (first true true (sym ea ∙ ra) (sym eb ∙ rb)))
 
@@ -88,14 +87,14 @@ module _ (bs : List ℕ) (k : ℕ) (o : List ℕ) where
 
       -- on an image
       module _ (i : is_image bs ≡ true) where
-        reached : (z : List ℕ) → (y : Order) × Reached (sizes_in bs) bs (known_image bs i) k (key_least k b eb rb) q eq rk z y × (cond (eqb y.key k) (Some y) None ≡ first_of (between k k (orders_in bs)))
-        reached z = ends_right (sizes_in bs) bs (known_image bs i) k (key_least k b eb rb) q eq rk z
+        reached : (z : List ℕ) → (y : Order) × Reached (sizes_in bs) bs (known_image bs i) k (key_least k b eb rb) q eq z y × (cond (eqb y.key k) (Some y) None ≡ first_of (between k k (orders_in bs)))
+        reached z = ends_right (sizes_in bs) bs (known_image bs i) k (key_least k b eb rb) q eq z
 
         long : t.count ≡ length path
         long = let v = reached x in ap (λ (z : Trek). z.trail.count) (et ∙ v.1.is) ∙ v.1.count
 
         order : (f : Option Order) → f ≡ landed (row q.sizes) bs t.at k → f ≡ first_of (between k k (orders_in bs))
-        order f ef = order_right (sizes_in bs) bs (known_image bs i) k (key_least k b eb rb) q eq rk x t x' et f ef
+        order f ef = order_right (sizes_in bs) bs (known_image bs i) k (key_least k b eb rb) q eq x t x' et f ef
 
         written : 2 * t.count ≤ length o → (z : List ℕ) → z ≡ (way q bs k o).path → z ≡ path_bytes path ++ drop (2 * length path) o
         written h z ez =

@@ -8,7 +8,7 @@ use Rattle.answers.proofs.printing.answer.Goals as goal
 pub returns-in-Some : goal.returns-in-Some
 returns-in-Some c =
     let e : c.args.line.call ≡ Some Make = search rules in
-    step_made _ _ _ _ _ _ _ _ e c.make.ensures _ c.in-Some.is c.say_number.ensures
+    step_made _ _ _ _ _ _ _ _ e c.make.ensures _ c.in-Some.is c.say_answer.ensures
 
 pub returns-in-None-make : goal.returns-in-None-make
 returns-in-None-make c =
@@ -18,12 +18,12 @@ returns-in-None-make c =
 pub returns-in-Some-Put : goal.returns-in-Some-Put
 returns-in-Some-Put c =
     let e : c.args.line.call ≡ Some Put = search rules in
-    step_put _ _ _ _ _ _ _ _ c.say_number-in-Some-Put.ensures e c.put.ensures
+    step_put _ _ _ _ _ _ _ _ c.say_answer-in-Some-Put.ensures e c.put.ensures
 
 pub returns-in-Some-Cancel : goal.returns-in-Some-Cancel
 returns-in-Some-Cancel c =
     let e : c.args.line.call ≡ Some Cancel = search rules in
-    step_cancel _ _ _ _ _ _ _ _ c.say_number-in-Some-Cancel.ensures e c.cancel.ensures
+    step_cancel _ _ _ _ _ _ _ _ c.say_answer-in-Some-Cancel.ensures e c.cancel.ensures
 
 pub returns-in-Some-Show : goal.returns-in-Some-Show
 unfolding leaves prints

@@ -1,12 +1,13 @@
+use Rattle.std.proofs.Common.{refl}
 use Rattle.readings.proofs.Laws.Replies.{checked_yes}
 use Rattle.answers.proofs.Laws.Blocks.{blocks_no, blocks_yes}
 use Rattle.answers.proofs.printing.answer_blocks.Goals as goal
 
 pub say_image-requires : goal.say_image-requires
-say_image-requires c = rw c.bytes.ensures (checked_yes _ _ c.check-n.ensures c.if-n-eq0.true)
+say_image-requires c = rw c.bytes.ensures (checked_yes _ _ c.in-Ok.ensures refl)
 
-pub returns-then-n-eq0 : goal.returns-then-n-eq0
-returns-then-n-eq0 c = blocks_yes _ _ c.check-n.ensures _ _ _ c.if-n-eq0.true c.say_number.ensures (rw c.bytes.ensures at c.say_image.ensures)
+pub returns-in-Ok : goal.returns-in-Ok
+returns-in-Ok c = blocks_yes _ _ _ c.in-Ok.ensures _ c.say_number.ensures (rw c.bytes.ensures at c.say_image.ensures)
 
-pub returns-else-n-eq0 : goal.returns-else-n-eq0
-returns-else-n-eq0 c = blocks_no _ _ c.check-n.ensures _ _ c.if-n-eq0.false c.say_number.ensures
+pub returns-in-Err : goal.returns-in-Err
+returns-in-Err c = blocks_no _ _ _ _ c.in-Err.ensures (rw c.from.ensures at c.say_number-in-Err.ensures)

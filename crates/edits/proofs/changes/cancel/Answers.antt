@@ -20,7 +20,7 @@ returns-then-not-is_key c = cancel_no_5 _ _ c.in_ok-examine.ensures.0 (sym c.if-
 
 pub order_of-requires : goal.order_of-requires
 order_of-requires c =
-    (known_at _ _ c.in_ok-examine.ensures.0 c.geometry_of-q.ensures.0, c.geometry_of-q.ensures.1, key_some _ (sym c.if-not-is_key.ensures))
+    (known_at _ _ c.in_ok-examine.ensures.0 c.geometry_of-q.ensures, key_some _ (sym c.if-not-is_key.ensures))
 
 pub returns-in_default : goal.returns-in_default
 returns-in_default c =
@@ -28,4 +28,4 @@ returns-in_default c =
 
 pub cancel_held-requires : goal.cancel_held-requires
 cancel_held-requires c =
-    (c.in_ok-examine.ensures.0, sym c.if-not-is_key.ensures, (sought_there _ _ _ c.order_of.ensures _ c.in-Some.is).0, c.geometry_of-q.ensures.0, c.geometry_of-q.ensures.1)
+    (c.in_ok-examine.ensures.0, sym c.if-not-is_key.ensures, (sought_there _ _ _ c.order_of.ensures _ c.in-Some.is).0, c.geometry_of-q.ensures)

@@ -8,13 +8,13 @@ pub field-held-requires : goal.field-held-requires
 field-held-requires c = ((image_asked _ c.requires.0 _ c.requires.3).long, omega arith)
 
 pub level_of-l-requires : goal.level_of-l-requires
-level_of-l-requires c = let a = image_asked _ c.requires.0 _ c.requires.3 in (a.seeds, a.gamma_some, c.requires.4.top_is)
+level_of-l-requires c = let a = image_asked _ c.requires.0 _ c.requires.3 in (a.seeds, a.gamma_some, c.args.q.top_is)
 
 pub lead-first-requires : goal.lead-first-requires
-lead-first-requires c = ((image_asked _ c.requires.0 _ c.requires.3).shaped, c.requires.4, key_some _ c.requires.1)
+lead-first-requires c = ((image_asked _ c.requires.0 _ c.requires.3).shaped, key_some _ c.requires.1)
 
 pub change_levels-requires : goal.change_levels-requires
-change_levels-requires c = let a = image_asked _ c.requires.0 _ c.requires.3 in (a.shaped, c.requires.4, a.nodes_least, omega arith)
+change_levels-requires c = let a = image_asked _ c.requires.0 _ c.requires.3 in (a.shaped, a.nodes_least, omega arith)
 
 pub overflow_sub-held : goal.overflow_sub-held
 overflow_sub-held c = held_some _ _ c.requires.0 c.requires.2 _ (held_told _ _ c.field-held.ensures)

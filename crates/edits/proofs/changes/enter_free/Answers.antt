@@ -5,24 +5,24 @@ use Rattle.edits.proofs.Laws.EnterAnswers.{enter_no_8, enter_done, enter_sum}
 use Rattle.edits.proofs.changes.enter_free.Goals as goal
 
 pub level_of-l-requires : goal.level_of-l-requires
-level_of-l-requires c = let a = image_asked _ c.requires.0.image _ c.requires.0.sizes_are in (a.seeds, a.gamma_some, c.requires.4.top_is)
+level_of-l-requires c = let a = image_asked _ c.requires.0.image _ c.requires.0.sizes_are in (a.seeds, a.gamma_some, c.args.q.top_is)
 
 pub lead-first-requires : goal.lead-first-requires
-lead-first-requires c = ((image_asked _ c.requires.0.image _ c.requires.0.sizes_are).shaped, c.requires.4, key_some _ c.requires.0.key)
+lead-first-requires c = ((image_asked _ c.requires.0.image _ c.requires.0.sizes_are).shaped, key_some _ c.requires.0.key)
 
 pub growth-more-requires : goal.growth-more-requires
-growth-more-requires c = let a = image_asked _ c.requires.0.image _ c.requires.0.sizes_are in (a.shaped, c.requires.4, a.nodes_least, omega arith)
+growth-more-requires c = let a = image_asked _ c.requires.0.image _ c.requires.0.sizes_are in (a.shaped, a.nodes_least, omega arith)
 
 pub overflow_add-full : goal.overflow_add-full
 overflow_add-full c =
-    enter_sum _ _ _ _ _ _ c.requires.3 c.requires.0.image c.requires.0.sizes_are c.growth-more.ensures.1 c.level_of-l.ensures.1 c.requires.4.top_most
+    enter_sum _ _ _ _ _ _ c.requires.3 c.requires.0.image c.requires.0.sizes_are c.growth-more.ensures.1 c.level_of-l.ensures.1 c.args.q.top_most
 
 pub returns-then-q-full : goal.returns-then-q-full
 returns-then-q-full c =
     enter_no_8 _ _ _ c.requires.0 c.requires.1 _ c.level_of-l.ensures.0 _ _ _ c.requires.3 c.lead-first.ensures c.growth-more.ensures.0 c.if-q-full.true
 
 pub change_levels-requires : goal.change_levels-requires
-change_levels-requires c = let a = image_asked _ c.requires.0.image _ c.requires.0.sizes_are in (a.shaped, c.requires.4, a.nodes_least, omega arith)
+change_levels-requires c = let a = image_asked _ c.requires.0.image _ c.requires.0.sizes_are in (a.shaped, a.nodes_least, omega arith)
 
 pub put2-requires : goal.put2-requires
 put2-requires c = let a = image_asked _ c.requires.0.image _ c.requires.0.sizes_are in omega (arith, a.long, c.change_levels.auto.table)

@@ -3,4 +3,4 @@ use Rattle.levels.proofs.Laws.Arriving.{lead_right}
 use Rattle.levels.proofs.growth.lead.Goals as goal
 
 pub returns : goal.returns
-returns c = lead_right _ _ _ _ _ c.requires.1.top_is c.requires.2 _ c.way_down.ensures.0
+returns c = lead_right _ _ _ _ _ c.args.q.top_is c.requires.1 _ c.way_down.ensures.0

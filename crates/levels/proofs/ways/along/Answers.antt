@@ -34,13 +34,13 @@ returns-then-ends_here c =
 
 pub behind-start-requires : goal.behind-start-requires
 behind-start-requires c =
-    along_behind _ _ _ _ c.args.t _ c.requires.0 _ _ _ _ c.loop-number.invariant c.loop-number-test.true _ c.find_past.ensures _ c.in-Some.is _ c.requires.2 (search laws)
+    along_behind _ _ _ _ c.args.t _ c.requires.0 _ _ _ _ c.loop-number.invariant c.loop-number-test.true _ c.find_past.ensures _ c.in-Some.is _ c.requires.1 (search laws)
 
 pub loop-number-preserved : goal.loop-number-preserved
 loop-number-preserved c =
     along_more _ _ _ _ c.args.t _ c.requires.0 _ _ _ _ c.loop-number.invariant c.loop-number-test.true _ c.find_past.ensures _ c.in-Some.is _
     c.reached-n.ensures.0 c.if-n-eq0.false _ _ c.tread-w.ensures.0 c.tread-w.ensures.1 c.tread-w.ensures.2 c.if-ends_here.false
-    c.requires.3 (search laws) _ c.behind-start.ensures.0 c.behind-start.ensures.1
+    c.requires.2 (search laws) _ c.behind-start.ensures.0 c.behind-start.ensures.1
 
 pub returns : goal.returns
 returns c =

@@ -12,7 +12,6 @@ pub along-t-requires : goal.along-t-requires
 along-t-requires c =
     let i = c.loop-under.invariant.1 in (
       search laws,
-      search laws,
       elim c.if-t-first.branch [ then-t-first w ↦ w.g-is ∙ w.hash-g-then-t-first.ensures.0 | else-t-first w ↦ w.g-is ∙ i ∙ ap (hash_from 5 5 _) (sym w.if-t-first.false) ],
       search laws,
       search laws,

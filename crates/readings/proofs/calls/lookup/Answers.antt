@@ -13,7 +13,7 @@ pub returns-then-not-is_key : goal.returns-then-not-is_key
 returns-then-not-is_key c = (look_5 _ _ c.in_ok-examine.ensures.0 (sym c.if-not-is_key.ensures), refl)
 
 pub order_of-requires : goal.order_of-requires
-order_of-requires c = (known_at _ _ c.in_ok-examine.ensures.0 c.geometry_of.ensures.0, c.geometry_of.ensures.1, key_least _ _ c.is_key.ensures c.if-not-is_key.false)
+order_of-requires c = (known_at _ _ c.in_ok-examine.ensures.0 c.geometry_of.ensures, key_least _ _ c.is_key.ensures c.if-not-is_key.false)
 
 pub returns-in_default : goal.returns-in_default
 returns-in_default c = (look_rest _ _ c.in_ok-examine.ensures.0 (sym c.if-not-is_key.ensures) _ (sym c.in_default.is ∙ c.order_of.ensures), refl)

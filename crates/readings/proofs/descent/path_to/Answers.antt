@@ -18,17 +18,16 @@ pub reckon-q-requires : goal.reckon-q-requires
 reckon-q-requires c = search (rules, ruled_gamma, ruled_blocks, ruled_base_most, ruled_orders)
 
 pub descend-t-requires : goal.descend-t-requires
-descend-t-requires c = (ruled_shaped _ _ c.rule_of.ensures c.if-not-rule_of.false _ (c.reckon-q.ensures.0 ∙ c.read-h.ensures.0), c.reckon-q.ensures.1)
+descend-t-requires c = ruled_shaped _ _ c.rule_of.ensures c.if-not-rule_of.false _ (c.reckon-q.ensures ∙ c.read-h.ensures.0)
 
 pub returns-then-path-t : goal.returns-then-path-t
 returns-then-path-t c =
     descent_11 _ _ _ _ c.rule_of.ensures c.if-not-rule_of.false _ c.is_key.ensures c.if-not-is_key.false
-    _ (c.reckon-q.ensures.0 ∙ c.read-h.ensures.0) c.reckon-q.ensures.1 _ _ _ c.descend-t.ensures.0 c.if-path-t.true
+    c.reckon-q.result (c.reckon-q.ensures ∙ c.read-h.ensures.0) _ _ _ c.descend-t.ensures.0 c.if-path-t.true
 
 pub write_path-requires : goal.write_path-requires
 write_path-requires c = (
-  ruled_shaped _ _ c.rule_of.ensures c.if-not-rule_of.false _ (c.reckon-q.ensures.0 ∙ c.read-h.ensures.0),
-  c.reckon-q.ensures.1,
+  ruled_shaped _ _ c.rule_of.ensures c.if-not-rule_of.false _ (c.reckon-q.ensures ∙ c.read-h.ensures.0),
   record { output = _; number = ap (λ (x : Trek). x.trail.count) c.descend-t.ensures.0; is = ap (λ (x : Trek). x.path) c.descend-t.ensures.0 },
   c.if-path-t.false,
 )
@@ -36,4 +35,4 @@ write_path-requires c = (
 pub returns : goal.returns
 returns c =
     descent_rest _ _ _ _ c.rule_of.ensures c.if-not-rule_of.false _ c.is_key.ensures c.if-not-is_key.false
-    _ (c.reckon-q.ensures.0 ∙ c.read-h.ensures.0) c.reckon-q.ensures.1 _ _ _ c.descend-t.ensures.0 c.if-path-t.false _ c.write_path.ensures _ c.order_at.ensures
+    c.reckon-q.result (c.reckon-q.ensures ∙ c.read-h.ensures.0) _ _ _ c.descend-t.ensures.0 c.if-path-t.false _ c.write_path.ensures _ c.order_at.ensures

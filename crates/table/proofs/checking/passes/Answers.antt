@@ -12,7 +12,7 @@ ruled : (c : Else-not-rule_of) → Walkable c.read-h.result.sizes c.args.table.n
 ruled c = ruled_walkable _ _ c.rule_of.ensures c.if-not-rule_of.false _ c.read-h.ensures.0
 
 reckoned : (c : After-reckon-q) → Walkable c.reckon-q.result.sizes c.args.table.now
-reckoned c = ruled_walkable _ _ c.rule_of.ensures c.if-not-rule_of.false _ (c.reckon-q.ensures.0 ∙ c.read-h.ensures.0)
+reckoned c = ruled_walkable _ _ c.rule_of.ensures c.if-not-rule_of.false _ (c.reckon-q.ensures ∙ c.read-h.ensures.0)
 
 pub returns-then-table-lt-LENGTH : goal.returns-then-table-lt-LENGTH
 returns-then-table-lt-LENGTH c = passes_short _ c.if-table-lt-LENGTH.true
@@ -31,7 +31,7 @@ sweep-requires c = (reckoned (goal.at.sweep-requires c).After-reckon-q).shaped
 pub returns-in_err-full : goal.returns-in_err-full
 returns-in_err-full c =
     subst (Passed c.args.table.now) (sym c.from_residual.ensures)
-    (passes_unclean _ _ c.rule_of.ensures c.if-not-rule_of.false _ (c.reckon-q.ensures.0 ∙ c.read-h.ensures.0) c.in_err-full.ensures)
+    (passes_unclean _ _ c.rule_of.ensures c.if-not-rule_of.false _ (c.reckon-q.ensures ∙ c.read-h.ensures.0) c.in_err-full.ensures)
 
 pub overflow_add-x : goal.overflow_add-x
 overflow_add-x c = ruled_held _ _ c.rule_of.ensures c.if-not-rule_of.false _ c.read-h.ensures.0 _ c.read-h.ensures.1
@@ -40,12 +40,12 @@ pub hash-requires : goal.hash-requires
 hash-requires c = ((reckoned (goal.at.hash-requires c).After-reckon-q).shaped.seeds, omega arith)
 
 pub walk_partition-requires : goal.walk_partition-requires
-walk_partition-requires c = (reckoned (goal.at.walk_partition-requires c).After-reckon-q, c.reckon-q.ensures.1, omega (arith, c.reckon-q.ensures.1.top_least), omega arith, c.hash.ensures.0)
+walk_partition-requires c = (reckoned (goal.at.walk_partition-requires c).After-reckon-q, omega (arith, c.reckon-q.result.top_least), omega arith, c.hash.ensures.0)
 
 -- what the walk gives is what the check asks for
 walked : (c : After-walk_partition) → check_passes c.args.table.now ≡ ended c.walk_partition.result
 walked c =
-    passes_walked _ _ c.rule_of.ensures c.if-not-rule_of.false _ (c.reckon-q.ensures.0 ∙ c.read-h.ensures.0) _ c.in_ok-full.ensures _ _ c.reckon-q.ensures.1.top_is c.read-h.ensures.1 _
+    passes_walked _ _ c.rule_of.ensures c.if-not-rule_of.false _ (c.reckon-q.ensures ∙ c.read-h.ensures.0) _ c.in_ok-full.ensures _ _ c.reckon-q.result.top_is c.read-h.ensures.1 _
     c.walk_partition.ensures
 
 pub returns-in_err-end : goal.returns-in_err-end
@@ -56,5 +56,5 @@ returns-in_err-end c =
 pub returns : goal.returns
 returns c =
     subst (Passed c.args.table.now) (sym c.then_some.ensures)
-    (passed_some _ _ (passes_counted _ _ c.rule_of.ensures c.if-not-rule_of.false _ (c.reckon-q.ensures.0 ∙ c.read-h.ensures.0) _ c.in_ok-full.ensures) _
+    (passed_some _ _ (passes_counted _ _ c.rule_of.ensures c.if-not-rule_of.false _ (c.reckon-q.ensures ∙ c.read-h.ensures.0) _ c.in_ok-full.ensures) _
     (walked (goal.at.returns c).After-walk_partition ∙ ap ended c.in_ok-end.was ∙ sym c.finished.ensures))

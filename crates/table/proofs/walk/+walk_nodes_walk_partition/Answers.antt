@@ -14,7 +14,7 @@ pub walk_nodes-returns-then-ends_at_once : goal.walk_nodes-returns-then-ends_at_
 walk_nodes-returns-then-ends_at_once t c =
     let p = c.requires in
     noding_ahead _ _ _ _ _ _ _ _ _ _ _ _ _ c.loop-behind.invariant.0 _ c.comes_by.ensures (omega (arith, c.if-behind-gt0.true)) _ c.row-w.ensures.0 c.if-not-comes_by.false _ c.be4-key.ensures
-    (opens_empty _ _ _ _ p.0.shaped (omega (arith, p.2)) _ (rw c.label-want.ensures at c.ends_at_once.ensures) c.if-ends_at_once.true)
+    (opens_empty _ _ _ _ p.0.shaped (omega (arith, p.1)) _ (rw c.label-want.ensures at c.ends_at_once.ensures) c.if-ends_at_once.true)
 
 pub walk_nodes-returns-in_err-seen : goal.walk_nodes-returns-in_err-seen
 walk_nodes-returns-in_err-seen t c =
@@ -41,7 +41,7 @@ entering t c =
     c.enters.ensures c.if-not-enters.false
 
 pub walk_partition-loop-number-init : goal.walk_partition-loop-number-init
-walk_partition-loop-number-init t c = chunking_start _ _ _ _ _ c.requires.2
+walk_partition-loop-number-init t c = chunking_start _ _ _ _ _ c.requires.1
 
 pub walk_partition-returns-in_default : goal.walk_partition-returns-in_default
 walk_partition-returns-in_default t c =
@@ -66,7 +66,7 @@ walk_partition-walk_nodes-requires t c =
     let e = c.enters.ensures in
     let h = c.if-not-enters.false in (
       omega (arith, c.decreases),
-      (p.0, p.1, omega (arith, c.if-level-eq1.false, p.2), p.3, enters_some _ _ _ _ e h, chunk_room _ _ p.0 _ _ _ e h _ c.offset-at.ensures.1),
+      (p.0, omega (arith, c.if-level-eq1.false, p.1), p.2, enters_some _ _ _ _ e h, chunk_room _ _ p.0 _ _ _ e h _ c.offset-at.ensures.1),
     )
 
 pub walk_partition-returns-in_err-seen : goal.walk_partition-returns-in_err-seen

@@ -76,7 +76,7 @@ behind-start-requires c =
     let p = c.requires in
     let s = p.0.shaped in
     let i = chunk_below _ _ _ _ _ _ _ c.in-Some.is (found (goal.at.behind-start-requires c).After-find_from) s in
-    rw c.label-next.ensures (i, p.3, search laws, omega arith, omega (arith, c.loop-number-test.true, s.most))
+    rw c.label-next.ensures (i, p.1, search laws, omega arith, omega (arith, c.loop-number-test.true, s.most))
 
 pub loop-number-preserved : goal.loop-number-preserved
 loop-number-preserved c = (
