@@ -102,13 +102,14 @@ pub fn fill(s: &mut [u8], at: usize, n: usize)
     s[at..at + n].fill(0);
 }
 
-// A copy of n bytes to a place before them or past them.
-#[tactic(auto, using(crate::proofs::Laws::Parts::part_copied))]
+// A copy of n bytes, from the front on, to a place before them or past them. `copy_within` would make the archive take memmove from elsewhere.
 pub fn copy(s: &mut [u8], from: usize, to: usize, n: usize)
     requires { (from + n ≤ length s.old) × (to + n ≤ length s.old) × Forward from to n }
     ensures { s.new ≡ sets s.old to (take n (drop from s.old)) }
 {
-    s.copy_within(from..from + n, to);
+    for k in 0..n {
+        s[to + k] = s[from + k];
+    }
 }
 
 // A part of n bytes and one that lies past it change places.
