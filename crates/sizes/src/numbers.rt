@@ -102,7 +102,8 @@ pub fn fill(s: &mut [u8], at: usize, n: usize)
     s[at..at + n].fill(0);
 }
 
-// A copy of n bytes, from the front on, to a place before them or past them. `copy_within` would make the archive take memmove from elsewhere.
+// A copy of n bytes, from the front on, to a place before them or past them. The library's methods for this and for `bring` would make the archive take memmove
+// from elsewhere.
 pub fn copy(s: &mut [u8], from: usize, to: usize, n: usize)
     requires { (from + n ≤ length s.old) × (to + n ≤ length s.old) × Forward from to n }
     ensures { s.new ≡ sets s.old to (take n (drop from s.old)) }
@@ -134,10 +135,11 @@ pub fn exchange(s: &mut [u8], a: usize, b: usize, n: usize)
 }
 
 // Bytes of another list, over n bytes from a place on.
-#[tactic(auto, using(crate::proofs::Laws::Parts::part_brought))]
 pub fn bring(s: &mut [u8], at: usize, from: &[u8], start: usize, n: usize)
     requires { (at + n ≤ length s.old) × (start + n ≤ length from.now) }
     ensures { s.new ≡ sets s.old at (take n (drop start from.now)) }
 {
-    s[at..at + n].copy_from_slice(&from[start..start + n]);
+    for k in 0..n {
+        s[at + k] = from[start + k];
+    }
 }

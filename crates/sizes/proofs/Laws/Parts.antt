@@ -108,6 +108,11 @@ copied l from to n s k ap i h =
     written_more l to (take n (drop from l)) n s k i h (get_or s (from + k) 0)
     (written_out l to (take n (drop from l)) n s k i (from + k) (⊎_elim (λ b. inl (omega arith)) (λ b. inr (omega arith)) ap) ∙ sym (get_d_part n from l k h))
 
+-- as `bring` asks
+pub brought : (l from : List ℕ) (at start n : ℕ) (s : List ℕ) (k : ℕ) → Written l at (take n (drop start from)) n s k → k < n
+    → Written l at (take n (drop start from)) n (set s (at + k) (get_or from (start + k) 0)) (k + 1)
+brought l from at start n s k i h = written_more l at (take n (drop start from)) n s k i h (get_or from (start + k) 0) (sym (get_d_part n start from k h))
+
 -- WHAT THE LIBRARY'S METHODS LEAVE of a list is a part written over it. They take a part by where it ends
 pub part_of : {A : Type 0} (a n : ℕ) (l : List A) → take (a + n - a) (drop a l) ≡ take n (drop a l)
 part_of a n l =
@@ -119,9 +124,6 @@ module _ {A : Type 0} (l : List A) (a n : ℕ) (vs : List A) (h : a + n ≤ leng
   part_written ys f =
       let g : a + length vs ≤ length l = omega arith in
       put_mid-paste a (a + n - a) l ys vs n f (omega arith) (sym e) ∙ rw (sets-eq vs l a g, e, take_all n vs (omega arith))
-
-pub part_brought : (l from ys : List ℕ) (a b n : ℕ) → a + n ≤ length l → b + n ≤ length from → ys ≡ take (b + n - b) (drop b from) → put_mid a (a + n - a) l ys ≡ sets l a (take n (drop b from))
-part_brought l from ys a b n h k e = part_written l a n (take n (drop b from)) h (length_part n b from k) ys (e ∙ part_of b n from)
 
 -- as the functions on blocks ask: their parts lie at 53 and as many blocks
 pub forward_at : (i j w n a b : ℕ) → a ≡ 53 + i * w → b ≡ 53 + j * w → n ≡ w → Forward a b n
