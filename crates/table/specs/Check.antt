@@ -1,5 +1,6 @@
 -- The check as it is computed: rule 1, one pass over the blocks, and the walk.
 use Rattle.std.specs.Prelude.{◌≡◌, Bool, true, false, ◌&&◌, cond, List, ℕ, zero, suc, ◌+◌, ◌*◌, ◌-◌, ◌/◌, ◌≤◌, ◌<◌, eqb, length, get_or, Option, Some, None, option_and_then, MatchOption, Result, Ok, Err}
+use Rattle.std.specs.Result.{result_ok}
 use Rattle.sizes.specs.Sizes.{beta, row}
 use Rattle.sizes.specs.Header.{block_long, sizes_in, held_in, rule_1}
 use Rattle.sizes.specs.declared.Sizes.{Sizes}
@@ -42,12 +43,12 @@ unused k w bs i = used_of k (get_or bs (53 + i * w) 0) (get_or bs (53 + i * w + 
 unfoldable pub block_clean : (row w : ℕ) → List ℕ → (i : ℕ) → Bool
 block_clean k w bs i = zeros_from bs (w - unused k w bs i) (53 + i * w + unused k w bs i)
 
--- how many blocks are full, where all unused bytes are zero
-unfoldable pub sweep_from : (row w : ℕ) → List ℕ → (left i full : ℕ) → Option ℕ
-sweep_from k w bs zero i m = Some m
-sweep_from k w bs (suc j) i m = cond (block_clean k w bs i) (sweep_from k w bs j (suc i) (more_of m (get_or bs (53 + i * w) 0))) None
+-- how many blocks are full, where all unused bytes are zero; else, as Err, how many before the first block with one that is not
+unfoldable pub sweep_from : (row w : ℕ) → List ℕ → (left i full : ℕ) → Result ℕ ℕ
+sweep_from k w bs zero i m = Ok m
+sweep_from k w bs (suc j) i m = cond (block_clean k w bs i) (sweep_from k w bs j (suc i) (more_of m (get_or bs (53 + i * w) 0))) (Err m)
 
-unfoldable pub swept : Sizes → List ℕ → Option ℕ
+unfoldable pub swept : Sizes → List ℕ → Result ℕ ℕ
 swept s bs = sweep_from (row s) (block_long s) bs s.blocks 0 0
 
 -- THE WALK from (β, front): n orders and the front are to come, and so many chunks
@@ -61,13 +62,13 @@ ended None = false
 
 -- THE CHECK
 unfoldable pub check_passes : List ℕ → Bool
-check_passes bs = rule_1 bs && ended (option_and_then (walked (sizes_in bs) bs (held_in bs)) (swept (sizes_in bs) bs))
+check_passes bs = rule_1 bs && ended (option_and_then (walked (sizes_in bs) bs (held_in bs)) (result_ok (swept (sizes_in bs) bs)))
 
 -- what it gives: whether the bytes pass, and where they do the number of full blocks that the pass counted
 abbrev pub Passed : List ℕ → Option ℕ → Type 0
-Passed bs r = MatchOption r (check_passes bs ≡ false) (λ n. (check_passes bs ≡ true) × (swept (sizes_in bs) bs ≡ Some n))
+Passed bs r = MatchOption r (check_passes bs ≡ false) (λ n. (check_passes bs ≡ true) × (swept (sizes_in bs) bs ≡ Ok n))
 
 -- .. and bytes that pass are an image, of so many chunks; others are turned down by 4
 abbrev pub Examined : List ℕ → Result ℕ Refusal → Type 0
-Examined bs (Ok n) = (is_image bs ≡ true) × (swept (sizes_in bs) bs ≡ Some n)
+Examined bs (Ok n) = (is_image bs ≡ true) × (swept (sizes_in bs) bs ≡ Ok n)
 Examined bs (Err e) = (is_image bs ≡ false) × (e ≡ NoImage)

@@ -22,13 +22,13 @@ fn passes(table: &[u8]) -> Option<u32>
         return None;
     }
     let q = reckon(h.sizes);
-    let full = sweep(table, q.sizes)?;
+    let full = sweep(table, q.sizes).ok()?;
     let x = Seen {
         low: 0,
         orders: h.held + 1,
         chunks: full,
     };
-    let end = walk_partition(table, q, q.top, 0, hash(q.sizes, 5, 0), x)?;
+    let end = walk_partition(table, q, q.top, 0, hash(q.sizes, 5, 0), Some(x));
     finished(end).then_some(full)
 }
 

@@ -1,5 +1,5 @@
 // One pass over the blocks, and the whole check.
-ghost use Rattle.std.specs.Prelude.{◌≡◌, Some, ◌+◌, ◌-◌, ◌<◌, ◌≤◌, eqb, length};
+ghost use Rattle.std.specs.Prelude.{◌≡◌, ◌+◌, ◌-◌, ◌<◌, ◌≤◌, eqb, length};
 ghost use Rattle.placement.specs.Place.{Shaped};
 ghost use Rattle.table.specs.Check.{longest, Words, Mask, zeros_from, used_of, more_of, swept, ended};
 
@@ -72,8 +72,8 @@ fn zeros(table: &[u8], at: usize, long: usize, used: usize, mask: &[u32]) -> boo
     any == 0
 }
 
-// How many blocks are not empty, where all unused bytes are zero.
-pub fn sweep(table: &[u8], s: Sizes) -> Option<u32>
+// How many blocks are not empty, where all unused bytes are zero; else, as Err, how many before the first block with one that is not.
+pub fn sweep(table: &[u8], s: Sizes) -> Result<u32, u32>
     requires { Shaped s table.now }
     ensures { result ≡ swept s table.now }
 {
@@ -86,17 +86,17 @@ pub fn sweep(table: &[u8], s: Sizes) -> Option<u32>
         let level = u32::from(table[at]);
         let n = u32::from(table[at + 1]);
         if !zeros(table, at, long, used(w, level, n), &looked) {
-            return None;
+            return Err(full);
         }
         full = more(full, level);
     }
-    Some(full)
+    Ok(full)
 }
 
-// The walk has come to its end, with every order and every chunk seen.
+// The walk has come to its end, with every order and every chunk seen; one that has ended wrong has not.
 #[tactic(auto, unfolding(crate::specs::Check::ended))]
-pub fn finished(x: Seen) -> bool
-    ensures { result ≡ ended (Some x) }
+pub fn finished(x: Option<Seen>) -> bool
+    ensures { result ≡ ended x }
 {
-    x.orders == 0 && x.chunks == 0
+    x.is_some_and(|seen| seen.orders == 0 && seen.chunks == 0)
 }

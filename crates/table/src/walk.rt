@@ -1,5 +1,5 @@
 // The walk of a check: a partition opens its nodes, and each node opens its partition one level down.
-ghost use Rattle.std.specs.Prelude.{◌≡◌, true, ◌+◌, ◌*◌, ◌-◌, ◌<◌, ◌≤◌, length};
+ghost use Rattle.std.specs.Prelude.{◌≡◌, true, ◌+◌, ◌*◌, ◌-◌, ◌<◌, ◌≤◌, length, option_and_then};
 ghost use Rattle.sizes.specs.Sizes.{row, seed_good};
 ghost use Rattle.sizes.specs.Hash.{hash_from};
 ghost use Rattle.placement.specs.Labels.{label};
@@ -189,7 +189,7 @@ fn walk_lowest(table: &[u8], q: Geometry, first: u32, g: u32, x: Seen) -> Option
     }
 }
 
-// A partition: its chunks, one after the other, a next one only behind a full one. `g` is the hash g of its first key.
+// A partition: its chunks, one after the other, a next one only behind a full one. `g` is the hash g of its first key. A walk that has ended wrong stays so.
 #[cycle(walk_nodes_walk_partition)]
 pub fn walk_partition(
     table: &[u8],
@@ -197,11 +197,12 @@ pub fn walk_partition(
     level: u32,
     first: u32,
     g: u32,
-    x: Seen,
+    x: Option<Seen>,
 ) -> Option<Seen>
     requires { Walkable q.sizes table.now × (1 ≤ level) × (level ≤ q.top) × (g ≡ hash_from 5 5 q.sizes.seed first) }
-    ensures { result ≡ opens_of q.sizes table.now level first x }
+    ensures { result ≡ option_and_then (opens_of q.sizes table.now level first) x }
 {
+    let x = x?;
     if level == 1 {
         return walk_lowest(table, q, first, g, x);
     }
@@ -217,7 +218,8 @@ pub fn walk_partition(
             return None;
         }
         let opens = number == 0;
-        seen = walk_nodes(table, q, level, first, opens, at + 8, n, entered(seen))?;
+        let inside = Some(entered(seen));
+        seen = walk_nodes(table, q, level, first, opens, at + 8, n, inside)?;
         if n < q.sizes.nodes {
             return Some(seen);
         }
@@ -236,13 +238,13 @@ pub fn walk_nodes(
     opens: bool,
     at: usize,
     left: u32,
-    x: Seen,
+    x: Option<Seen>,
 ) -> Option<Seen>
     requires { Walkable q.sizes table.now × (2 ≤ level) × (level ≤ q.top) × (1 ≤ left) × (at + row q.sizes * left ≤ length table.now) }
-    ensures { result ≡ nodes_by (opens_of q.sizes table.now (level - 1)) q.sizes table.now level first left at opens x }
+    ensures { result ≡ option_and_then (nodes_by (opens_of q.sizes table.now (level - 1)) q.sizes table.now level first left at opens) x }
 {
     let w = row(q.sizes);
-    let mut seen = x;
+    let mut seen = x?;
     let mut opens = opens;
     let mut place = at;
     let mut g = hash(q.sizes, 5, be4(table, at));
@@ -259,7 +261,7 @@ pub fn walk_nodes(
                 return None;
             }
         }
-        seen = walk_partition(table, q, level - 1, be4(table, place), g, seen)?;
+        seen = walk_partition(table, q, level - 1, be4(table, place), g, Some(seen))?;
         g = next;
         opens = false;
         place += w;

@@ -1,5 +1,5 @@
 -- The number of full blocks that a pass over an image counts is that of its chunks.
-use Rattle.std.proofs.Common.{Some}
+use Rattle.std.proofs.Common.{Ok}
 use mathlib.Core.Path.{◌≡◌, sym, ap, ◌∙◌}
 use mathlib.Core.Bool.{true}
 use mathlib.Core.List.{List}
@@ -18,7 +18,7 @@ use Rattle.table.specs.Check.{swept}
 use Rattle.table.proofs.Laws.Swept.{swept_count}
 use Rattle.readings.proofs.Laws.Answers.{known_at}
 
-pub swept_full : (bs : List ℕ) (s : Sizes) (n : ℕ) → swept (sizes_in bs) bs ≡ Some n → s ≡ sizes_in bs → is_image bs ≡ true → n ≡ length (chunks s (orders_in bs))
+pub swept_full : (bs : List ℕ) (s : Sizes) (n : ℕ) → swept (sizes_in bs) bs ≡ Ok n → s ≡ sizes_in bs → is_image bs ≡ true → n ≡ length (chunks s (orders_in bs))
 swept_full bs s n e q i =
     let w = known_at bs s i q in
     let t = image_keeps s (orders_in bs) w.sizes_made w.good w.fit in

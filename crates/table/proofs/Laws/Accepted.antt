@@ -1,5 +1,6 @@
 -- Bytes that the check accepts: rule 1, the orders that they hold, and the partitions that were read.
-use Rattle.std.proofs.Common.{Option, Some, None, option_and_then}
+use Rattle.std.proofs.Common.{Option, Some, None, option_and_then, Result, Ok, Err}
+use Rattle.std.specs.Result.{result_ok}
 use mathlib.Core.Path.{◌≡◌, refl, ap, ◌∙◌, subst}
 use mathlib.Core.Bool.{true, ◌&&◌, false≢true}
 use mathlib.Core.List.{List, [], ◌∷◌}
@@ -91,7 +92,7 @@ front_is s o e w =
 pub record Accepted (bs : List ℕ) : Type 0 where
   pub rule : Ruled bs
   pub full : ℕ
-  pub clean : swept (sizes_in bs) bs ≡ Some full
+  pub clean : swept (sizes_in bs) bs ≡ Ok full
   pub orders : List Order
   pub walk : Walks (sizes_in bs) (part_sound (sizes_in bs) bs) (beta (sizes_in bs)) front (front ∷ orders)
   pub good : orders_good (sizes_in bs) 1 orders ≡ true
@@ -102,7 +103,7 @@ pub record Accepted (bs : List ℕ) : Type 0 where
 record Passed (bs : List ℕ) : Type 0 where
   pub rule : rule_1 bs ≡ true
   pub full : ℕ
-  pub clean : swept (sizes_in bs) bs ≡ Some full
+  pub clean : swept (sizes_in bs) bs ≡ Ok full
   pub end : Seen
   pub walk : walked (sizes_in bs) bs (held_in bs) full ≡ Some end
   pub orders : end.orders ≡ 0
@@ -110,17 +111,17 @@ record Passed (bs : List ℕ) : Type 0 where
 
 passed : (bs : List ℕ) → check_passes bs ≡ true → Passed bs
 unfolding check_passes ended
-passed bs e = let p = and_parts (rule_1 bs) (ended (option_and_then (walked (sizes_in bs) bs (held_in bs)) (swept (sizes_in bs) bs))) e in swept_some p.0 (swept (sizes_in bs) bs) refl p.1
+passed bs e = let p = and_parts (rule_1 bs) (ended (option_and_then (walked (sizes_in bs) bs (held_in bs)) (result_ok (swept (sizes_in bs) bs)))) e in swept_all p.0 (swept (sizes_in bs) bs) refl p.1
   where
-    seen_all : rule_1 bs ≡ true → (m : ℕ) → swept (sizes_in bs) bs ≡ Some m → (r : Option Seen) → walked (sizes_in bs) bs (held_in bs) m ≡ r → ended r ≡ true → Passed bs
+    seen_all : rule_1 bs ≡ true → (m : ℕ) → swept (sizes_in bs) bs ≡ Ok m → (r : Option Seen) → walked (sizes_in bs) bs (held_in bs) m ≡ r → ended r ≡ true → Passed bs
     seen_all u m c None w q = absurd (false≢true q)
     seen_all u m c (Some z) w q =
         let v = and_parts (eqb z.orders 0) (eqb z.chunks 0) q in
         record { rule = u; full = m; clean = c; end = z; walk = w; orders = eqb-true z.orders 0 v.0; chunks = eqb-true z.chunks 0 v.1 }
 
-    swept_some : rule_1 bs ≡ true → (r : Option ℕ) → swept (sizes_in bs) bs ≡ r → ended (option_and_then (walked (sizes_in bs) bs (held_in bs)) r) ≡ true → Passed bs
-    swept_some u None c q = absurd (false≢true q)
-    swept_some u (Some m) c q = seen_all u m c (walked (sizes_in bs) bs (held_in bs) m) refl q
+    swept_all : rule_1 bs ≡ true → (r : Result ℕ ℕ) → swept (sizes_in bs) bs ≡ r → ended (option_and_then (walked (sizes_in bs) bs (held_in bs)) (result_ok r)) ≡ true → Passed bs
+    swept_all u (Err m) c q = absurd (false≢true q)
+    swept_all u (Ok m) c q = seen_all u m c (walked (sizes_in bs) bs (held_in bs) m) refl q
 
 weighed_top : (s : Sizes) (b : ℕ) → 2 ≤ b → Weighed s b front
 weighed_top s zero h = absurd (omega arith)

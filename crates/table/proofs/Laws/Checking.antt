@@ -1,11 +1,13 @@
 -- The whole check: what rule 1 gives the pass and the walk, and what the three say together.
-use Rattle.std.proofs.Common.{Option, Some, None}
+use Rattle.std.proofs.Common.{Option, Some, None, Result, Ok, Err}
 use Rattle.std.specs.Bool.{then_some}
+use Rattle.std.specs.Result.{result_ok}
 use mathlib.Core.Path.{◌≡◌, refl, ap, sym, ◌∙◌, subst}
 use mathlib.Core.Bool.{Bool, true, false, and-false}
 use mathlib.Core.List.{List}
 use Prim.Native.Nat.{ℕ, ◌+◌, ◌<◌, ◌≤◌}
 use native.Mathlib.Omega.{arith}
+use Rattle.std.proofs.lemmas.Option.{none-some, same_Some}
 use mir.Val.{Fits}
 use mir.Syntax.{w32}
 use lib.ListN.{length}
@@ -30,6 +32,11 @@ walkable : (s : Sizes) (bs : List ℕ) → made s ≡ true → length bs ≡ tab
 walkable s bs m e =
     let l = limits s m in
     record { shaped = made_shaped s bs m e; base = l.gamma_least; base_most = l.gamma_most; orders_most = l.orders_most }
+
+-- a pass that gives a count is clean
+counted : (r : Result ℕ ℕ) (n : ℕ) → Some n ≡ result_ok r → r ≡ Ok n
+counted (Ok m) n e = ap Ok (sym (same_Some n m e))
+counted (Err m) n e = absurd (none-some n (sym e))
 
 -- what follows from the header
 module _ (bs : List ℕ) (t : Bool) (et : t ≡ rule_1 bs) where
@@ -65,27 +72,29 @@ module _ (bs : List ℕ) (t : Bool) (et : t ≡ rule_1 bs) where
           let r = ruled bs (sym et ∙ e) in
           record { fits = omega (arith, r.held, (limits (sizes_in bs) r.makes).orders_most) }
 
-      pub passes_unclean : None ≡ swept s bs → check_passes bs ≡ false
-      unfolding check_passes ended
-      passes_unclean q =
-          let z : swept (sizes_in bs) bs ≡ None = sym (q ∙ ap (λ (z : Sizes). swept z bs) es) in
-          rw (z, and-false)
+      module _ (r : Result ℕ ℕ) (er : r ≡ swept s bs) where
+        same : swept (sizes_in bs) bs ≡ r
+        same = sym (er ∙ ap (λ (z : Sizes). swept z bs) es)
 
-      module _ (n : ℕ) (en : Some n ≡ swept s bs) where
-        pub passes_counted : swept (sizes_in bs) bs ≡ Some n
-        passes_counted = sym (en ∙ ap (λ (z : Sizes). swept z bs) es)
+        pub passes_unclean : None ≡ result_ok r → check_passes bs ≡ false
+        unfolding check_passes ended
+        passes_unclean q = rw (same, ← q, and-false)
 
-        pub passes_walked : (top held : ℕ) → top ≡ beta s → held ≡ held_in bs → (x : Option Seen) → x ≡ opens_of s bs top 0 (record { low = 0; orders = held + 1; chunks = n })
-            → check_passes bs ≡ ended x
-        unfolding check_passes walked
-        passes_walked top held et' eh x ex =
-            let g : top ≡ beta (sizes_in bs) = et' ∙ ap beta es in
-            let w : x ≡ opens_of (sizes_in bs) bs (beta (sizes_in bs)) 0 (record { low = 0; orders = held_in bs + 1; chunks = n })
-            = ex ∙ (λ i. opens_of (es i) bs (g i) 0 (record { low = 0; orders = eh i + 1; chunks = n })) in
-            rw (← et, e, passes_counted) (ap ended (sym w))
+        module _ (n : ℕ) (en : Some n ≡ result_ok r) where
+          pub passes_counted : swept (sizes_in bs) bs ≡ Ok n
+          passes_counted = same ∙ counted r n en
+
+          pub passes_walked : (top held : ℕ) → top ≡ beta s → held ≡ held_in bs → (x : Option Seen) → x ≡ opens_of s bs top 0 (record { low = 0; orders = held + 1; chunks = n })
+              → check_passes bs ≡ ended x
+          unfolding check_passes walked
+          passes_walked top held et' eh x ex =
+              let g : top ≡ beta (sizes_in bs) = et' ∙ ap beta es in
+              let w : x ≡ opens_of (sizes_in bs) bs (beta (sizes_in bs)) 0 (record { low = 0; orders = held_in bs + 1; chunks = n })
+              = ex ∙ (λ i. opens_of (es i) bs (g i) 0 (record { low = 0; orders = eh i + 1; chunks = n })) in
+              rw (← et, e, passes_counted) (ap ended (sym w))
 
 -- the count of full blocks, where the walk comes to its end
-pub passed_some : (bs : List ℕ) (n : ℕ) → swept (sizes_in bs) bs ≡ Some n → (t : Bool) → check_passes bs ≡ t → Passed bs (then_some t n)
+pub passed_some : (bs : List ℕ) (n : ℕ) → swept (sizes_in bs) bs ≡ Ok n → (t : Bool) → check_passes bs ≡ t → Passed bs (then_some t n)
 passed_some bs n e true q = (q, e)
 passed_some bs n e false q = q
 

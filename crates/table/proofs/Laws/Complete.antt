@@ -1,5 +1,5 @@
 -- COMPLETE: an image passes the check.
-use Rattle.std.proofs.Common.{Option, Some, None}
+use Rattle.std.proofs.Common.{Option, Some, None, Ok}
 use mathlib.Core.Path.{◌≡◌, refl, ap, ◌∙◌, subst}
 use mathlib.Core.Bool.{true, false, ◌&&◌}
 use mathlib.Core.List.{List, [], ◌∷◌, ◌++◌, map}
@@ -148,12 +148,12 @@ module _ (s : Sizes) (os : List Order) (m : made s ≡ true) (g : orders_good s 
       rw (block_bytes_at s (some_blocks s m) (header s (length os)) head (blocks s os) all keeps.long i h)
       (bytes_clean s (get_or (blocks s os) i empty) (good_at s all i) (λ c e. keeps.map.full c (record { at = i; is = around_inside s.blocks (blocks s os) i h ∙ e })))
 
-  swept_image : swept s (image s os) ≡ Some (length (chunks s os))
+  swept_image : swept s (image s os) ≡ Ok (length (chunks s os))
   unfolding image
   swept_image =
       let l = (shaped s (map_of (chunks s os)) (length (chunks s os)) (header s (length os)) (image s os) (image_keeps s os m g f)).long in
       let c = cleaned s (image s os) (λ i h. block_cleaned s (image s os) i l h (image_clean i h)) in
-      c.1 ∙ ap Some (swept_count s (image s os) c.0 c.1 ∙ ap how_many (blocks_back s (header s (length os)) (blocks s os) head keeps.long all) ∙ keeps.count)
+      c.1 ∙ ap Ok (swept_count s (image s os) c.0 c.1 ∙ ap how_many (blocks_back s (header s (length os)) (blocks s os) head keeps.long all) ∙ keeps.count)
 
   held_back : held_in (image s os) ≡ length os
   unfolding held_in image header big field

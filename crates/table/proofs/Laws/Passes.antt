@@ -1,5 +1,5 @@
 -- Laws of the pass over the blocks, and of its end.
-use Rattle.std.proofs.Common.{Some, None}
+use Rattle.std.proofs.Common.{Ok, Err}
 use mathlib.Core.Path.{◌≡◌, refl, ap, sym, ◌∙◌}
 use mathlib.Core.Bool.{Bool, true, false, ◌&&◌, cond, and-true, and_assoc}
 use mathlib.Core.List.{List, ◌++◌}
@@ -162,20 +162,20 @@ module _ (s : Sizes) (k w m : ℕ) (bs : List ℕ) where
   sweeping_start ek e f = record { within = omega arith; few = omega arith; rest = rw (sub-zero, ek, e, f) }
 
   module _ (i full : ℕ) (h : Sweeping s k w m bs i full) where
-    pub sweeping_end : m ≤ i → Some full ≡ swept s bs
+    pub sweeping_end : m ≤ i → Ok full ≡ swept s bs
     unfolding sweep_from
     sweeping_end le =
         let e : m - i ≡ 0 = omega arith in
         sym (h.rest ∙ rw e)
 
     module _ (lt : i < m) (at l u : ℕ) (b : Blocked k w bs i at l u) (t : Bool) (et : t ≡ zeros_from bs (w - u) (at + u)) where
-      sweeping_turn : swept s bs ≡ cond t (sweep_from k w bs (m - (i + 1)) (i + 1) (more_of full l)) None
+      sweeping_turn : swept s bs ≡ cond t (sweep_from k w bs (m - (i + 1)) (i + 1) (more_of full l)) (Err full)
       unfolding sweep_from
       sweeping_turn =
           let e : m - i ≡ suc (m - (i + 1)) = omega arith in
           h.rest ∙ rw (e, b.clean_is, ← et, add-one, b.level_is)
 
-      pub sweeping_stop : t ≡ false → None ≡ swept s bs
+      pub sweeping_stop : t ≡ false → Err full ≡ swept s bs
       sweeping_stop q = sym (sweeping_turn ∙ rw q)
 
       pub sweeping_more : t ≡ true → (n : ℕ) → n ≡ more_of full l → n ≤ full + 1 → Sweeping s k w m bs (i + 1) n

@@ -1,12 +1,11 @@
 -- The pass over the blocks: it counts the full ones, and where it is clean the unused bytes are zero.
-use Rattle.std.proofs.Common.{Some, None}
+use Rattle.std.proofs.Common.{Ok, Err, is_ok}
 use mathlib.Core.Path.{◌≡◌, refl, sym, ap, ◌∙◌, subst}
-use mathlib.Core.Bool.{Bool, true, false, cond}
+use mathlib.Core.Bool.{Bool, true, false, cond, false≢true}
 use mathlib.Core.List.{List, ◌∷◌, map}
 use Prim.Native.Nat.{ℕ, zero, suc, ◌+◌, ◌*◌, ◌-◌, ◌≤◌, ◌<◌}
 use native.Mathlib.Nat.{zero-add, suc-mul, add-zero, zero-mul}
 use native.Mathlib.Omega.{arith}
-use Rattle.std.proofs.lemmas.Option.{none-some}
 use borrow.Author.Tests.{eq-eqb, ne_eqb, eqb-true, eqb-false}
 use lib.Dec.{eqb}
 use lib.ListN.{length, get_or, take, drop, replicate}
@@ -47,7 +46,7 @@ module _ (r w : ℕ) (bs : List ℕ) (pos : 0 < w) where
       let e : 53 + i * w + w ≡ 53 + suc i * w = omega (arith, suc-mul i w) in
       drop-drop w (53 + i * w) bs ∙ ap (λ (k : ℕ). drop k bs) e
 
-  count_from : (k i m n : ℕ) → sweep_from r w bs k i m ≡ Some n → n ≡ how_many (map (block_of r) (cut w k (drop (53 + i * w) bs))) + m
+  count_from : (k i m n : ℕ) → sweep_from r w bs k i m ≡ Ok n → n ≡ how_many (map (block_of r) (cut w k (drop (53 + i * w) bs))) + m
   unfolding sweep_from rows_in how_many block_of
   count_from zero i m n e =
       let f : m ≡ n = cc in
@@ -70,24 +69,24 @@ module _ (r w : ℕ) (bs : List ℕ) (pos : 0 < w) where
       one : how_many bl + more_of m l ≡ how_many (cond (eqb (get_or x 0 0) 0) empty (holds (chunk_of r x)) ∷ bl) + m
       one = one_more m (chunk_of r x) bl l ∙ ap (λ (z : ℕ). how_many (cond (eqb z 0) empty (holds (chunk_of r x)) ∷ bl) + m) (sym (level_byte w bs i pos))
 
-      go : (sweep_from r w bs k (suc i) (more_of m l) ≡ Some n → n ≡ how_many (map (block_of r) (cut w k (drop (53 + suc i * w) bs))) + more_of m l) → (t : Bool) →
-          cond t (sweep_from r w bs k (suc i) (more_of m l)) None ≡ Some n → n ≡ how_many (cond (eqb (get_or x 0 0) 0) empty (holds (chunk_of r x)) ∷ bl) + m
+      go : (sweep_from r w bs k (suc i) (more_of m l) ≡ Ok n → n ≡ how_many (map (block_of r) (cut w k (drop (53 + suc i * w) bs))) + more_of m l) → (t : Bool) →
+          cond t (sweep_from r w bs k (suc i) (more_of m l)) (Err m) ≡ Ok n → n ≡ how_many (cond (eqb (get_or x 0 0) 0) empty (holds (chunk_of r x)) ∷ bl) + m
       go ih true h = ih h ∙ ap (λ (z : ℕ). z + more_of m l) same ∙ one
-      go ih false h = absurd (none-some n h)
+      go ih false h = absurd (false≢true (ap is_ok h))
 
   -- each block is clean
-  clean_from : (k i m n : ℕ) → sweep_from r w bs k i m ≡ Some n → (j : ℕ) → j < k → block_clean r w bs (i + j) ≡ true
+  clean_from : (k i m n : ℕ) → sweep_from r w bs k i m ≡ Ok n → (j : ℕ) → j < k → block_clean r w bs (i + j) ≡ true
   unfolding sweep_from
   clean_from zero i m n e j h = absurd (omega arith)
   clean_from (suc k) i m n e j h = go (clean_from k (suc i) (more_of m (get_or bs (53 + i * w) 0)) n) (block_clean r w bs i) refl e j h
     where
-      go : (sweep_from r w bs k (suc i) (more_of m (get_or bs (53 + i * w) 0)) ≡ Some n → (j : ℕ) → j < k → block_clean r w bs (suc i + j) ≡ true) → (t : Bool) → block_clean r w bs i ≡ t →
-          cond t (sweep_from r w bs k (suc i) (more_of m (get_or bs (53 + i * w) 0))) None ≡ Some n → (j : ℕ) → j < suc k → block_clean r w bs (i + j) ≡ true
+      go : (sweep_from r w bs k (suc i) (more_of m (get_or bs (53 + i * w) 0)) ≡ Ok n → (j : ℕ) → j < k → block_clean r w bs (suc i + j) ≡ true) → (t : Bool) → block_clean r w bs i ≡ t →
+          cond t (sweep_from r w bs k (suc i) (more_of m (get_or bs (53 + i * w) 0))) (Err m) ≡ Ok n → (j : ℕ) → j < suc k → block_clean r w bs (i + j) ≡ true
       go ih true q e zero h = rw (add-zero i) q
       go ih true q e (suc j) h =
           let z : suc i + j ≡ i + suc j = omega arith in
           subst (λ (n : ℕ). block_clean r w bs n ≡ true) z (ih e j (omega arith))
-      go ih false q e j h = absurd (none-some n e)
+      go ih false q e j h = absurd (false≢true (ap is_ok e))
 
 long_is : (s : Sizes) → block_long s ≡ 8 + row s * s.nodes
 unfolding block_long
@@ -97,13 +96,13 @@ long_some : (s : Sizes) → 0 < block_long s
 long_some s = omega (arith, long_is s)
 
 -- THE PASS counts the full blocks
-pub swept_count : (s : Sizes) (bs : List ℕ) (n : ℕ) → swept s bs ≡ Some n → n ≡ how_many (blocks_in s bs)
+pub swept_count : (s : Sizes) (bs : List ℕ) (n : ℕ) → swept s bs ≡ Ok n → n ≡ how_many (blocks_in s bs)
 unfolding swept blocks_in
 swept_count s bs n e =
     let z : 53 + 0 * block_long s ≡ 53 = omega (arith, zero-mul (block_long s)) in
     count_from (row s) (block_long s) bs (long_some s) s.blocks 0 0 n e ∙ rw z (add-zero (how_many (map (block_of (row s)) (cut (block_long s) s.blocks (drop 53 bs)))))
 
-pub swept_clean : (s : Sizes) (bs : List ℕ) (n : ℕ) → swept s bs ≡ Some n → (i : ℕ) → i < s.blocks → block_clean (row s) (block_long s) bs i ≡ true
+pub swept_clean : (s : Sizes) (bs : List ℕ) (n : ℕ) → swept s bs ≡ Ok n → (i : ℕ) → i < s.blocks → block_clean (row s) (block_long s) bs i ≡ true
 unfolding swept
 swept_clean s bs n e i h =
     let z : 0 + i ≡ i = omega arith in
@@ -189,7 +188,7 @@ module _ (s : Sizes) (bs : List ℕ) (i : ℕ) (long : length bs ≡ 53 + s.bloc
           (zeros_make bs (w - (8 + row s * n)) (a + (8 + row s * n)) (omega (arith, room, long_is s, rows_room (row s) n s.nodes m)) (rw (count_is, behind n m, behind_long n) at z))
 
 -- .. and where every block is clean the pass is
-cleaned_from : (r w : ℕ) (bs : List ℕ) (k i m : ℕ) → ((j : ℕ) → j < k → block_clean r w bs (i + j) ≡ true) → (n : ℕ) × (sweep_from r w bs k i m ≡ Some n)
+cleaned_from : (r w : ℕ) (bs : List ℕ) (k i m : ℕ) → ((j : ℕ) → j < k → block_clean r w bs (i + j) ≡ true) → (n : ℕ) × (sweep_from r w bs k i m ≡ Ok n)
 unfolding sweep_from
 cleaned_from r w bs zero i m h = (m, refl)
 cleaned_from r w bs (suc k) i m h =
@@ -202,6 +201,6 @@ cleaned_from r w bs (suc k) i m h =
         let z : i + suc j ≡ suc i + j = omega arith in
         subst (λ (n : ℕ). block_clean r w bs n ≡ true) z e
 
-pub cleaned : (s : Sizes) (bs : List ℕ) → ((i : ℕ) → i < s.blocks → block_clean (row s) (block_long s) bs i ≡ true) → (n : ℕ) × (swept s bs ≡ Some n)
+pub cleaned : (s : Sizes) (bs : List ℕ) → ((i : ℕ) → i < s.blocks → block_clean (row s) (block_long s) bs i ≡ true) → (n : ℕ) × (swept s bs ≡ Ok n)
 unfolding swept
 cleaned s bs h = cleaned_from (row s) (block_long s) bs s.blocks 0 0 (λ j g. subst (λ (n : ℕ). block_clean (row s) (block_long s) bs n ≡ true) (sym (zero-add j)) (h j g))
