@@ -1,6 +1,6 @@
--- What a visit does with the orders that come by, one after the other by rising keys: it counts those in lo..hi that have the reserve and writes their rows, where
--- the output has room, until it has found as many as it may find.
-use Rattle.std.specs.Prelude.{◌≡◌, Bool, true, ◌&&◌, cond, List, [], ◌∷◌, ◌++◌, map, ℕ, zero, suc, ◌+◌, ◌*◌, ◌-◌, ◌≤◌, ◌<◌, ltb, leb, length, drop, Option, Some, None}
+-- What a visit does with the orders that come by, one after the other by rising keys: it counts those in lo..hi that have the reserve, and writes their rows if it
+-- writes, where the output has room, until it may find no more.
+use Rattle.std.specs.Prelude.{◌≡◌, Bool, true, ◌&&◌, cond, List, [], ◌∷◌, ◌++◌, map, ℕ, zero, suc, ◌+◌, ◌*◌, ◌-◌, ◌≤◌, ◌<◌, ltb, leb, eqb, min, max, length, drop, Option, Some, None}
 use Rattle.std.proofs.lemmas.List.Edits.{sets}
 use Rattle.sizes.specs.Numbers.{field}
 use Rattle.sizes.specs.Sizes.{made, row}
@@ -26,16 +26,24 @@ abbrev pub scan : (row : ℕ) → Visit → (output : List ℕ) → Scan
 scan w v o = record { row = w; visit = v; output = o }
 
 -- a visit that begins
-abbrev pub starting : (lo hi least most : ℕ) → Visit
-starting lo hi l m = record { lo = lo; hi = hi; least = l; most = m; found = 0; last = None }
+abbrev pub starting : (lo hi least : ℕ) → (writes : Bool) → (left : ℕ) → Visit
+starting lo hi l b n = record { lo = lo; hi = hi; least = l; writes = b; left = n; found = 0; last = None }
+
+-- the most orders that a table can hold
+abbrev pub most_orders : ℕ
+most_orders = 65535
+
+-- a count with n more, up to the most; one that is there, or past it, stays
+unfoldable pub next_found : (found n : ℕ) → ℕ
+next_found c n = max c (min (c + n) most_orders)
 
 -- so many more orders are found, the last of them this one
 abbrev pub more_found : Visit → (n : ℕ) → (last : Order) → Visit
-more_found v n o = record { lo = v.lo; hi = v.hi; least = v.least; most = v.most; found = v.found + n; last = Some o }
+more_found v n o = record { lo = v.lo; hi = v.hi; least = v.least; writes = v.writes; left = v.left - n; found = next_found v.found n; last = Some o }
 
--- nothing more need come: it may find what it has found
+-- nothing more need come
 abbrev pub ended_visit : Visit → Visit
-ended_visit v = record { lo = v.lo; hi = v.hi; least = v.least; most = v.found; found = v.found; last = v.last }
+ended_visit v = record { lo = v.lo; hi = v.hi; least = v.least; writes = v.writes; left = 0; found = v.found; last = v.last }
 
 -- is the order one that is looked for?
 unfoldable pub wanted_by : Visit → Order → Bool
@@ -52,9 +60,10 @@ row_in w x a o = cond (leb (a + w) (length x)) (sets x a (node_bytes w o)) x
 -- AN ORDER COMES BY
 unfoldable pub step_by : Order → Scan → Scan
 step_by o x =
-    cond (leb x.visit.most x.visit.found) x
+    cond (eqb x.visit.left 0) x
     (cond (ltb x.visit.hi o.key) (scan x.row (ended_visit x.visit) x.output)
-    (cond (wanted_by x.visit o) (scan x.row (more_found x.visit 1 o) (row_in x.row x.output (x.row * x.visit.found) o)) x))
+    (cond (wanted_by x.visit o)
+    (scan x.row (more_found x.visit 1 o) (cond x.visit.writes (row_in x.row x.output (x.row * x.visit.found) o) x.output)) x))
 
 -- ORDERS, one after the other
 unfoldable pub steps : List Order → Scan → Scan
@@ -77,15 +86,16 @@ pub record Row (s : Sizes) (os : List Order) (l : ℕ) (ns : List Order) : Type 
   pub there : list_at s l os ≡ before ++ (own ++ behind)
   pub is : ns ≡ map (masked l) own
 
--- nodes from a place on that are all in the range of a visit that asks for no reserve, the first and the last by their keys, and no more than it may find; an output
--- that has room for a row at all has room for theirs
+-- nodes from a place on that are all in the range of a visit that asks for no reserve, the first and the last by their keys, and no more than it may find and count,
+-- with room for their rows if it writes
 pub record Whole (w : ℕ) (bs : List ℕ) (a j : ℕ) (v : Visit) (room : ℕ) : Type 0 where
   pub any : v.least ≡ 0
   pub some : 0 < j
   pub low : v.lo ≤ field a 4 bs
   pub high : field (a + w * (j - 1)) 4 bs ≤ v.hi
-  pub few : v.found + j ≤ v.most
-  pub held : w ≤ room → w * (v.found + j) ≤ room
+  pub may : j ≤ v.left
+  pub few : v.found + j ≤ most_orders
+  pub held : v.writes ≡ true → w * (v.found + j) ≤ room
 
 -- at how many nodes at the front of a chunk the next one does not come after the lowest key
 unfoldable pub passed_front : (w : ℕ) → List ℕ → (left at lo : ℕ) → ℕ

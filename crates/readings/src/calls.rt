@@ -8,18 +8,15 @@ ghost use Rattle.table.specs.Calls.{LookSays, SpanSays, SeekSays};
 ghost use Rattle.table.specs.Refusals.{answer, order_reply, count_reply};
 ghost use Rattle.readings.specs.Visit.{scan, steps, first_of};
 
-use crate::Visit;
 use crate::descent::{geometry_of, order_of};
 use crate::visits::visit_partition;
+use crate::{MOST, Visit};
 use placement::Order;
 use sizes::Sizes;
 use sizes::hash::highest;
 use sizes::header::{Header, row, rows};
 use table::Refusal;
 use table::checking::examine;
-
-// The most orders that a table can hold.
-const MOST: u32 = 65535;
 
 // A visit of all orders of a table, by rising keys, from the front at the top.
 fn visit_all(table: &[u8], s: Sizes, v: Visit, output: &mut [u8]) -> Visit
@@ -62,7 +59,7 @@ pub fn first_with(table: &[u8], lo: u32, hi: u32, least: u32) -> Option<Order>
     ensures { result ≡ first_of (enough least (between lo hi (orders_in table.now))) }
 {
     let h = Header::read(table);
-    visit_all(table, h.sizes, Visit::new(lo, hi, least, 1), &mut []).last
+    visit_all(table, h.sizes, Visit::new(lo, hi, least, false, 1), &mut []).last
 }
 
 // Lookup: 4, 5, 9. Document 01 asks for the let else.
@@ -85,13 +82,11 @@ pub fn span(table: &[u8], lo: u32, hi: u32, output: &mut [u8]) -> Result<u32, Re
 {
     range(table, lo, hi)?;
     let h = Header::read(table);
-    let all = Visit::new(lo, hi, 0, MOST);
-    // Where there is no room for a row, the orders are counted.
-    let n = visit_all(table, h.sizes, all, &mut []).found;
+    let n = visit_all(table, h.sizes, Visit::new(lo, hi, 0, false, MOST), output).found;
     if output.len() < rows(row(h.sizes), n) {
         return Err(Refusal::OutputShort);
     }
-    Ok(visit_all(table, h.sizes, all, output).found)
+    Ok(visit_all(table, h.sizes, Visit::new(lo, hi, 0, true, MOST), output).found)
 }
 
 // Seek: 4, 5, 10, 12. Document 02, A.5: the lowest.

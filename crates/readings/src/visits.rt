@@ -6,7 +6,7 @@ ghost use Rattle.skiplist.specs.Image.{orders_in};
 ghost use Rattle.skiplist.specs.Questions.{reserve};
 ghost use Rattle.readings.specs.Visit.{most_rows, scan, wanted_by, row_in, step_by, steps, Known, Listed, Whole, passed_front, under, under_nodes};
 
-use crate::Visit;
+use crate::{MOST, Visit};
 use levels::ways::{key_at, upto};
 use placement::rows::{node_of, write_node};
 use placement::{Label, Order};
@@ -60,22 +60,25 @@ fn step(o: Order, s: Sizes, v: Visit, output: &mut [u8]) -> Visit
     if !wanted(v, o) {
         return v;
     }
-    write_row(output, s, rows(row(s), v.found), o);
+    if v.writes {
+        write_row(output, s, rows(row(s), v.found), o);
+    }
     v.with(1, o)
 }
 
 // May the nodes from a place on come by together? Keys rise, so the first and the last of them tell whether all are in the range. There has to be room for all
-// their rows, or for no row at all. Place and number of nodes stay two parameters: in a struct that holds the slice each clause would speak of self at two moments.
+// their rows, if rows are written. Place and number of nodes stay two parameters: in a struct that holds the slice each clause would speak of self at two moments.
 fn whole(table: &[u8], w: usize, at: usize, left: u32, v: Visit, room: usize) -> bool
     requires { (12 ≤ w) × (w ≤ 16) × (at + w * left ≤ length table.now) }
     ensures { result ≡ true → Whole w table.now at left v room }
 {
     v.least == 0
         && 0 < left
-        && left <= v.most.saturating_sub(v.found)
+        && left <= v.left
+        && left <= MOST.saturating_sub(v.found)
         && v.lo <= key_at(table, w, at, left, 0)
         && key_at(table, w, at, left, left - 1) <= v.hi
-        && (room < w || rows(w, v.found + left) <= room)
+        && (!v.writes || rows(w, v.found + left) <= room)
 }
 
 // They come by together: a node has the bytes of its row.
@@ -85,10 +88,12 @@ fn visit_whole(table: &[u8], s: Sizes, at: usize, left: u32, v: Visit, output: &
 {
     let long = row(s);
     let last = node_of(table, s, at + rows(long, left - 1));
-    if long <= output.len() {
-        sizes::numbers::bring(output, rows(long, v.found), table, at, rows(long, left));
+    let w = v.with(left, last);
+    if !v.writes {
+        return w;
     }
-    v.with(left, last)
+    sizes::numbers::bring(output, rows(long, v.found), table, at, rows(long, left));
+    w
 }
 
 // The nodes of a chunk of level 1 are orders: they come by together or one after the other.

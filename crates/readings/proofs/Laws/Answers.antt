@@ -9,6 +9,7 @@ use native.Mathlib.Omega.{arith}
 use lib.Dec.{leb}
 use lib.ListN.{length, take, drop}
 use lib.Seq.{sets, sets-eq, take_all}
+use borrow.Author.Tests.{both_ways}
 use Rattle.sizes.specs.Sizes.{beta, row}
 use Rattle.sizes.specs.Header.{sizes_in}
 use Rattle.placement.specs.Chunks.{nodes_bytes}
@@ -26,9 +27,9 @@ use Rattle.skiplist.proofs.Laws.Kept.{fits_parts}
 use Rattle.skiplist.proofs.Laws.Third.{image_parts}
 use Rattle.readings.specs.declared.Visit.{Visit}
 use Rattle.readings.specs.Visit.{scan, starting, steps, Known, under, first_of}
-use Rattle.readings.proofs.Laws.Visits.{step_below}
+use Rattle.readings.proofs.Laws.Visits.{next_few, step_below}
 use Rattle.readings.proofs.Laws.Chunked.{kept_by, orders_up}
-use Rattle.readings.proofs.Laws.Wholes.{last_found, written_room}
+use Rattle.readings.proofs.Laws.Wholes.{last_found, written_room, written_none}
 use Rattle.readings.proofs.Laws.Tallies.{finds, Tallied, tally}
 
 -- AN IMAGE
@@ -97,30 +98,33 @@ module _ (bs : List ℕ) (image : is_image bs ≡ true) (lo hi : ℕ) where
   visited : (v w : Visit) (x z : List ℕ) → scan (width bs) w z ≡ steps (orders_in bs) (scan (width bs) v x) → Tallied (width bs) v x (finds v (orders_in bs)) (scan (width bs) w z)
   visited v w x z e = subst (Tallied (width bs) v x (finds v (orders_in bs))) (sym e) (tally (width bs) (orders_in bs) 1 (orders_up (sizes_in bs) bs (known_image bs image)) v x)
 
-  -- all of a range: their number, and their rows where there is room
-  module _ (w : Visit) (x z : List ℕ) (e : scan (width bs) w z ≡ steps (orders_in bs) (scan (width bs) (starting lo hi 0 65535) x)) where
-    all : Tallied (width bs) (starting lo hi 0 65535) x (between lo hi (orders_in bs)) (scan (width bs) w z)
+  -- all of a range: their number, and their rows where there is room, if rows are written
+  module _ (b : Bool) (w : Visit) (x z : List ℕ) (e : scan (width bs) w z ≡ steps (orders_in bs) (scan (width bs) (starting lo hi 0 b 65535) x)) where
+    all : Tallied (width bs) (starting lo hi 0 b 65535) x (between lo hi (orders_in bs)) (scan (width bs) w z)
     all =
-        let f : finds (starting lo hi 0 65535) (orders_in bs) ≡ between lo hi (orders_in bs) =
+        let f : finds (starting lo hi 0 b 65535) (orders_in bs) ≡ between lo hi (orders_in bs) =
         take_all 65535 (enough 0 (between lo hi (orders_in bs))) (rw (all_enough (between lo hi (orders_in bs))) few) ∙ all_enough (between lo hi (orders_in bs)) in
-        subst (λ (ns : List Order). Tallied (width bs) (starting lo hi 0 65535) x ns (scan (width bs) w z)) f (visited (starting lo hi 0 65535) w x z e)
+        subst (λ (ns : List Order). Tallied (width bs) (starting lo hi 0 b 65535) x ns (scan (width bs) w z)) f (visited (starting lo hi 0 b 65535) w x z e)
 
     pub counted_all : w.found ≡ length (between lo hi (orders_in bs))
-    counted_all = omega (arith, all.found)
+    counted_all = omega (arith, all.found, next_few 0 (length (between lo hi (orders_in bs))) (rw zero-add few))
 
-    pub written_all : width bs * length (between lo hi (orders_in bs)) ≤ length x →
+    pub output_kept : b ≡ false → z ≡ x
+    output_kept f = all.output ∙ written_none (width bs) b x 0 (between lo hi (orders_in bs)) (λ e. absurd (both_ways b f e))
+
+    pub written_all : b ≡ true → width bs * length (between lo hi (orders_in bs)) ≤ length x →
         z ≡ nodes_bytes (width bs) (between lo hi (orders_in bs)) ++ drop (width bs * length (between lo hi (orders_in bs))) x
-    written_all room =
+    written_all t room =
         let os = between lo hi (orders_in bs) in
         let ns = nodes_bytes (width bs) os in
         let l : length ns ≡ width bs * length os = nodes_long (width bs) (row_least (sizes_in bs)) os in
         let n : 0 + length ns ≡ width bs * length os = omega arith in
         all.output
-        ∙ written_room (width bs) (row_least (sizes_in bs)) x 0 os (rw zero-add room)
+        ∙ rw t (written_room (width bs) (row_least (sizes_in bs)) x 0 os (rw zero-add few) (rw zero-add room))
         ∙ ap (λ (i : ℕ). sets x i ns) (mul-zero (width bs))
         ∙ sets-eq ns x 0 (omega arith) ∙ ap (λ (i : ℕ). ns ++ drop i x) n
 
   -- the first that has a reserve
-  pub sought_first : (least : ℕ) (w : Visit) (x z : List ℕ) → scan (width bs) w z ≡ steps (orders_in bs) (scan (width bs) (starting lo hi least 1) x) →
+  pub sought_first : (least : ℕ) (w : Visit) (x z : List ℕ) → scan (width bs) w z ≡ steps (orders_in bs) (scan (width bs) (starting lo hi least false 1) x) →
       w.last ≡ first_of (enough least (between lo hi (orders_in bs)))
-  sought_first least w x z e = (visited (starting lo hi least 1) w x z e).last ∙ one_first (enough least (between lo hi (orders_in bs)))
+  sought_first least w x z e = (visited (starting lo hi least false 1) w x z e).last ∙ one_first (enough least (between lo hi (orders_in bs)))

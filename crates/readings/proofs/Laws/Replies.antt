@@ -27,7 +27,7 @@ use Rattle.table.specs.Check.{Examined}
 use Rattle.table.proofs.Laws.Refusals.{number_some}
 use Rattle.table.specs.Calls.{gives, check_number, order_of, LookAs, LookSays, SpanAs, SpanSays, SeekAs, SeekSays}
 use Rattle.readings.specs.Visit.{scan, starting, steps, first_of}
-use Rattle.readings.proofs.Laws.Answers.{width, counted_all, written_all}
+use Rattle.readings.proofs.Laws.Answers.{width, counted_all, output_kept, written_all}
 
 -- QUESTION 4
 pub checked_yes : (bs : List ℕ) (n : ℕ) → n ≡ check_number bs → n ≡ 0 → is_image bs ≡ true
@@ -144,21 +144,25 @@ module _ (bs : List ℕ) (lo hi : ℕ) (x : List ℕ) where
   span_turned e en = let n = number_some e in span_by (suc n.0) (sym n.1 ∙ en) _ x (suc n.0) (rw (ne_eqb (suc n.0) 0 (λ z. omega (arith, z)))) (rw n.1, refl)
 
   -- it counts, and then writes
-  module _ (p : 0 ≡ asked bs lo hi) (v : Visit) (o y : List ℕ) (ev : scan (width bs) v y ≡ steps (orders_in bs) (scan (width bs) (starting lo hi 0 65535) o))
+  module _ (p : 0 ≡ asked bs lo hi) (v : Visit) (y : List ℕ) (ev : scan (width bs) v y ≡ steps (orders_in bs) (scan (width bs) (starting lo hi 0 false 65535) x))
       (m : ℕ) (em : m ≡ width bs * v.found) where
     image : is_image bs ≡ true
     image = (range_asked bs lo hi p).0
 
     wanted : m ≡ width bs * length inside
-    wanted = em ∙ ap (λ (i : ℕ). width bs * i) (counted_all bs image lo hi v o y ev)
+    wanted = em ∙ ap (λ (i : ℕ). width bs * i) (counted_all bs image lo hi false v x y ev)
 
-    pub span_11 : length x < m → SpanSays bs lo hi (refused OutputShort) x x
+    kept : y ≡ x
+    kept = output_kept bs image lo hi false v x y ev refl
+
+    pub span_11 : length y < m → SpanSays bs lo hi (refused OutputShort) x y
     unfolding SpanAs
-    span_11 h = span_by 0 p _ x 11 (rw (lt-leb _ _ (rw wanted at h))) (refl, refl)
+    span_11 h = rw kept (span_by 0 p _ x 11 (rw (lt-leb _ _ (rw (kept, wanted) at h))) (refl, refl))
 
-    pub span_written : m ≤ length x → (w : Visit) (z : List ℕ) → scan (width bs) w z ≡ steps (orders_in bs) (scan (width bs) (starting lo hi 0 65535) x) →
+    pub span_written : m ≤ length y → (w : Visit) (z : List ℕ) → scan (width bs) w z ≡ steps (orders_in bs) (scan (width bs) (starting lo hi 0 true 65535) y) →
         SpanSays bs lo hi (count_reply (Ok w.found)) x z
     unfolding SpanAs
     span_written h w z ew =
-        let room : width bs * length inside ≤ length x = rw wanted at h in
-        span_by 0 p _ z 0 (rw (le-leb _ _ room)) (rw (counted_all bs image lo hi w x z ew), written_all bs image lo hi w x z ew room)
+        let room : width bs * length inside ≤ length x = rw (kept, wanted) at h in
+        let e = rw kept at ew in
+        span_by 0 p _ z 0 (rw (le-leb _ _ room)) (rw (counted_all bs image lo hi true w x z e), written_all bs image lo hi true w x z e refl room)

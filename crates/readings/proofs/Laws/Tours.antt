@@ -39,7 +39,7 @@ left_start : (os : List Order) (x : Scan) → Left os x os x
 left_start os x = record { keeps = keeps_all x; rest = refl }
 
 module _ (os : List Order) (x : Scan) (ps : List Order) (y : Scan) (l : Left os x ps y) where
-  pub left_ended : y.visit.most ≤ y.visit.found → y ≡ steps os x
+  pub left_ended : y.visit.left ≡ 0 → y ≡ steps os x
   left_ended e = sym (l.rest ∙ steps_ended ps y e)
 
   left_none : ps ≡ [] → y ≡ steps os x

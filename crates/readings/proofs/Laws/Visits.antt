@@ -2,8 +2,8 @@
 use mathlib.Core.Path.{◌≡◌, refl, sym, ap, ◌∙◌}
 use mathlib.Core.Bool.{Bool, true, false, cond}
 use mathlib.Core.List.{List, [], ◌∷◌, ◌++◌}
-use Prim.Native.Nat.{ℕ, ◌+◌, ◌*◌, ◌-◌, ◌≤◌, ◌<◌}
-use lib.Dec.{ltb, leb}
+use Prim.Native.Nat.{ℕ, suc, ◌+◌, ◌*◌, ◌-◌, ◌≤◌, ◌<◌}
+use lib.Dec.{ltb, leb, eqb}
 use lib.ListN.{length}
 use lib.Seq.{sets}
 use borrow.Author.Tests.{ltb-true, eq-eqb, ne_eqb, le-leb, lt-leb, le-ltb}
@@ -14,7 +14,20 @@ use Rattle.sizes.proofs.Laws.Sizes.{and_parts}
 use Rattle.skiplist.specs.Questions.{reserve}
 use Rattle.skiplist.proofs.Laws.Parts.{below}
 use Rattle.readings.specs.declared.Visit.{Visit}
-use Rattle.readings.specs.Visit.{Scan, scan, more_found, ended_visit, wanted_by, row_in, step_by, steps}
+use Rattle.readings.specs.Visit.{Scan, scan, next_found, more_found, ended_visit, wanted_by, row_in, step_by, steps}
+
+-- A COUNT with none, one and then some, and few more
+pub next_none : (c : ℕ) → next_found c 0 ≡ c
+unfolding next_found
+next_none c = omega arith
+
+pub next_more : (c n : ℕ) → next_found (next_found c 1) n ≡ next_found c (suc n)
+unfolding next_found
+next_more c n = omega arith
+
+pub next_few : (c n : ℕ) → c + n ≤ 65535 → next_found c n ≡ c + n
+unfolding next_found
+next_few c n h = omega arith
 
 -- SMALL FUNCTIONS
 module _ (o : Order) where
@@ -47,15 +60,21 @@ module _ (w : ℕ) (x : List ℕ) (a : ℕ) (o : Order) (r : ℕ) (er : r ≡ w)
 
 -- AN ORDER COMES BY
 abbrev pub as_told : (w : ℕ) → Order → Visit → List ℕ → (ended past wanted : Bool) → Scan
-as_told w o v x a b c = cond a (scan w v x) (cond b (scan w (ended_visit v) x) (cond c (scan w (more_found v 1 o) (row_in w x (w * v.found) o)) (scan w v x)))
+as_told w o v x a b c =
+    cond a (scan w v x) (cond b (scan w (ended_visit v) x) (cond c (scan w (more_found v 1 o) (cond v.writes (row_in w x (w * v.found) o) x)) (scan w v x)))
 
 module _ (w : ℕ) (o : Order) (v : Visit) (x : List ℕ) where
-  pub told : (a b c : Bool) → leb v.most v.found ≡ a → ltb v.hi o.key ≡ b → wanted_by v o ≡ c → step_by o (scan w v x) ≡ as_told w o v x a b c
+  pub told : (a b c : Bool) → eqb v.left 0 ≡ a → ltb v.hi o.key ≡ b → wanted_by v o ≡ c → step_by o (scan w v x) ≡ as_told w o v x a b c
   unfolding step_by
   told a b c ea eb ec = rw (ec, eb, ea)
 
-  pub step_ended : v.most ≤ v.found → scan w v x ≡ step_by o (scan w v x)
-  step_ended e = sym (told true _ _ (le-leb _ _ e) refl refl)
+  -- .. one that is found
+  pub step_found : eqb v.left 0 ≡ false → ltb v.hi o.key ≡ false → wanted_by v o ≡ true → (z : List ℕ) → z ≡ cond v.writes (row_in w x (w * v.found) o) x →
+      scan w (more_found v 1 o) z ≡ step_by o (scan w v x)
+  step_found a b c z e = rw e (sym (told false false true a b c))
+
+  pub step_ended : v.left ≡ 0 → scan w v x ≡ step_by o (scan w v x)
+  step_ended e = sym (told true _ _ (eq-eqb _ _ e) refl refl)
 
 -- ORDERS, one after the other
 pub steps_append : (xs ys : List Order) (x : Scan) → steps (xs ++ ys) x ≡ steps ys (steps xs x)
@@ -63,7 +82,7 @@ unfolding steps
 steps_append [] ys x = refl
 steps_append (o ∷ xs) ys x = steps_append xs ys (step_by o x)
 
-pub steps_ended : (os : List Order) (x : Scan) → x.visit.most ≤ x.visit.found → steps os x ≡ x
+pub steps_ended : (os : List Order) (x : Scan) → x.visit.left ≡ 0 → steps os x ≡ x
 unfolding steps
 steps_ended [] x e = refl
 steps_ended (o ∷ os) x e = ap (steps os) (sym (step_ended x.row o x.visit x.output e)) ∙ steps_ended os x e
@@ -81,7 +100,7 @@ keeps_on x y z p q = record { lo = q.lo ∙ p.lo; hi = q.hi ∙ p.hi }
 
 pub step_keeps : (o : Order) (x : Scan) → Keeps x (step_by o x)
 unfolding step_by
-step_keeps o x = go (leb x.visit.most x.visit.found) (ltb x.visit.hi o.key) (wanted_by x.visit o)
+step_keeps o x = go (eqb x.visit.left 0) (ltb x.visit.hi o.key) (wanted_by x.visit o)
   where
     go : (a b c : Bool) → Keeps x (as_told x.row o x.visit x.output a b c)
     go true b c = keeps_all x
@@ -97,7 +116,7 @@ steps_keep (o ∷ os) x = keeps_on x (step_by o x) (steps os (step_by o x)) (ste
 -- orders below the range do nothing
 pub step_below : (o : Order) (x : Scan) → o.key < x.visit.lo → o.key ≤ x.visit.hi → step_by o x ≡ x
 unfolding step_by wanted_by
-step_below o x l h = rw (le-ltb x.visit.hi o.key h, lt-leb x.visit.lo o.key l) (go (leb x.visit.most x.visit.found))
+step_below o x l h = rw (le-ltb x.visit.hi o.key h, lt-leb x.visit.lo o.key l) (go (eqb x.visit.left 0))
   where
     go : (t : Bool) → cond t x x ≡ x
     go true = refl

@@ -1,13 +1,13 @@
 -- Orders of a chunk of level 1 that are all in the range of a visit: they come by together.
 use Rattle.std.proofs.Common.{Option, Some}
 use mathlib.Core.Path.{◌≡◌, refl, sym, ap, ◌∙◌, subst}
-use mathlib.Core.Bool.{true, false}
+use mathlib.Core.Bool.{Bool, true, false, cond}
 use mathlib.Core.List.{List, [], ◌∷◌, ◌++◌}
 use Prim.Native.Nat.{ℕ, zero, suc, ◌+◌, ◌*◌, ◌-◌, ◌≤◌, ◌<◌}
 use native.Mathlib.Omega.{arith}
-use native.Mathlib.Nat.{add-zero, mul-zero, mul-suc}
+use native.Mathlib.Nat.{mul-zero, mul-suc}
 use native.Mathlib.Numerals.{add-one}
-use borrow.Author.Tests.{le-leb, lt-leb, le-ltb}
+use borrow.Author.Tests.{both_ways, ne_eqb, le-leb, lt-leb, le-ltb}
 use lib.Dec.{leb}
 use lib.ListN.{length, take, drop, length-drop}
 use lib.Seq.{sets, length-sets}
@@ -31,8 +31,8 @@ use Rattle.skiplist.proofs.Laws.Parts.{Up, up_from, up_front, at_least_up}
 use Rattle.skiplist.proofs.Laws.Walk.{spread, each_one}
 use Rattle.table.proofs.Laws.MaskedKeys.{up_masked}
 use Rattle.readings.specs.declared.Visit.{Visit}
-use Rattle.readings.specs.Visit.{scan, more_found, row_in, step_by, steps, Known, Row, Whole, all_under}
-use Rattle.readings.proofs.Laws.Visits.{wanted_some, told}
+use Rattle.readings.specs.Visit.{scan, next_found, more_found, row_in, step_by, steps, Known, Row, Whole, all_under}
+use Rattle.readings.proofs.Laws.Visits.{next_none, next_more, next_few, wanted_some, told}
 use Rattle.readings.proofs.Laws.Rows.{up_behind}
 use Rattle.readings.proofs.Laws.Chunked.{nodes_split, nodes_first, orders_up}
 
@@ -61,10 +61,10 @@ within_last lo hi o (p ∷ ps) u h =
     let w = within_last lo hi p ps (up_from (p ∷ ps) (omega (arith, u.0)) u.1) h in
     (u.0, omega (arith, w.1, u.1.0), w)
 
--- THE ROWS of some orders, the first of them at row n: each is written where the output has room
-unfoldable pub written : (w : ℕ) → List ℕ → (n : ℕ) → List Order → List ℕ
-written w x n [] = x
-written w x n (o ∷ os) = written w (row_in w x (w * n) o) (n + 1) os
+-- THE ROWS of some orders, the first of them at row n: each is written, if rows are, where the output has room
+unfoldable pub written : (w : ℕ) → (writes : Bool) → List ℕ → (n : ℕ) → List Order → List ℕ
+written w b x n [] = x
+written w b x n (o ∷ os) = written w b (cond b (row_in w x (w * n) o) x) (next_found n 1) os
 
 -- one row more
 next_row : (w n : ℕ) → w * (n + 1) ≡ w * n + w
@@ -75,26 +75,29 @@ unfolding row_in
 one_row w x a o h = rw (le-leb (a + w) (length x) h)
 
 -- .. all of them where it has room for all
-pub written_room : (w : ℕ) → 12 ≤ w → (x : List ℕ) (n : ℕ) (ns : List Order) → w * (n + length ns) ≤ length x → written w x n ns ≡ sets x (w * n) (nodes_bytes w ns)
+pub written_room : (w : ℕ) → 12 ≤ w → (x : List ℕ) (n : ℕ) (ns : List Order) → n + length ns ≤ 65535 → w * (n + length ns) ≤ length x →
+    written w true x n ns ≡ sets x (w * n) (nodes_bytes w ns)
 unfolding written rows
-written_room w least x n [] r = refl
-written_room w least x n (o ∷ os) r =
+written_room w least x n [] q r = refl
+written_room w least x n (o ∷ os) q r =
     let e : n + 1 + length os ≡ n + suc (length os) = omega arith in
     let y = sets x (w * n) (node_bytes w o) in
     let f : w * (n + 1) ≡ w * n + length (node_bytes w o) = omega (arith, node_long w least o, next_row w n) in
     let h : length y ≡ length x = length-sets x (w * n) (node_bytes w o) in
     let room : w * (n + 1) ≤ length x = omega (arith, r, rows_room w (n + 1) (n + suc (length os)) (omega arith)) in
     let one : row_in w x (w * n) o ≡ y = one_row w x (w * n) o (omega (arith, room, next_row w n)) in
-    ap (λ (z : List ℕ). written w z (n + 1) os) one
-    ∙ written_room w least y (n + 1) os (rw e (omega arith))
+    ap (λ (z : List ℕ). written w true z (next_found n 1) os) one
+    ∙ ap (λ (i : ℕ). written w true y i os) (next_few n 1 (omega arith))
+    ∙ written_room w least y (n + 1) os (omega arith) (rw e (omega arith))
     ∙ ap (λ (a : ℕ). sets y a (nodes_bytes w os)) f
     ∙ sym (sets_append x (w * n) (node_bytes w o) (nodes_bytes w os))
 
--- .. and none where it has no room for one
-pub written_none : (w : ℕ) (x : List ℕ) (n : ℕ) (ns : List Order) → length x < w → written w x n ns ≡ x
+-- .. and none where rows are not written, or where it has no room for one
+pub written_none : (w : ℕ) (b : Bool) (x : List ℕ) (n : ℕ) (ns : List Order) → (b ≡ true → length x < w) → written w b x n ns ≡ x
 unfolding written row_in
-written_none w x n [] h = refl
-written_none w x n (o ∷ os) h = rw (lt-leb (w * n + w) (length x) (omega arith)) (written_none w x (n + 1) os h)
+written_none w b x n [] h = refl
+written_none w false x n (o ∷ os) h = written_none w false x (next_found n 1) os h
+written_none w true x n (o ∷ os) h = rw (lt-leb (w * n + w) (length x) (omega (arith, h refl))) (written_none w true x (next_found n 1) os h)
 
 -- the last order that was found
 unfoldable pub last_found : Option Order → List Order → Option Order
@@ -106,21 +109,23 @@ unfolding last_found last_of
 last_some o [] = refl
 last_some o (p ∷ ps) = last_some p ps
 
--- ALL OF THEM are found by a visit that asks for no reserve, if it may find so many
+-- ALL OF THEM are found by a visit that asks for no reserve, if it may find so many; what it counts of them is up to the most
 abbrev pub found_all : Visit → List Order → Visit
-found_all v ns = record { lo = v.lo; hi = v.hi; least = v.least; most = v.most; found = v.found + length ns; last = last_found v.last ns }
+found_all v ns =
+    record { lo = v.lo; hi = v.hi; least = v.least; writes = v.writes; left = v.left - length ns; found = next_found v.found (length ns); last = last_found v.last ns }
 
-pub steps_whole : (w : ℕ) (ns : List Order) (v : Visit) (x : List ℕ) → v.least ≡ 0 → Within v.lo v.hi ns → v.found + length ns ≤ v.most →
-    steps ns (scan w v x) ≡ scan w (found_all v ns) (written w x v.found ns)
+pub steps_whole : (w : ℕ) (ns : List Order) (v : Visit) (x : List ℕ) → v.least ≡ 0 → Within v.lo v.hi ns → length ns ≤ v.left →
+    steps ns (scan w v x) ≡ scan w (found_all v ns) (written w v.writes x v.found ns)
 unfolding steps last_found written
-steps_whole w [] v x k q f = rw (add-zero v.found)
+steps_whole w [] v x k q f = let n : v.left - 0 ≡ v.left = omega arith in rw (n, next_none v.found)
 steps_whole w (o ∷ os) v x k q f =
-    let n : v.found + 1 + length os ≡ v.found + suc (length os) = omega arith in
+    let n : v.left - 1 - length os ≡ v.left - suc (length os) = omega arith in
     let z : 0 ≤ reserve o = omega arith in
     let low : leb v.least (reserve o) ≡ true = rw k (le-leb 0 (reserve o) z) in
-    let one : step_by o (scan w v x) ≡ scan w (more_found v 1 o) (row_in w x (w * v.found) o) =
-    told w o v x false false true (lt-leb _ _ (omega arith)) (le-ltb v.hi o.key q.1) (sym (wanted_some v o q.0 (reserve o) refl) ∙ low) in
-    ap (steps os) one ∙ steps_whole w os (more_found v 1 o) (row_in w x (w * v.found) o) k q.2 (omega arith) ∙ rw n
+    let y : List ℕ = cond v.writes (row_in w x (w * v.found) o) x in
+    let one : step_by o (scan w v x) ≡ scan w (more_found v 1 o) y =
+    told w o v x false false true (ne_eqb _ _ (λ e. omega arith)) (le-ltb v.hi o.key q.1) (sym (wanted_some v o q.0 (reserve o) refl) ∙ low) in
+    ap (steps os) one ∙ steps_whole w os (more_found v 1 o) y k q.2 (omega arith) ∙ rw (n, next_more v.found (length os))
 
 -- NODES IN BYTES: the last of them
 last_node : (w : ℕ) (bs : List ℕ) (a j : ℕ) → last_of (node_of w bs a) (nodes_from w j (drop (a + w) bs)) ≡ node_of w bs (a + w * j)
@@ -160,18 +165,18 @@ module _ (s : Sizes) (bs : List ℕ) (a j : ℕ) (v : Visit) (x : List ℕ) (k :
   inside : Within v.lo v.hi all
   inside = subst (Within v.lo v.hi) (sym parts) (within_last _ _ _ _ rising high)
 
-  together : (z : List ℕ) → z ≡ written (row s) x v.found all → scan (row s) (more_found v j o) z ≡ steps (all_under s bs 0 all) (scan (row s) v x)
+  together : (z : List ℕ) → z ≡ written (row s) v.writes x v.found all → scan (row s) (more_found v j o) z ≡ steps (all_under s bs 0 all) (scan (row s) v x)
   unfolding all_under spread
   together z ez =
-      sym (ap (λ (q : List Order). steps q (scan (row s) v x)) (each_one all) ∙ steps_whole (row s) all v x w.any inside (omega (arith, w.few, many)) ∙ rw (last, many, ez))
+      sym (ap (λ (q : List Order). steps q (scan (row s) v x)) (each_one all) ∙ steps_whole (row s) all v x w.any inside (omega (arith, w.may, many)) ∙ rw (last, many, ez))
 
-  pub whole_counts : length x < row s → (z : List ℕ) → z ≡ x → scan (row s) (more_found v j o) z ≡ steps (all_under s bs 0 all) (scan (row s) v x)
-  whole_counts h z ez = together z (ez ∙ sym (written_none (row s) x v.found all h))
+  pub whole_counts : v.writes ≡ false → scan (row s) (more_found v j o) x ≡ steps (all_under s bs 0 all) (scan (row s) v x)
+  whole_counts h = together x (sym (written_none (row s) v.writes x v.found all (λ e. absurd (both_ways v.writes h e))))
 
-  pub whole_writes : row s ≤ length x → Bytes bs → (z : List ℕ) → z ≡ sets x (row s * v.found) (take (row s * j) (drop a bs)) →
+  pub whole_writes : v.writes ≡ true → Bytes bs → (z : List ℕ) → z ≡ sets x (row s * v.found) (take (row s * j) (drop a bs)) →
       scan (row s) (more_found v j o) z ≡ steps (all_under s bs 0 all) (scan (row s) v x)
   whole_writes h b z ez =
       let l : length (drop a bs) ≡ length bs - a = length-drop a bs in
       let here : take (row s * j) (drop a bs) ≡ nodes_bytes (row s) all = sym (nodes_again (row s) (row_least s) j (drop a bs) (omega arith) (bytes_drop a bs b)) in
       let held : row s * (v.found + length all) ≤ length x = rw many (w.held h) in
-      together z (ez ∙ ap (sets x (row s * v.found)) here ∙ sym (written_room (row s) (row_least s) x v.found all held))
+      together z (rw h (ez ∙ ap (sets x (row s * v.found)) here ∙ sym (written_room (row s) (row_least s) x v.found all (omega (arith, w.few, many)) held)))

@@ -15,11 +15,11 @@ read-h-requires c = known_long _ (range_asked _ _ _ c.in_ok-range.ensures).0
 pub visit_all-n-requires : goal.visit_all-n-requires
 visit_all-n-requires c =
     let p = range_asked _ _ _ c.in_ok-range.ensures in
-    rw c.new-all.ensures (p.0, p.1, p.2, c.read-h.ensures.0)
+    rw c.new.ensures (p.0, p.1, p.2, c.read-h.ensures.0)
 
 pub returns-then-output-rows : goal.returns-then-output-rows
 returns-then-output-rows c = (
-  span_11 _ _ _ _ c.in_ok-range.ensures _ _ _ (rw c.new-all.ensures at c.visit_all-n.ensures)
+  span_11 _ _ _ _ c.in_ok-range.ensures _ _ (rw c.new.ensures at c.visit_all-n.ensures)
       _ (rw (c.row.ensures.0, c.read-h.ensures.0) at c.rows.ensures.0) c.if-output-rows.true,
   refl,
 )
@@ -27,11 +27,11 @@ returns-then-output-rows c = (
 pub visit_all-requires : goal.visit_all-requires
 visit_all-requires c =
     let p = range_asked _ _ _ c.in_ok-range.ensures in
-    rw c.new-all.ensures (p.0, p.1, p.2, c.read-h.ensures.0)
+    rw c.new-2.ensures (p.0, p.1, p.2, c.read-h.ensures.0)
 
 pub returns : goal.returns
 returns c = (
-  span_written _ _ _ _ c.in_ok-range.ensures _ _ _ (rw c.new-all.ensures at c.visit_all-n.ensures)
-      _ (rw (c.row.ensures.0, c.read-h.ensures.0) at c.rows.ensures.0) c.if-output-rows.false _ _ (rw c.new-all.ensures at c.visit_all.ensures),
+  span_written _ _ _ _ c.in_ok-range.ensures _ _ (rw c.new.ensures at c.visit_all-n.ensures)
+      _ (rw (c.row.ensures.0, c.read-h.ensures.0) at c.rows.ensures.0) c.if-output-rows.false _ _ (rw c.new-2.ensures at c.visit_all.ensures),
   refl,
 )

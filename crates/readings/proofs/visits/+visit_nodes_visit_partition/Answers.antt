@@ -1,6 +1,6 @@
 -- What is left of a chunk and of a partition, from turn to turn: Laws/Tours.
 use borrow.Author.Rules.{rules}
-use borrow.Author.Tests.{leb-true}
+use borrow.Author.Tests.{eqb-true}
 use mathlib.Core.Path.{sym, ◌∙◌}
 use mathlib.Core.List.{[]}
 use native.Mathlib.Omega.{arith}
@@ -27,7 +27,7 @@ visit_nodes-loop-k-init t c =
     (begun _ _ _ _ _ _ p.0 p.1 p.3 p.4.room p.4.nodes _ (rw c.row-long.ensures.0 at c.skipped-n.ensures.0)).nodes
 
 pub visit_nodes-returns-then-has_ended : goal.visit_nodes-returns-then-has_ended
-visit_nodes-returns-then-has_ended t c = left_ended _ _ _ _ c.loop-k.invariant.left (leb-true _ _ (sym c.has_ended.ensures ∙ c.if-has_ended.true))
+visit_nodes-returns-then-has_ended t c = left_ended _ _ _ _ c.loop-k.invariant.left (eqb-true _ _ (sym c.has_ended.ensures ∙ c.if-has_ended.true))
 
 pub visit_nodes-loop-k-preserved : goal.visit_nodes-loop-k-preserved
 visit_nodes-loop-k-preserved t c =
@@ -41,7 +41,7 @@ pub visit_partition-loop-number-init : goal.visit_partition-loop-number-init
 visit_partition-loop-number-init t c = going_start _ _ _ _ _ c.requires.1
 
 pub visit_partition-returns-then-has_ended : goal.visit_partition-returns-then-has_ended
-visit_partition-returns-then-has_ended t c = left_ended _ _ _ _ c.loop-number.invariant.left (leb-true _ _ (sym c.has_ended.ensures ∙ c.if-has_ended.true))
+visit_partition-returns-then-has_ended t c = left_ended _ _ _ _ c.loop-number.invariant.left (eqb-true _ _ (sym c.has_ended.ensures ∙ c.if-has_ended.true))
 
 pub visit_partition-returns-in_default : goal.visit_partition-returns-in_default
 visit_partition-returns-in_default t c =
