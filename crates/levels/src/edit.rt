@@ -38,7 +38,7 @@ fn masked(level: u32, o: Order) -> Order
 impl<const N: usize> Carry<N> {
     // A node comes behind those of the carry.
     fn push(&mut self, s: Sizes, o: Order)
-        requires { 16 * (self.old.count + 1) ≤ N }
+        requires { (16 * (self.old.count + 1) ≤ N) × (N ≤ 1040) }
         ensures { (self.new.count ≡ self.old.count + 1) × (self.new.nodes ≡ sets self.old.nodes (row s * self.old.count) (node_bytes (row s) o)) }
     {
         write_node(&mut self.nodes, s, rows(row(s), self.count), o);
@@ -48,7 +48,7 @@ impl<const N: usize> Carry<N> {
     // Nodes a to n of a chunk come behind those of the carry.
     #[tactic(auto, unfolding(crate::specs::Edit::followed))]
     fn follow(&mut self, s: Sizes, chunk: &Carry<CHUNK>, a: u32, n: u32)
-        requires { (a ≤ n) × (n ≤ chunk.now.count) × (16 * (self.old.count + (n - a)) ≤ N) }
+        requires { (a ≤ n) × (n ≤ chunk.now.count) × (16 * (self.old.count + (n - a)) ≤ N) × (N ≤ 1040) }
         ensures { (self.new.count ≡ self.old.count + (n - a)) × (self.new.nodes ≡ followed (row s) self.old.count a n self.old.nodes chunk.now.nodes) }
     {
         let w = row(s);

@@ -33,7 +33,6 @@ pub struct Carry<const N: usize> {
     pub nodes: [u8; N],
     pub count: u32,
     pub ghost fits: { 16 * count ≤ N },
-    pub ghost small: { N ≤ 1040 },
 }
 
 // The way down to a key so far: how many blocks are on it, the greatest key not above the one sought, which heads the partition to go through next, and

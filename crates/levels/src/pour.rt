@@ -18,7 +18,6 @@ use sizes::numbers::{bring, copy};
 impl<const N: usize> Carry<N> {
     // None yet.
     pub fn new() -> Self
-        requires { N ≤ 1040 }
         ensures { (length result.nodes ≡ N) × (result.count ≡ 0) }
     {
         Carry {
@@ -29,7 +28,7 @@ impl<const N: usize> Carry<N> {
 
     // The nodes of a chunk come behind those of the carry. None come where there is no such chunk.
     pub fn read(&mut self, table: &[u8], s: Sizes, want: Label)
-        requires { Shaped s table.now × (16 * (self.old.count + s.nodes) ≤ N) }
+        requires { Shaped s table.now × (16 * (self.old.count + s.nodes) ≤ N) × (N ≤ 1040) }
         ensures { (length self.new.nodes ≡ length self.old.nodes) × (self.new.count ≤ self.old.count + s.nodes) × Reads s want self.old.count table.now self.old.nodes self.new.nodes self.new.count }
     {
         let Some(i) = find(table, s, want) else {
@@ -52,7 +51,7 @@ impl<const N: usize> Carry<N> {
 
     // Takes a chunk out of the table, its nodes behind those of the carry. Nothing changes where there is no such chunk.
     pub fn take(&mut self, table: &mut [u8], s: Sizes, want: Label)
-        requires { Shaped s table.old × (16 * (self.old.count + s.nodes) ≤ N) }
+        requires { Shaped s table.old × (16 * (self.old.count + s.nodes) ≤ N) × (N ≤ 1040) }
         ensures { Kept s table.new self.old.nodes self.new.nodes × (self.new.count ≤ self.old.count + s.nodes) × Takes s want self.old.count table.old table.new self.old.nodes self.new.nodes self.new.count }
     {
         self.read(table, s, want);
