@@ -17,7 +17,8 @@ pub fn put_number(out: &mut [u8], at: usize, n: u32) -> usize
     requires { at + length (numeral n) ≤ length out.old }
     ensures { Put out.old out.new at (numeral n) result }
 {
-    let place = if n < 10 {
+    let single = n < 10;
+    let place = if single {
         at
     } else {
         put_number(out, at, n / 10)
