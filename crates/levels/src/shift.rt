@@ -12,6 +12,7 @@ use placement::search::find;
 use sizes::Sizes;
 
 // The first n of some nodes are a chunk: over the one that is there, or in its place among the others; none where n is 0.
+#[tactic(auto, using(crate::proofs::Laws::Stores::store_none))]
 pub fn store(table: &mut [u8], s: Sizes, want: Label, n: u32, nodes: &[u8])
     requires { Shaped s table.old × (want.level < 256) × (n ≤ s.nodes) × (16 * n ≤ length nodes.now) }
     ensures { Shaped s table.new × Stores s want n table.old table.new nodes.now }
