@@ -89,7 +89,8 @@ fn enter_free(table: &mut [u8], q: Geometry, held: u32, full: u32, o: Order) -> 
     let l = level_of(q.sizes, q.top, o.key);
     let first = lead(table, q, l, o.key);
     let more = growth(table, q, first, l, o.key);
-    if q.sizes.blocks < full + more {
+    let too_few = q.sizes.blocks < full + more;
+    if too_few {
         return Err(Refusal::BlocksFull);
     }
     change_levels(table, q, first, l, Change::Enter(o));

@@ -13,13 +13,13 @@ lead-first-requires c = ((image_asked _ c.requires.0.image _ c.requires.0.sizes_
 pub growth-more-requires : goal.growth-more-requires
 growth-more-requires c = let a = image_asked _ c.requires.0.image _ c.requires.0.sizes_are in (a.shaped, a.nodes_least, omega arith)
 
-pub overflow_add-full : goal.overflow_add-full
-overflow_add-full c =
+pub overflow_add-too_few : goal.overflow_add-too_few
+overflow_add-too_few c =
     enter_sum _ _ _ _ _ _ c.requires.3 c.requires.0.image c.requires.0.sizes_are c.growth-more.ensures.1 c.level_of-l.ensures.1 c.args.q.top_most
 
-pub returns-then-q-full : goal.returns-then-q-full
-returns-then-q-full c =
-    enter_no_8 _ _ _ c.requires.0 c.requires.1 _ c.level_of-l.ensures.0 _ _ _ c.requires.3 c.lead-first.ensures c.growth-more.ensures.0 c.if-q-full.true
+pub returns-then-too_few : goal.returns-then-too_few
+returns-then-too_few c =
+    enter_no_8 _ _ _ c.requires.0 c.requires.1 _ c.level_of-l.ensures.0 _ _ _ c.requires.3 c.lead-first.ensures c.growth-more.ensures.0 (omega arith)
 
 pub change_levels-requires : goal.change_levels-requires
 change_levels-requires c = let a = image_asked _ c.requires.0.image _ c.requires.0.sizes_are in (a.shaped, a.nodes_least, omega arith)
@@ -29,5 +29,5 @@ put2-requires c = let a = image_asked _ c.requires.0.image _ c.requires.0.sizes_
 
 pub returns : goal.returns
 returns c =
-    enter_done _ _ _ c.requires.0 c.requires.1 _ c.level_of-l.ensures.0 _ _ _ c.requires.3 c.lead-first.ensures c.growth-more.ensures.0 _ _ _ c.if-q-full.false
+    enter_done _ _ _ c.requires.0 c.requires.1 _ c.level_of-l.ensures.0 _ _ _ c.requires.3 c.lead-first.ensures c.growth-more.ensures.0 _ _ _ (omega arith)
     c.change_levels.ensures c.requires.2 c.put2.ensures
