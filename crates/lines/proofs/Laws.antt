@@ -3,4 +3,5 @@ pub mod Pieces
 pub mod Words
 pub mod Reading
 pub mod Writing
+pub mod Steps
 pub mod Back
