@@ -189,20 +189,12 @@ fn walk_lowest(table: &[u8], q: Geometry, first: u32, g: u32, x: Seen) -> Option
     }
 }
 
-// A partition: its chunks, one after the other, a next one only behind a full one. `g` is the hash g of its first key. A walk that has ended wrong stays so.
-#[cycle(walk_nodes_walk_partition)]
-pub fn walk_partition(
-    table: &[u8],
-    q: Geometry,
-    level: u32,
-    first: u32,
-    g: u32,
-    x: Option<Seen>,
-) -> Option<Seen>
+// A partition: its chunks, one after the other, a next one only behind a full one. `g` is the hash g of its first key.
+#[cycle(partition_nodes)]
+fn partition(table: &[u8], q: Geometry, level: u32, first: u32, g: u32, x: Seen) -> Option<Seen>
     requires { Walkable q.sizes table.now × (1 ≤ level) × (level ≤ q.top) × (g ≡ hash_from 5 5 q.sizes.seed first) }
-    ensures { result ≡ option_and_then (opens_of q.sizes table.now level first) x }
+    ensures { result ≡ opens_of q.sizes table.now level first x }
 {
-    let x = x?;
     if level == 1 {
         return walk_lowest(table, q, first, g, x);
     }
@@ -218,8 +210,7 @@ pub fn walk_partition(
             return None;
         }
         let opens = number == 0;
-        let inside = Some(entered(seen));
-        seen = walk_nodes(table, q, level, first, opens, at + 8, n, inside)?;
+        seen = nodes(table, q, level, first, opens, at + 8, n, entered(seen))?;
         if n < q.sizes.nodes {
             return Some(seen);
         }
@@ -229,8 +220,8 @@ pub fn walk_partition(
 
 // The nodes of a chunk above level 1: each opens its partition one level down. The next partition's block is looked at while there is other
 // work to do: it comes from afar.
-#[cycle(walk_nodes_walk_partition)]
-pub fn walk_nodes(
+#[cycle(partition_nodes)]
+fn nodes(
     table: &[u8],
     q: Geometry,
     level: u32,
@@ -238,13 +229,13 @@ pub fn walk_nodes(
     opens: bool,
     at: usize,
     left: u32,
-    x: Option<Seen>,
+    x: Seen,
 ) -> Option<Seen>
     requires { Walkable q.sizes table.now × (2 ≤ level) × (level ≤ q.top) × (1 ≤ left) × (at + row q.sizes * left ≤ length table.now) }
-    ensures { result ≡ option_and_then (nodes_by (opens_of q.sizes table.now (level - 1)) q.sizes table.now level first left at opens) x }
+    ensures { result ≡ nodes_by (opens_of q.sizes table.now (level - 1)) q.sizes table.now level first left at opens x }
 {
     let w = row(q.sizes);
-    let mut seen = x?;
+    let mut seen = x;
     let mut opens = opens;
     let mut place = at;
     let mut g = hash(q.sizes, 5, be4(table, at));
@@ -261,10 +252,41 @@ pub fn walk_nodes(
                 return None;
             }
         }
-        seen = walk_partition(table, q, level - 1, be4(table, place), g, Some(seen))?;
+        seen = partition(table, q, level - 1, be4(table, place), g, seen)?;
         g = next;
         opens = false;
         place += w;
     }
     Some(seen)
+}
+
+// The same of a walk that may have ended wrong: it stays so. They hand on what was seen and no Option, which would take stack and time at each level.
+pub fn walk_partition(
+    table: &[u8],
+    q: Geometry,
+    level: u32,
+    first: u32,
+    g: u32,
+    x: Option<Seen>,
+) -> Option<Seen>
+    requires { Walkable q.sizes table.now × (1 ≤ level) × (level ≤ q.top) × (g ≡ hash_from 5 5 q.sizes.seed first) }
+    ensures { result ≡ option_and_then (opens_of q.sizes table.now level first) x }
+{
+    partition(table, q, level, first, g, x?)
+}
+
+pub fn walk_nodes(
+    table: &[u8],
+    q: Geometry,
+    level: u32,
+    first: u32,
+    opens: bool,
+    at: usize,
+    left: u32,
+    x: Option<Seen>,
+) -> Option<Seen>
+    requires { Walkable q.sizes table.now × (2 ≤ level) × (level ≤ q.top) × (1 ≤ left) × (at + row q.sizes * left ≤ length table.now) }
+    ensures { result ≡ option_and_then (nodes_by (opens_of q.sizes table.now (level - 1)) q.sizes table.now level first left at opens) x }
+{
+    nodes(table, q, level, first, opens, at, left, x?)
 }

@@ -26,10 +26,6 @@ use Rattle.table.specs.declared.Seen.{Seen}
 use Rattle.table.specs.Walk.{Walkable, enters_ok, entered_seen, ended_seen, node_good, nodes_by, spot, chunk_spot, count_in, chunk_by, chunks_by, opens_of}
 use Rattle.table.proofs.Laws.Steps.{enters_parts}
 
--- a walk that is handed over and has not ended wrong goes on from what has been seen
-pub handed : (d : Seen → Option Seen) (x : Option Seen) (y : Seen) → x ≡ Some y → (z : Option Seen) → z ≡ d y → z ≡ option_and_then d x
-handed d x y ex z e = e ∙ ap (option_and_then d) (sym ex)
-
 -- NODES: what the loop over the nodes of a chunk keeps, j of them still to come
 pub record Noding (d : (key : ℕ) → Seen → Option Seen) (s : Sizes) (bs : List ℕ) (l f j₀ a₀ : ℕ) (o₀ : Bool) (x₀ : Seen) (j a : ℕ) (o : Bool) (x : Seen) : Type 0 where
   pub room : a + row s * j ≤ length bs
