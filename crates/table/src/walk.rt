@@ -260,7 +260,7 @@ fn nodes(
     Some(seen)
 }
 
-// The same of a walk that may have ended wrong: it stays so. They hand on what was seen and no Option, which would take stack and time at each level.
+// The same of a walk that may have ended wrong: it stays so. `partition` and `nodes` hand on what was seen: an Option would take stack and time at each level.
 pub fn walk_partition(
     table: &[u8],
     q: Geometry,
