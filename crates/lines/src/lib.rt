@@ -23,16 +23,17 @@ pub struct Values {
     pub numbers: [u32; 15],
 }
 
-// A line under way, as pieces parted by one blank: the whole ones, and the value so far of the piece under way, which has none before its first sign.
-// Piece 0 is the word, as a number of base 32.
+// A line under way, as pieces parted by one blank: the whole ones, and the piece under way, which has some sign or none yet, and a value so far.
+// Piece 0 is the word, as a number of base 32. The flag is no Option, for `step` is promised to go on from any value.
 #[derive(Clone, Copy)]
 pub struct Parts {
     pub whole: Values,
-    pub value: Option<u32>,
+    pub some: bool,
+    pub value: u32,
 }
 
-// What the bytes of a line say so far; `None` once they ask for nothing, whatever comes.
-pub type Reader = Option<Parts>;
+// What the bytes of a line say so far; `Err` once they ask for nothing, whatever comes, with the pieces that the line is closed with: none, unless a caller brings some.
+pub type Reader = Result<Parts, Values>;
 
 // A whole line: its call, and the values of its pieces. The call's numbers stand from 1 on.
 #[derive(Clone, Copy)]

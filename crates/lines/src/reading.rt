@@ -1,6 +1,6 @@
 // The reader of lines. A line may be of any length, so no byte is kept: each changes the state, and the state is what the line says so far.
-ghost use Rattle.std.specs.Prelude.{◌≡◌, ◌≤◌, length, option_map};
-ghost use Rattle.lines.specs.Machine.{beginning, pushed, signed, cut_of, next_of, step_of, call_in, close_of, Advanced, under_way};
+ghost use Rattle.std.specs.Prelude.{◌≡◌, ◌≤◌, length, option_map, replicate};
+ghost use Rattle.lines.specs.Machine.{beginning, pushed, signed, cut_of, next_of, step_of, call_in, line_in, close_of, Advanced, under_way};
 
 use crate::{Call, Line, Parts, Reader, Values, Went};
 
@@ -24,14 +24,24 @@ const BLOCKS: u32 = ((((2 * 32 + 12) * 32 + 15) * 32 + 3) * 32 + 11) * 32 + 19;
 pub fn start() -> Reader
     ensures { result ≡ beginning }
 {
-    let whole = Values {
-        count: 0,
-        numbers: [0; 15],
-    };
-    Some(Parts { whole, value: None })
+    Ok(Parts {
+        whole: Values::new(),
+        some: false,
+        value: 0,
+    })
 }
 
 impl Values {
+    // No piece is whole.
+    fn new() -> Values
+        ensures { result ≡ record { count = 0; numbers = replicate 15 0 } }
+    {
+        Values {
+            count: 0,
+            numbers: [0; 15],
+        }
+    }
+
     // One more behind the others, if there is room.
     #[tactic(auto, unfolding(crate::specs::Machine::pushed))]
     fn push(mut self, number: u32) -> Option<Values>
@@ -53,9 +63,10 @@ impl Parts {
         requires { base ≤ 32 }
         ensures { option_map (λ _. self.new) result ≡ signed base digit self.old }
     {
-        let v = base * u64::from(self.value.unwrap_or(0)) + u64::from(digit);
+        let v = base * u64::from(self.value) + u64::from(digit);
         let value = u32::try_from(v).ok()?;
-        self.value = Some(value);
+        self.some = true;
+        self.value = value;
         Some(())
     }
 
@@ -64,7 +75,12 @@ impl Parts {
     fn cut(&mut self) -> Option<()>
         ensures { option_map (λ _. self.new) result ≡ cut_of self.old }
     {
-        self.whole = self.whole.push(self.value.take()?)?;
+        if !self.some {
+            return None;
+        }
+        self.whole = self.whole.push(self.value)?;
+        self.some = false;
+        self.value = 0;
         Some(())
     }
 
@@ -84,13 +100,13 @@ impl Parts {
 }
 
 // One byte more; a line that asks for nothing still does. In place: a copy of the parts for each byte made a long line take 1.6 times as long.
-#[tactic(auto, unfolding(crate::specs::Machine::step_of))]
+#[tactic(auto, unfolding(crate::specs::Machine::step_of, crate::specs::Machine::reader_of, crate::specs::Machine::spoilt))]
 fn feed(reader: &mut Reader, b: u8)
     ensures { reader.new ≡ step_of reader.old b }
 {
-    if let Some(parts) = reader {
+    if let Ok(parts) = reader {
         if parts.next(b).is_none() {
-            *reader = None;
+            *reader = Err(Values::new());
         }
     }
 }
@@ -121,20 +137,25 @@ fn call_of(word: u32, count: usize) -> Option<Call>
     }
 }
 
+// The line of so many whole pieces. With none it has no call, for no word is 0.
+#[tactic(auto, unfolding(crate::specs::Machine::line_in))]
+fn line_in(whole: Values) -> Line
+    ensures { result ≡ line_in whole }
+{
+    Line {
+        call: call_of(whole.numbers[0], whole.count),
+        pieces: whole.numbers,
+    }
+}
+
 // The line ends. Its last piece ends as at a blank.
 #[tactic(auto, unfolding(crate::specs::Machine::close_of, crate::specs::Machine::line_of))]
 pub fn close(r: Reader) -> Line
     ensures { result ≡ close_of r }
 {
     match step(r, b' ') {
-        Some(Parts { whole, .. }) => Line {
-            call: call_of(whole.numbers[0], whole.count),
-            pieces: whole.numbers,
-        },
-        None => Line {
-            call: None,
-            pieces: [0; 15],
-        },
+        Ok(parts) => line_in(parts.whole),
+        Err(whole) => line_in(whole),
     }
 }
 
@@ -162,7 +183,7 @@ pub fn is_under_way(r: Reader) -> bool
     ensures { result ≡ under_way r }
 {
     match r {
-        Some(p) => p.value.is_some() || 0 < p.whole.count,
-        None => true,
+        Ok(parts) => parts.some || 0 < parts.whole.count,
+        Err(_) => true,
     }
 }
