@@ -8,7 +8,7 @@ use Rattle.lines.specs.declared.Parts.{Parts}
 use Rattle.lines.specs.declared.Line.{Line}
 use Rattle.lines.specs.Grammar.{Asked, word, fields, calls, worth, asks, line}
 
--- what the bytes of a line say so far; Err: nothing, whatever comes, with the pieces that the line is closed with
+-- what the bytes of a line say so far; Err: the line is spoilt, whatever comes, and these are the pieces that it is closed with
 abbrev pub Reader : Type 0
 Reader = Result Parts Values
 

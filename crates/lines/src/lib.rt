@@ -32,7 +32,7 @@ pub struct Parts {
     pub value: u32,
 }
 
-// What the bytes of a line say so far; `Err` once they ask for nothing, whatever comes, with the pieces that the line is closed with: none, unless a caller brings some.
+// What the bytes of a line say so far; `Err` once one has spoilt it, which no other changes, with the pieces that it is closed with: none, unless a caller brings some.
 pub type Reader = Result<Parts, Values>;
 
 // A whole line: its call, and the values of its pieces. The call's numbers stand from 1 on.

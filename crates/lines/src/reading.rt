@@ -70,7 +70,7 @@ impl Parts {
         Some(())
     }
 
-    // The piece under way ends. It may not be empty. The whole ones are copied, once a piece and here alone, so that the value stays in a register from byte to byte.
+    // The piece under way ends. It may not be empty. The whole ones are copied here, for each piece and not for each byte, so that the value stays in a register from byte to byte.
     #[tactic(auto, unfolding(crate::specs::Machine::cut_of))]
     fn cut(&mut self) -> Option<()>
         ensures { option_map (λ _. self.new) result ≡ cut_of self.old }
@@ -99,7 +99,7 @@ impl Parts {
     }
 }
 
-// One byte more; a line that asks for nothing still does. In place: a copy of the parts for each byte made a long line take 1.6 times as long.
+// One byte more; a spoilt line stays as it is. In place: with a copy of the parts for each byte a long line took 1.6 times the instructions.
 #[tactic(auto, unfolding(crate::specs::Machine::step_of, crate::specs::Machine::reader_of, crate::specs::Machine::spoilt))]
 fn feed(reader: &mut Reader, b: u8)
     ensures { reader.new ≡ step_of reader.old b }
@@ -137,7 +137,7 @@ fn call_of(word: u32, count: usize) -> Option<Call>
     }
 }
 
-// The line of so many whole pieces. With none it has no call, for no word is 0.
+// The line of so many whole pieces. With none it has no call, since each call has a word.
 #[tactic(auto, unfolding(crate::specs::Machine::line_in))]
 fn line_in(whole: Values) -> Line
     ensures { result ≡ line_in whole }
