@@ -124,7 +124,7 @@ module _ (bs : List ℕ) (image : is_image bs ≡ true) (lo hi : ℕ) where
         ∙ ap (λ (i : ℕ). sets x i ns) (mul-zero (width bs))
         ∙ sets-eq ns x 0 (omega arith) ∙ ap (λ (i : ℕ). ns ++ drop i x) n
 
-  -- the first that has a reserve
-  pub sought_first : (least : ℕ) (w : Visit) (x z : List ℕ) → scan (width bs) w z ≡ steps (orders_in bs) (scan (width bs) (starting lo hi least false 1) x) →
+  -- the first that has a reserve, whether rows are written or not
+  pub sought_first : (b : Bool) (least : ℕ) (w : Visit) (x z : List ℕ) → scan (width bs) w z ≡ steps (orders_in bs) (scan (width bs) (starting lo hi least b 1) x) →
       w.last ≡ first_of (enough least (between lo hi (orders_in bs)))
-  sought_first least w x z e = (visited (starting lo hi least false 1) w x z e).last ∙ one_first (enough least (between lo hi (orders_in bs)))
+  sought_first b least w x z e = (visited (starting lo hi least b 1) w x z e).last ∙ one_first (enough least (between lo hi (orders_in bs)))

@@ -143,26 +143,35 @@ module _ (bs : List ℕ) (lo hi : ℕ) (x : List ℕ) where
   unfolding SpanAs
   span_turned e en = let n = number_some e in span_by (suc n.0) (sym n.1 ∙ en) _ x (suc n.0) (rw (ne_eqb (suc n.0) 0 (λ z. omega (arith, z)))) (rw n.1, refl)
 
-  -- it counts, and then writes
-  module _ (p : 0 ≡ asked bs lo hi) (v : Visit) (y : List ℕ) (ev : scan (width bs) v y ≡ steps (orders_in bs) (scan (width bs) (starting lo hi 0 false 65535) x))
+  -- it counts, whether rows are written or not and into whatever output, and then writes
+  module _ (p : 0 ≡ asked bs lo hi) (b : Bool) (v : Visit) (o y : List ℕ) (ev : scan (width bs) v y ≡ steps (orders_in bs) (scan (width bs) (starting lo hi 0 b 65535) o))
       (m : ℕ) (em : m ≡ width bs * v.found) where
     image : is_image bs ≡ true
     image = (range_asked bs lo hi p).0
 
     wanted : m ≡ width bs * length inside
-    wanted = em ∙ ap (λ (i : ℕ). width bs * i) (counted_all bs image lo hi false v x y ev)
+    wanted = em ∙ ap (λ (i : ℕ). width bs * i) (counted_all bs image lo hi b v o y ev)
 
-    kept : y ≡ x
-    kept = output_kept bs image lo hi false v x y ev refl
-
-    pub span_11 : length y < m → SpanSays bs lo hi (refused OutputShort) x y
+    pub span_11 : length x < m → SpanSays bs lo hi (refused OutputShort) x x
     unfolding SpanAs
-    span_11 h = rw kept (span_by 0 p _ x 11 (rw (lt-leb _ _ (rw (kept, wanted) at h))) (refl, refl))
+    span_11 h = span_by 0 p _ x 11 (rw (lt-leb _ _ (rw wanted at h))) (refl, refl)
 
-    pub span_written : m ≤ length y → (w : Visit) (z : List ℕ) → scan (width bs) w z ≡ steps (orders_in bs) (scan (width bs) (starting lo hi 0 true 65535) y) →
+    pub span_written : m ≤ length x → (w : Visit) (z : List ℕ) → scan (width bs) w z ≡ steps (orders_in bs) (scan (width bs) (starting lo hi 0 true 65535) x) →
         SpanSays bs lo hi (count_reply (Ok w.found)) x z
     unfolding SpanAs
     span_written h w z ew =
-        let room : width bs * length inside ≤ length x = rw (kept, wanted) at h in
-        let e = rw kept at ew in
-        span_by 0 p _ z 0 (rw (le-leb _ _ room)) (rw (counted_all bs image lo hi true w x z e), written_all bs image lo hi true w x z e refl room)
+        let room : width bs * length inside ≤ length x = rw wanted at h in
+        span_by 0 p _ z 0 (rw (le-leb _ _ room)) (rw (counted_all bs image lo hi true w x z ew), written_all bs image lo hi true w x z ew refl room)
+
+  -- .. where the output that is written then is lent to the counting too, which leaves it as it was
+  module _ (p : 0 ≡ asked bs lo hi) (v : Visit) (y : List ℕ) (ev : scan (width bs) v y ≡ steps (orders_in bs) (scan (width bs) (starting lo hi 0 false 65535) x))
+      (m : ℕ) (em : m ≡ width bs * v.found) where
+    kept : y ≡ x
+    kept = output_kept bs (range_asked bs lo hi p).0 lo hi false v x y ev refl
+
+    pub span_short : length y < m → SpanSays bs lo hi (refused OutputShort) x y
+    span_short h = rw kept (span_11 p false v x y ev m em (rw kept at h))
+
+    pub span_filled : m ≤ length y → (w : Visit) (z : List ℕ) → scan (width bs) w z ≡ steps (orders_in bs) (scan (width bs) (starting lo hi 0 true 65535) y) →
+        SpanSays bs lo hi (count_reply (Ok w.found)) x z
+    span_filled h w z ew = span_written p false v x y ev m em (rw kept at h) w z (rw kept at ew)

@@ -7,7 +7,7 @@ use Prim.Native.Nat.{ℕ, zero, suc, ◌+◌, ◌*◌, ◌-◌, ◌≤◌, ◌<�
 use native.Mathlib.Omega.{arith}
 use native.Mathlib.Nat.{mul-zero, mul-suc}
 use native.Mathlib.Numerals.{add-one}
-use borrow.Author.Tests.{both_ways, ne_eqb, le-leb, lt-leb, le-ltb}
+use borrow.Author.Tests.{ne_eqb, le-leb, lt-leb, le-ltb}
 use lib.Dec.{leb}
 use lib.ListN.{length, take, drop, length-drop}
 use lib.Seq.{sets, length-sets}
@@ -170,8 +170,8 @@ module _ (s : Sizes) (bs : List ℕ) (a j : ℕ) (v : Visit) (x : List ℕ) (k :
   together z ez =
       sym (ap (λ (q : List Order). steps q (scan (row s) v x)) (each_one all) ∙ steps_whole (row s) all v x w.any inside (omega (arith, w.may, many)) ∙ rw (last, many, ez))
 
-  pub whole_counts : v.writes ≡ false → scan (row s) (more_found v j o) x ≡ steps (all_under s bs 0 all) (scan (row s) v x)
-  whole_counts h = together x (sym (written_none (row s) v.writes x v.found all (λ e. absurd (both_ways v.writes h e))))
+  pub whole_counts : (v.writes ≡ true → length x < row s) → (z : List ℕ) → z ≡ x → scan (row s) (more_found v j o) z ≡ steps (all_under s bs 0 all) (scan (row s) v x)
+  whole_counts h z ez = together z (ez ∙ sym (written_none (row s) v.writes x v.found all h))
 
   pub whole_writes : v.writes ≡ true → Bytes bs → (z : List ℕ) → z ≡ sets x (row s * v.found) (take (row s * j) (drop a bs)) →
       scan (row s) (more_found v j o) z ≡ steps (all_under s bs 0 all) (scan (row s) v x)

@@ -1,7 +1,7 @@
 use mathlib.Core.Path.{refl}
 use Rattle.std.proofs.lemmas.Result.{err_from_is_err_and}
 use Rattle.readings.proofs.Laws.Answers.{known_long}
-use Rattle.readings.proofs.Laws.Replies.{range_asked, span_turned, span_11, span_written}
+use Rattle.readings.proofs.Laws.Replies.{range_asked, span_turned, span_short, span_filled}
 use Rattle.readings.proofs.calls.span.Goals as goal
 
 pub returns-in_err-range : goal.returns-in_err-range
@@ -19,7 +19,7 @@ visit_all-n-requires c =
 
 pub returns-then-output-rows : goal.returns-then-output-rows
 returns-then-output-rows c = (
-  span_11 _ _ _ _ c.in_ok-range.ensures _ _ (rw c.new.ensures at c.visit_all-n.ensures)
+  span_short _ _ _ _ c.in_ok-range.ensures _ _ (rw c.new.ensures at c.visit_all-n.ensures)
       _ (rw (c.row.ensures.0, c.read-h.ensures.0) at c.rows.ensures.0) c.if-output-rows.true,
   refl,
 )
@@ -31,7 +31,7 @@ visit_all-requires c =
 
 pub returns : goal.returns
 returns c = (
-  span_written _ _ _ _ c.in_ok-range.ensures _ _ (rw c.new.ensures at c.visit_all-n.ensures)
+  span_filled _ _ _ _ c.in_ok-range.ensures _ _ (rw c.new.ensures at c.visit_all-n.ensures)
       _ (rw (c.row.ensures.0, c.read-h.ensures.0) at c.rows.ensures.0) c.if-output-rows.false _ _ (rw c.new-2.ensures at c.visit_all.ensures),
   refl,
 )
