@@ -11,7 +11,7 @@ use borrow.Author.Tests.{ne_eqb, le-leb, lt-leb, le-ltb}
 use lib.Dec.{leb}
 use lib.ListN.{length, take, drop, length-drop}
 use lib.Seq.{sets, length-sets}
-use Rattle.sizes.specs.Numbers.{rows, rows_in}
+use Rattle.sizes.specs.Numbers.{field, rows, rows_in}
 use Rattle.sizes.specs.Sizes.{row}
 use Rattle.sizes.specs.declared.Sizes.{Sizes}
 use Rattle.sizes.proofs.Laws.Numbers.{Bytes, bytes_drop}
@@ -135,8 +135,19 @@ last_node w bs a (suc j) =
     let e : a + w + w * j ≡ a + w * suc j = omega (arith, mul-suc w j) in
     ap (last_of (node_of w bs a)) (nodes_split w bs (a + w) j) ∙ last_node w bs (a + w) j ∙ ap (node_of w bs) e
 
--- what `visit_whole` gives
-module _ (s : Sizes) (bs : List ℕ) (a j : ℕ) (v : Visit) (x : List ℕ) (k : Known s bs) (w : Whole (row s) bs a j v (length x)) (room : a + row s * j ≤ length bs)
+-- nodes from a place on that a visit finds all of, whatever room there is for their rows
+pub record AllFound (w : ℕ) (bs : List ℕ) (a j : ℕ) (v : Visit) : Type 0 where
+  pub any : v.least ≡ 0
+  pub some : 0 < j
+  pub low : v.lo ≤ field a 4 bs
+  pub high : field (a + w * (j - 1)) 4 bs ≤ v.hi
+  pub may : j ≤ v.left
+
+pub whole_found : (w : ℕ) (bs : List ℕ) (a j : ℕ) (v : Visit) (room : ℕ) → Whole w bs a j v room → AllFound w bs a j v
+whole_found w bs a j v room h = record { any = h.any; some = h.some; low = h.low; high = h.high; may = h.may }
+
+-- what `visit_whole` gives, where no row is written
+module _ (s : Sizes) (bs : List ℕ) (a j : ℕ) (v : Visit) (x : List ℕ) (k : Known s bs) (w : AllFound (row s) bs a j v) (room : a + row s * j ≤ length bs)
     (nodes : Row s (orders_in bs) 1 (nodes_from (row s) j (drop a bs))) (o : Order) (eo : o ≡ node_of (row s) bs (a + row s * (j - 1))) where
   abbrev all : List Order
   all = nodes_from (row s) j (drop a bs)
@@ -173,10 +184,16 @@ module _ (s : Sizes) (bs : List ℕ) (a j : ℕ) (v : Visit) (x : List ℕ) (k :
   pub whole_counts : (v.writes ≡ true → length x < row s) → (z : List ℕ) → z ≡ x → scan (row s) (more_found v j o) z ≡ steps (all_under s bs 0 all) (scan (row s) v x)
   whole_counts h z ez = together z (ez ∙ sym (written_none (row s) v.writes x v.found all h))
 
+-- .. and where all rows are
+module _ (s : Sizes) (bs : List ℕ) (a j : ℕ) (v : Visit) (x : List ℕ) (k : Known s bs) (w : Whole (row s) bs a j v (length x)) (room : a + row s * j ≤ length bs)
+    (nodes : Row s (orders_in bs) 1 (nodes_from (row s) j (drop a bs))) (o : Order) (eo : o ≡ node_of (row s) bs (a + row s * (j - 1))) where
   pub whole_writes : v.writes ≡ true → Bytes bs → (z : List ℕ) → z ≡ sets x (row s * v.found) (take (row s * j) (drop a bs)) →
-      scan (row s) (more_found v j o) z ≡ steps (all_under s bs 0 all) (scan (row s) v x)
+      scan (row s) (more_found v j o) z ≡ steps (all_under s bs 0 (nodes_from (row s) j (drop a bs))) (scan (row s) v x)
   whole_writes h b z ez =
+      let all : List Order = nodes_from (row s) j (drop a bs) in
       let l : length (drop a bs) ≡ length bs - a = length-drop a bs in
       let here : take (row s * j) (drop a bs) ≡ nodes_bytes (row s) all = sym (nodes_again (row s) (row_least s) j (drop a bs) (omega arith) (bytes_drop a bs b)) in
-      let held : row s * (v.found + length all) ≤ length x = rw many (w.held h) in
-      together z (rw h (ez ∙ ap (sets x (row s * v.found)) here ∙ sym (written_room (row s) (row_least s) x v.found all (omega (arith, w.few, many)) held)))
+      let n : length all ≡ j = nodes_count (row s) j (drop a bs) in
+      let held : row s * (v.found + length all) ≤ length x = rw n (w.held h) in
+      together s bs a j v x k (whole_found _ _ _ _ _ _ w) room nodes o eo z
+      (rw h (ez ∙ ap (sets x (row s * v.found)) here ∙ sym (written_room (row s) (row_least s) x v.found all (omega (arith, w.few, n)) held)))
